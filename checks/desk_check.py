@@ -249,7 +249,7 @@ def check_warnings(programs):
         desk = Desk(programs, parent, SHORT_COURT)
         tried = desk.call("try", "--warn", given=b"".join(given for given, answer in CAREFUL))
         assert tried.status == FAULTY and tried.output == b"".join(answer for given, answer in CAREFUL), tried
-        assert tried.errors == b"3 of 25 rows had faults and 12 were held back, and none of these is kept\n", tried
+        assert tried.errors == b"3 of 25 rows had faults and 12 were held back, and none of these is kept: mend them and enter them again\n", tried
         for given, answer in CAREFUL:
             whole, said = desk.journal.read_bytes(), said_alone(answer)
             ended = desk.call("enter", "--warn", given=given)
@@ -260,8 +260,8 @@ def check_warnings(programs):
             b"  Tue 2025-03-04  the event lies a year or more before 2026-04-01     note\n" + HELD_LAST, HELD_ALONE), ended
         held, faulty = b"1,start,7,59e,2025-02-03,,,\n", b"1,no,row\n"
         for given, said in ((2 * held, b"2 of 2 rows were held back and aren't kept: mend them, or enter them with a '!' before them\n"),
-                            (held + faulty, b"1 of 2 rows had a fault and 1 was held back, and none of these is kept\n"),
-                            (faulty + 2 * held, b"1 of 3 rows had a fault and 2 were held back, and none of these is kept\n")):
+                            (held + faulty, b"1 of 2 rows had a fault and 1 was held back, and none of these is kept: mend them and enter them again\n"),
+                            (faulty + 2 * held, b"1 of 3 rows had a fault and 2 were held back, and none of these is kept: mend them and enter them again\n")):
             for task in ("try", "enter"):
                 ended = desk.call(task, "--warn", given=given)
                 assert (ended.status, ended.errors) == (FAULTY, said), (task, given, ended)

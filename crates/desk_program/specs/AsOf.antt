@@ -6,7 +6,7 @@ use Rattle.desk_program.specs.declared.as_of.Moment.{Moment}
 use Rattle.desk_program.specs.declared.as_of.Moment.TheVariants.{Row, Second}
 
 -- These entries, with these stamps, had all come by that moment: before each after the first there are fewer rows than the number says,
--- so that none comes after the row of that number, a correction neither; or each after the first is of that second or an earlier
+-- so that neither a row nor a correction comes after the row of that number; or each after the first is of that second or an earlier
 -- one. The first, a court's file, always counts.
 abbrev pub HadCome : Moment → (entries : List (List ℕ)) → (stamps : List StampView) → Type 0
 HadCome (Row number) entries stamps = (place : ℕ) → 1 ≤ place → place < length entries → length (row_entries (take place entries)) < number

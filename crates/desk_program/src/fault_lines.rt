@@ -128,7 +128,7 @@ fn write_faulty<W: fmt::Write>(tally: Tally, f: &mut fmt::Formatter<W>) -> fmt::
             let were = if held == 1 { "was" } else { "were" };
             write!(
                 f,
-                "{faults} of {rows} rows had {with} and {held} {were} held back, and none of these is kept"
+                "{faults} of {rows} rows had {with} and {held} {were} held back, and none of these is kept: mend them and enter them again"
             )
         }
     }
