@@ -1,10 +1,10 @@
 -- What may be wrong with a court's file that has no fault.
-use Rattle.std.specs.Prelude.{◌≡◌, ◌↔◌, ℕ, suc, ◌+◌, nat_lt, ◌&&◌, not, Bool, true, false, ℤ, pos, ◌+ℤ◌, ◌-ℤ◌, ◌<ℤ◌, int_le, int_lt, unsigned_abs, List, [], ◌++◌, filter, Option, Some, None, option_map, if◌then◌else◌}
-use Rattle.std.specs.List.{AllPairs, Contains, list_any, range_with_len}
+use Rattle.std.specs.Prelude.{ℕ, suc, ◌+◌, nat_lt, ◌&&◌, not, Bool, false, ℤ, pos, ◌+ℤ◌, ◌-ℤ◌, int_le, int_lt, unsigned_abs, List, [], ◌++◌, filter, Option, Some, None, option_map, if◌then◌else◌}
+use Rattle.std.specs.List.{list_any, range_with_len}
 use Rattle.std.specs.Ordering.{int_eq}
 use Rattle.std.specs.Option.{option_and_then, option_to_list}
 use Rattle.toml.specs.Data.{Data, Items, no_items, item, as_str}
-use Rattle.court_clock.specs.Words.{day_of_text, is_weekend}
+use Rattle.court_clock.specs.Words.{day_of_text}
 use Rattle.court_days.specs.Words.{DaysView, is_among, is_covered}
 use Rattle.court_holidays.specs.Federal.Words.{set_in}
 use Rattle.court_holidays.specs.declared.federal.statute.FederalHoliday.TheVariants.{NewYearsDay}

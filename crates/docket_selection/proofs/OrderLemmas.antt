@@ -1,6 +1,6 @@
 -- What a stable sort by time says.
-use Rattle.std.proofs.Common.{◌≡◌, ◌<◌, ◌≤◌, ◌∙◌, ℕ, ℤ, Bool, true, false, not, ◌&&◌, List, [], ◌∷◌, filter, length, get_or, cond, refl, sym, ap}
-use Rattle.std.specs.Prelude.{◌≤ℤ◌, int_lt}
+use Rattle.std.proofs.Common.{◌≡◌, ◌<◌, ◌≤◌, ◌∙◌, ℕ, ℤ, Bool, false, not, ◌&&◌, List, [], ◌∷◌, filter, length, get_or, cond, refl, sym, ap}
+use Rattle.std.specs.Prelude.{◌≤ℤ◌}
 use Rattle.std.specs.Ordering.{int_cmp, int_eq, is_lt}
 use Rattle.std.specs.List.Sorted.{IsSortedByKey, IsStableByKey, ties as tie}
 use Rattle.std.proofs.lemmas.Cmp.{int_cmp_total}

@@ -1,5 +1,5 @@
 -- The history of a motion ends in the hearing that the docket has for it.
-use Rattle.std.proofs.Common.{◌≡◌, ◌<◌, ◌+◌, ◌∙◌, ◌==◌, ◌&&◌, ℕ, Bool, true, false, not, List, [], ◌∷◌, ◌++◌, length, nat_le, get_or, fold, find, filter, All, AllPairs, Option, Some, None, option_map, option_to_list, if◌then◌else◌, append-nil, refl, sym, ap, subst, arith, inl, inr}
+use Rattle.std.proofs.Common.{◌≡◌, ◌<◌, ◌+◌, ◌∙◌, ◌==◌, ◌&&◌, ℕ, true, false, not, List, [], ◌∷◌, ◌++◌, length, nat_le, get_or, fold, find, filter, All, AllPairs, Option, Some, None, option_map, option_to_list, if◌then◌else◌, append-nil, refl, sym, ap, arith, inl, inr}
 use Rattle.std.specs.Option.{option_map_or}
 use Rattle.std.proofs.Math.Seq.{get_or-append_seam}
 use Rattle.std.proofs.lemmas.Bool.Decides.{nat_tests}
@@ -15,14 +15,12 @@ use Rattle.docket_rows.specs.declared.hearing.Hearing.{Hearing}
 use Rattle.docket_rows.specs.declared.hearing.Setting.{Setting}
 use Rattle.docket_rows.specs.declared.refusal.Refusal.{Refusal}
 use Rattle.docket_rows.specs.Words.{AreSound, CourtSetup, DocketedHearing, Rows, answered, answer_if_made, hearing_asked, hearing_of, is_hearing, opening_rows, parts_of, refusal, rows_after, rows_from, step}
-use Rattle.docket_laws.specs.Words.{docket_after}
 use Rattle.docket_laws.proofs.CallerLemmas.{can_book, can_move, count_of, sound_after, sound_opening, sound_step}
-use Rattle.docket_selection.specs.declared.changes.change.Change.{Change}
 use Rattle.docket_selection.specs.declared.changes.change.HearingChange.{HearingChange}
 use Rattle.docket_selection.specs.declared.changes.change.RowChange.{RowChange}
 use Rattle.docket_selection.specs.declared.changes.history.HearingHistory.{HearingHistory}
 use Rattle.docket_selection.specs.Changes.Change.{change_made}
-use Rattle.docket_selection.specs.Changes.History.{changed_to, follow, followed, history_of, is_before, is_of}
+use Rattle.docket_selection.specs.Changes.History.{changed_to, follow, followed, is_before, is_of}
 use Rattle.docket_selection.specs.Changes.Laws.{HistoriesEndInTheDocket, changes_from, hearing_before, last_hearing}
 
 -- a history ends in the hearing to which it was changed last

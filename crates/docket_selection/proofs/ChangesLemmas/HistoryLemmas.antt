@@ -1,5 +1,5 @@
 -- What is noted of changes, one change more.
-use Rattle.std.proofs.Common.{◌≡◌, ◌∙◌, ℕ, true, false, Option, Some, None, if◌then◌else◌, max, refl, sym, ap₂, inl, inr, arith}
+use Rattle.std.proofs.Common.{◌≡◌, ◌∙◌, ℕ, Option, Some, if◌then◌else◌, refl, sym, ap₂, inl, inr, arith}
 use Rattle.std.specs.HashMap.{HashMap}
 use Rattle.std.proofs.lemmas.Bool.{cases_Bool}
 use Rattle.docket_selection.specs.declared.changes.change.HearingChange.{HearingChange}

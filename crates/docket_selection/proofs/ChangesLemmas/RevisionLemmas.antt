@@ -1,24 +1,24 @@
 -- One command more raises the revision of a case's events, or leaves all on which they rest.
-use Rattle.std.proofs.Common.{◌≡◌, ◌⊎◌, ◌<◌, ◌≤◌, ◌+◌, ◌∙◌, ◌==◌, ◌&&◌, ◌||◌, ℕ, suc, max, Bool, true, false, List, [], ◌∷◌, ◌++◌, length, nat_le, map, fold, filter, All, Option, Some, None, option_map, option_to_list, if◌then◌else◌, append_assoc, append-nil, refl, sym, ap, subst, arith, inl, inr}
+use Rattle.std.proofs.Common.{◌≡◌, ◌<◌, ◌≤◌, ◌+◌, ◌∙◌, ◌==◌, ◌&&◌, ◌||◌, ℕ, suc, max, Bool, true, false, List, [], ◌∷◌, ◌++◌, length, nat_le, map, fold, filter, All, Option, Some, None, option_map, option_to_list, if◌then◌else◌, append_assoc, append-nil, refl, sym, ap, subst, arith, inl, inr}
 use Rattle.std.specs.Option.{option_map_or}
 use Rattle.std.proofs.Math.Nat.{le-max_left, le-max_right, max-le}
-use Rattle.std.proofs.lemmas.Bool.{cases_Bool, eqb-true, eq-eqb, and_parts, false≢true, false_from_ne_true}
+use Rattle.std.proofs.lemmas.Bool.{cases_Bool, eqb-true, and_parts, false≢true}
 use Rattle.std.proofs.lemmas.Bool.Decides.{nat_tests}
-use Rattle.std.proofs.lemmas.List.Elements.{All-append, All-cons, All-head, All-nil, All-tail, All-weaker, filter-append}
+use Rattle.std.proofs.lemmas.List.Elements.{All-append, All-cons, All-head, All-nil, All-tail, filter-append}
 use Rattle.std.proofs.lemmas.List.Sums.{fold-append}
 use Rattle.docket_rows.specs.declared.answer.Answer.{Answer}
 use Rattle.docket_rows.specs.declared.answer.Answer.TheVariants as answer
 use Rattle.docket_rows.specs.declared.command.Command.{Command}
 use Rattle.docket_rows.specs.declared.command.Command.TheVariants.{OpenCase, Start, FileAct, Extend, Motion, Book, MoveHearing, Cancel, Holiday, Inaccessible}
 use Rattle.docket_rows.specs.declared.refusal.Refusal.{Refusal}
-use Rattle.docket_rows.specs.Words.{AreSound, CourtSetup, DocketedDeadline, Rows, answer_if_made, answered, hearing_of, is_deadline_in, next_deadline, opening_rows, parts_of, refusal, rows_after, rows_from, started, step, with_deadline}
+use Rattle.docket_rows.specs.Words.{AreSound, CourtSetup, DocketedDeadline, Rows, answer_if_made, answered, is_deadline_in, next_deadline, opening_rows, parts_of, refusal, rows_after, rows_from, started, step, with_deadline}
 use Rattle.rule_periods.specs.Words.{DeadlineRowView}
 use Rattle.docket_laws.specs.Words.{docket_after}
 use Rattle.docket_laws.proofs.CallerLemmas.{can_book, can_move, count_of, sound_docket}
 use Rattle.docket_selection.specs.declared.changes.change.Change.{Change}
 use Rattle.docket_selection.specs.declared.changes.change.RowChange.{RowChange}
 use Rattle.docket_selection.specs.Changes.Change.{change_asked, change_made}
-use Rattle.docket_selection.specs.Changes.Laws.{KeepsEvents, KeepsRevision, RevisionsRiseWithEvents, changes_by, changes_from}
+use Rattle.docket_selection.specs.Changes.Laws.{KeepsEvents, RevisionsRiseWithEvents, changes_by, changes_from}
 use Rattle.docket_selection.specs.Changes.Revision.{changes_case, changes_days, last_row, revision_of}
 use Rattle.docket_selection.proofs.ChangesLemmas.DocketLemmas.{after_taking, moved_docketed, set_docketed}
 

@@ -4,7 +4,7 @@ use Rattle.std.specs.HashMap.{HashMap, get}
 use Rattle.docket_selection.specs.declared.changes.change.RowChange.{RowChange}
 use Rattle.docket_selection.specs.declared.changes.history.HearingHistory.{HearingHistory}
 use Rattle.docket_selection.specs.Changes.History.{history_of}
-use Rattle.docket_selection.specs.Changes.Revision.{changes_case, changes_days, last_row}
+use Rattle.docket_selection.specs.Changes.Revision.{changes_case, last_row}
 
 -- some changes, and the judge, if one is chosen, before whom hearings are followed
 pub record FollowedChanges : Type 0 where

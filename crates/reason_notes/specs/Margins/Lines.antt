@@ -10,9 +10,9 @@ use Rattle.rule6.specs.declared.timeliness.Filing.{Filing}
 use Rattle.rule6.specs.declared.timeliness.Means.{Means}
 use Rattle.rule6.specs.declared.timeliness.Means.TheVariants.{Electronic, Paper}
 use Rattle.rule6.specs.declared.timeliness.Shown.{Shown}
-use Rattle.rule6.specs.declared.timeliness.Shown.TheVariants.{Last, Until, Beyond}
+use Rattle.rule6.specs.declared.timeliness.Shown.TheVariants.{Last, Until}
 use Rattle.rule_periods.specs.Words.{DeadlineRowView, direction_of, runs_from, shown_of}
-use Rattle.reason_texts.specs.Words.{minute_time, note_line, second_time}
+use Rattle.reason_texts.specs.Words.{minute_time, note_line}
 use Rattle.reason_notes.specs.declared.margins.margin.Margin.{Margin}
 use Rattle.reason_notes.specs.declared.margins.margin.Margin.TheVariants.{DaysEarly, OnLastDay, AfterClosing, DaysLate, SecondsEarly, SecondsLate, Undecided}
 use Rattle.reason_notes.specs.Margins.Ends.{end_day}

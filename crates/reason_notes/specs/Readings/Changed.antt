@@ -1,5 +1,5 @@
 -- A deadline with one thing changed: its act, its event, its extensions, or its days counted in two steps.
-use Rattle.std.specs.Prelude.{◌≡◌, ℕ, ◌-◌, ℤ, pos, ◌+ℤ◌, Bool, true, false, ◌&&◌, List, [], length, take, slice_get, Option, Some, None, if◌then◌else◌}
+use Rattle.std.specs.Prelude.{◌≡◌, ℕ, ◌-◌, ℤ, pos, ◌+ℤ◌, Bool, true, false, ◌&&◌, [], length, take, slice_get, Option, Some, None, if◌then◌else◌}
 use Rattle.court_clock.specs.declared.direction.Direction.TheVariants.{After}
 use Rattle.court_clock.specs.Words.{ClockView, is_day_number}
 use Rattle.court_days.specs.Words.{DaysView}

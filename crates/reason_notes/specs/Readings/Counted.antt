@@ -16,7 +16,7 @@ use Rattle.rule_periods.specs.declared.grant.Grant.TheVariants as grant
 use Rattle.rule_periods.specs.declared.period.Length.{Length}
 use Rattle.rule_periods.specs.declared.period.Length.TheVariants.{Days, Hours}
 use Rattle.rule_periods.specs.Words.{DeadlineRowView, EventView, access_direction, direction_of, is_days, runs_from, shown_of}
-use Rattle.reason_notes.specs.Readings.Changed.{adds_days, as_entered, before_last, last_grant, with_act, with_terms}
+use Rattle.reason_notes.specs.Readings.Changed.{adds_days, as_entered, before_last, with_act, with_terms}
 
 -- the day of that number, if it is one
 abbrev pub day_at : ℤ → Option ℤ

@@ -1,4 +1,4 @@
-use Rattle.std.proofs.Common.{◌≡◌, ◌++◌, ◌∷◌, [], ◌+ℤ◌, pos, filter, cond, ap, sym, refl, ◌∙◌, arith, zero-add}
+use Rattle.std.proofs.Common.{◌≡◌, ◌++◌, ◌∷◌, [], ◌+ℤ◌, pos, filter, cond, ap, sym, ◌∙◌, arith, zero-add}
 use Rattle.std.proofs.lemmas.List.FromFn.{filter_of_map_range_with_len_more}
 use Rattle.court_clock.specs.Words.{days_through}
 use Rattle.court_file_check.specs.Review.{days_from, days_that, passes}
