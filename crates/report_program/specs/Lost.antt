@@ -1,5 +1,5 @@
 -- Deadlines that rows started once and start no more, since their rows are struck, or refused now. A row keeps the number of its deadline.
-use Rattle.std.specs.Prelude.{ℕ, ℤ, List, Option, Some, None, option_map}
+use Rattle.std.specs.Prelude.{ℤ, List, Option, None, option_map}
 use Rattle.rule6.specs.declared.timeliness.Shown.TheVariants.{Beyond}
 use Rattle.rule_periods.specs.declared.period.Period.{Period}
 use Rattle.docket_rows.specs.declared.answer.Answer.TheVariants.{Refused}
