@@ -25,10 +25,10 @@ from lib.runs_made import sum_of
 from lib.stored_calendars import calls_of, data_of, is_of_desk, runs, wanted_of
 from office_reference import answers_of
 from reference.court_file import court_of, split
-from reference.docket import STEPS, deadlines_of, opening, step
+from reference.docket import STEPS, deadlines_of, hearing_of, motions_of, opening, step
 from reference.periods import shown
 from reference.rows_in import rows_of
-from reference.text_out import shown_text
+from reference.text_out import hearing_line, shown_text
 
 # The reference, which answers as clerk_office does.
 REFERENCE = CHECKS / "office_reference.py"
@@ -86,16 +86,22 @@ def kept(run, text):
 
 
 def moved_lines(court, days, docket):
-    """A line for each deadline that ends otherwise now than it did by these days, with both ends."""
+    """A line for each deadline that ends otherwise now than it did by these days, and for each hearing whose last day for affidavits
+    is another, with both."""
+    before = docket._replace(days=days)
     for case in sorted(case.number for case in docket.cases):
         for deadline in deadlines_of(docket, case):
             was, now = (shown_text(court, shown(by, court.clock, deadline.row)) for by in (days, docket.days))
             if was != now:
                 yield "  case {} deadline {}: {}, now {}".format(case, deadline.number, was, now)
+        for motion in motions_of(docket, case):
+            hearing = hearing_of(docket, case, motion.number)
+            if hearing is not None and hearing_line(court, before, hearing) != hearing_line(court, docket, hearing):
+                yield "  case {} motion {}: {}, now {}".format(case, motion.number, hearing_line(court, before, hearing), hearing_line(court, docket, hearing))
 
 
 def told(data):
-    """What a desk tells of each row: the answer of the reference, and after a holiday or an outage the deadlines that it moves."""
+    """What a desk tells of each row: the answer of the reference, and after a holiday or an outage what it moves."""
     of_court, of_rows = split(data)
     court = court_of(of_court)
     docket = opening(court)

@@ -489,38 +489,46 @@ ENDS = re.compile(rb"deadline (\d+) \S+ (last \S+|until \S+ \S+|beyond) ")
 MOVABLE = [b"1,open,25-cv-00007,2025-03-03\n", b"1,open,2,2025-03-03\n", b"1,open,3,2025-03-03\n",
            b"1,start,25-cv-00007,59e,2025-08-04,,,\n", b"1,start,2,72h/after/filing/event/plain,2025-09-25,16:30,,\n",
            b"1,start,2,59e,2025-03-03,,,\n", b"1,start,3,12a1Ai,2025-08-14,,,\n", b"1,start,3,59e,2025-08-05,,,\n",
-           b"1,extend,3,1,+14d,2025-08-20,09:00,no,yes,no\n", b"1,file,3,2,2025-09-02,10:00,electronic\n"]
+           b"1,extend,3,1,+14d,2025-08-20,09:00,no,yes,no\n", b"1,file,3,2,2025-09-02,10:00,electronic\n",
+           b"1,motion,25-cv-00007,2025-08-15,\n", b"1,book,25-cv-00007,1,Ames,R1,2025-09-22,10:00,2,2025-08-29\n",
+           b"1,motion,3,2025-08-15,\n", b"1,motion,3,2025-08-15,\n", b"1,book,3,2,Brandt,R1,2025-09-29,10:00,2,2025-08-29\n"]
 
 
 def ends_of(desk):
-    """When each deadline ends, by its case and its number, as the sheets say."""
-    case, ends = None, {}
+    """When each deadline ends, and each hearing, by the case, the word and the number, as the sheets say."""
+    case, motion, ends = None, None, {}
     for line in desk.call("ask", given=b"1,sheet,1\n1,sheet,2\n1,sheet,3\n").output.splitlines():
         deadline = ENDS.match(line)
         if deadline:
-            ends[case, deadline[1]] = deadline[2]
+            ends[case, b"deadline", deadline[1]] = deadline[2]
+        elif line.startswith(b"motion "):
+            motion = line.split()[1]
+        elif line.startswith(b"hearing "):
+            ends[case, b"motion", motion] = line
         elif line.startswith(b"case "):
             case = line.split()[1]
     return ends
 
 
 def check_moves(programs, draw):
-    """A holiday or an outage is answered with each deadline that it moves, as the sheets before it and after it say; a row that is
-    refused moves none."""
+    """A holiday or an outage is answered with each deadline that it moves, and each hearing whose last day for affidavits it moves, as
+    the sheets before it and after it say; a row that is refused moves none."""
     with tempfile.TemporaryDirectory() as parent:
-        desk, moves = Desk(programs, parent, SHORT_COURT), 0
+        desk, moves = Desk(programs, parent, SHORT_COURT), {b"deadline": 0, b"motion": 0}
         desk.enter(MOVABLE)
         before = ends_of(desk)
-        assert len(before) == 5, before
+        assert len(before) == 7, before
         for _ in range(60):
-            day = draw.choice([*(end.split()[1] for end in before.values()), b"2025-09-%02d" % draw.randint(1, 30)])
+            day = draw.choice([*(end.split()[-1 if end.startswith(b"hearing ") else 1] for end in before.values()), b"2025-09-%02d" % draw.randint(1, 30)])
             row = draw.choice([b"1,holiday,%s,federal\n", b"1,holiday,%s,state\n", b"1,inaccessible,%s,09:00,24:00\n"]) % day
             answer, *told = desk.call("enter", given=row).output.splitlines(True)
             after = ends_of(desk)
-            assert told == [b"  case %s deadline %s: %s, now %s\n" % (*of, end, after[of]) for of, end in before.items() if after[of] != end], (row, answer, told)
-            before, moves = after, moves + len(told)
-        assert moves and desk.call("check").status == 0
-    return "{} deadlines that holidays and outages moved, listed with both ends".format(moves)
+            assert told == [b"  case %s %s %s: %s, now %s\n" % (*of, end, after[of]) for of, end in before.items() if after[of] != end], (row, answer, told)
+            for word in moves:
+                moves[word] += sum(b" %s " % word in line.split(b":")[0] for line in told)
+            before = after
+        assert all(moves.values()) and desk.call("check").status == 0
+    return "{} deadlines and {} hearings that holidays and outages moved, listed with both".format(*moves.values())
 
 
 def check_court(programs):

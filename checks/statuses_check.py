@@ -35,6 +35,7 @@ EARLIER_FORMAT = b"the journal is of an earlier format, which this program doesn
 # Each file beside the folder.
 FILES = {
     "court.toml": SHORT_COURT, "faulty.toml": SHORT_COURT.replace(b"08:30", b"8:30"),
+    "divided.toml": SHORT_COURT + b'note = """\n%%\n"""\n',
     "doubtful.toml": SHORT_COURT.replace(b'"2025-05-26", ', b""),
     "other.toml": SHORT_COURT.replace(b'"2025-03-28"', b'"2025-03-28", "2025-03-31"'),
     "more.toml": SHORT_COURT.replace(b'"Brandt"', b'"Brandt", "Cole"'),
@@ -158,7 +159,7 @@ TABLE = [
     *of_sheet("F", b""), *of_sheet("--input -", FILES["sound.txt"]), ("sheet F 1" + BESIDE, b"", 0), ("sheet F 1" + FULL, b"", STREAM),
     ("sheet --input faulty.txt 1", b"", COURT), ("sheet --input rows.txt 1", b"", LINES), ("sheet --input none.txt 1", b"", STREAM),
     ("sheet F 1 --input sound.txt", b"", WORDS), ("sheet S 1:25-cv-7", b"", 0), ("sheet N 1", b"", JOURNAL), ("sheet E 1", b"", JOURNAL), ("memo F --today 2025-03-03", b"", WORDS), ("ics F --stamp now", b"", WORDS),
-    ("court check court.toml", b"", DOUBT), ("court check doubtful.toml", b"", DOUBT), ("court check faulty.toml", b"", COURT), ("court check none.toml", b"", STREAM),
+    ("court check court.toml", b"", DOUBT), ("court check doubtful.toml", b"", DOUBT), ("court check divided.toml", b"", COURT), ("court check faulty.toml", b"", COURT), ("court check none.toml", b"", STREAM),
     ("court check", b"", WORDS), ("court check court.toml --today x", b"", WORDS), ("court check faulty.toml" + FULL, b"", STREAM),
     ("court check written.toml", b"", 0),
     ("court write --court hawaii --from 2024 --to 2026", b"", 0), ("court write --court hawai --from 2024 --to 2026", b"", WORDS),

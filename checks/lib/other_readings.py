@@ -1,12 +1,13 @@
 """The ends that other readings of the Rules give, computed by the program in plain Python (reference/).
 
-Each is the deadline of reference/periods.py with one thing changed: its act, its event, or its days counted in two steps.
+Each is the deadline of reference/periods.py with one thing changed: its act, its event, or its days counted in two steps; or on
+days of which some are no holidays.
 """
 from lib.derivation_steps import time_text
 from lib.legal_names import legal_name
-from reference.civil import civil, instant_at, weekday
+from reference.civil import civil, weekday
 from reference.periods import Deadline, Event, Period, shown
-from reference.rule6 import AFTER, BEYOND, FILING, SERVICE, Days, Outage, Shown, adds_three, covered, has_outage
+from reference.rule6 import AFTER, BEYOND, FILING, SERVICE, Days, Outage, adds_three
 
 # What the name of a holiday ends in that may be none, and the reading by which it is none.
 DOUBT, DOUBTFUL_DAY = " (doubtful)", "that day isn't a legal holiday"
@@ -51,66 +52,18 @@ def readings(days, clock, names, deadline):
     at_midnight = deadline.period.unit == "h" and event.minute == 0
     later = deadline._replace(event=Event(event.day + 1, 0))
     yield "from the end of that day", shown(days, clock, later) if at_midnight else None
-    yield "that Friday isn't a legal holiday", on_friday(days, clock, deadline)
-    yield DOUBTFUL_DAY, on_doubtful(days, clock, names, deadline)
+    yield "that Friday isn't a legal holiday", shown(without_fridays(days), clock, deadline)
+    yield DOUBTFUL_DAY, shown(without_doubtful(days, names), clock, deadline)
 
 
-def last_counted(days, clock, deadline):
-    """The day to which the last count leads, before it is rolled, or None: without outages, and from ends as they are here."""
-    period, last = deadline.period, deadline.grants[-1] if deadline.grants else None
-    if last is not None and last.unit != "d" or last is None and period.unit != "d":
-        return None
-    if last is not None:
-        so_far, count = with_act(deadline._replace(grants=deadline.grants[:-1]), SERVICE, deadline.kind), last.value
-    elif period.added and adds_three(deadline.kind, deadline.event.day):
-        so_far, count = with_act(deadline, SERVICE, None), 3
-    else:
-        event = deadline.event.day if deadline.second is None else max(deadline.event.day, deadline.second)
-        return event + period.count if period.direction == AFTER else event - period.count
-    end = shown(days, clock, so_far)
-    return end.end + count if end.kind == "last" else None
+def without_fridays(days):
+    """The days of which no Friday is a holiday because a Saturday's is observed on it."""
+    return days._replace(federal={day for day in days.federal if weekday(day) != 4 or not legal_name(day).endswith(", observed")})
 
 
-def on_friday(days, clock, deadline):
-    """The Friday before a Saturday's holiday, where the last count leads to it and no outage moves the time from it, or None."""
-    day, direction = last_counted(days, clock, deadline), AFTER if deadline.grants else deadline.period.direction
-    if day is not None and direction != AFTER and weekday(day) > 4:
-        day -= weekday(day) - 4
-    if day is None or weekday(day) != 4 or not covered(days, day) or not legal_name(day).endswith(", observed"):
-        return None
-    moved = deadline.period.act == FILING and any(outage.day == day for outage in days.outages)
-    kept = day in days.federal and not (direction == AFTER and day in days.state)
-    return Shown("last", day) if kept and not moved else None
-
-
-def last_hours(days, clock, deadline):
-    """The day and the second of it to which the last count of hours leads, or None: without outages, and from ends as they are here."""
-    period, last = deadline.period, deadline.grants[-1] if deadline.grants else None
-    start, count, direction = None, period.count, period.direction
-    if last is None and period.unit == "h":
-        start = instant_at(clock.zone, deadline.event.day, 60 * deadline.event.minute)
-    elif last is not None and last.unit == "h":
-        end = shown(days, clock, with_act(deadline._replace(grants=deadline.grants[:-1]), SERVICE, deadline.kind))
-        start, count, direction = end.end if end.kind == "until" else None, last.value, AFTER
-    return None if start is None else civil(clock.zone, start + 3600 * count if direction == AFTER else start - 3600 * count)
-
-
-def on_doubtful(days, clock, names, deadline):
-    """The end on the first doubtful holiday of the state that the last count passes over, where no outage moves the time from it, or
-    None: of hours at the time of day to which they lead."""
-    hours, day = last_hours(days, clock, deadline), last_counted(days, clock, deadline)
-    day, second = (day, None) if hours is None else hours
-    if day is None or not deadline.grants and deadline.period.direction != AFTER:
-        return None
-    end = shown(days, clock, deadline)
-    last = days.last + 1 if end == BEYOND else end.end if end.kind == "last" else civil(clock.zone, end.end)[0]
-    while covered(days, day) and day < last:
-        if weekday(day) < 5 and day in days.state - days.federal and names.get(day, "").endswith(DOUBT):
-            if deadline.period.act == FILING and has_outage(days, day):
-                return None
-            return Shown("last", day) if second is None else Shown("until", instant_at(clock.zone, day, second))
-        day += 1
-    return None
+def without_doubtful(days, names):
+    """The days of which none is a holiday of the state whose name says that it is doubtful."""
+    return days._replace(state={day for day in days.state if not names.get(day, "").endswith(DOUBT)})
 
 
 def lines(calendar, deadline):

@@ -3,7 +3,7 @@ pub mod Search
 pub mod Rolled
 pub mod Table
 pub mod Marks
-use Rattle.std.specs.Prelude.{ℕ, ℤ, ◌≤ℤ◌, ◌&&◌, ◌||◌, not, int_le, Bool, true, false, List, [], ◌∷◌, ◌++◌, if◌then◌else◌}
+use Rattle.std.specs.Prelude.{ℕ, ℤ, ◌≤ℤ◌, ◌&&◌, ◌||◌, not, int_le, Bool, true, false, List, [], ◌∷◌, ◌++◌, filter, if◌then◌else◌}
 use Rattle.std.specs.Ordering.{int_eq}
 use Rattle.std.specs.List.{list_any}
 use Rattle.court_clock.specs.Words.{is_weekend, IsDayNumber}
@@ -71,6 +71,15 @@ add_date d days = if is_among days d then days else days ++ d ∷ []
 abbrev pub add_holiday : DaysView → HolidayList → ℤ → DaysView
 add_holiday c Federal d = record c { federal = add_date d c.federal }
 add_holiday c State d = record c { state = add_date d c.state }
+
+-- the dates without these
+abbrev pub drop_dates : (dropped : List ℤ) → List ℤ → List ℤ
+drop_dates dropped days = filter (λ d. not (is_among dropped d)) days
+
+-- the calendar without these dates in a holiday list
+abbrev pub without_dates : DaysView → HolidayList → (dropped : List ℤ) → DaysView
+without_dates c Federal dropped = record c { federal = drop_dates dropped c.federal }
+without_dates c State dropped = record c { state = drop_dates dropped c.state }
 
 -- the calendar with one more outage, after the others
 abbrev pub add_outage : DaysView → OutageView → DaysView

@@ -1,5 +1,5 @@
 -- The words of clauses and definitions, for the crates above, from one place.
-pub use Rattle.court_days.specs.Days.{OutageView, DaysView, IsSpan, is_covered, is_among, is_holiday, has_outage, is_open, dates_of, add_date, add_holiday, add_outage}
+pub use Rattle.court_days.specs.Days.{OutageView, DaysView, IsSpan, is_covered, is_among, is_holiday, has_outage, is_open, dates_of, add_date, add_holiday, without_dates, add_outage}
 unfoldable pub use Rattle.court_days.specs.Days.{is_permitted}
 pub use Rattle.court_days.specs.Days.Search.{IsEarliestDay, IsLatestDay, EarliestIsLeast, LatestIsGreatest}
 unfoldable pub use Rattle.court_days.specs.Days.Search.{earliest_day, latest_day}

@@ -4,7 +4,7 @@ ghost use Rattle.std.specs.Prelude.{◌≡◌, ◌≤ℤ◌, ◌<ℤ◌, ◌≤�
 ghost use Rattle.std.specs.Ordering.{int_eq};
 ghost use Rattle.std.specs.List.{IsDistinct};
 ghost use Rattle.std.specs.Arc.{arc_value};
-ghost use Rattle.court_days.specs.Days.{DaysView, IsSpan, is_covered, is_holiday, is_permitted, is_open, is_among, has_outage, dates_of, add_holiday, add_outage};
+ghost use Rattle.court_days.specs.Days.{DaysView, IsSpan, is_covered, is_holiday, is_permitted, is_open, is_among, has_outage, dates_of, add_holiday, without_dates, add_outage};
 ghost use Rattle.court_clock.specs.Words.{days_through};
 ghost use Rattle.court_days.specs.Days.Search.{earliest_day};
 ghost use Rattle.court_days.specs.Days.Rolled.{rolled, next_accessible};
@@ -59,14 +59,22 @@ impl Days {
         requires { days_through holidays.from holidays.to ≤ 36525 }
         ensures { IfOk result (λ d. d ≡ with_outages holidays []) }
     {
+        let outages = Outages::empty(alloc, holidays.from(), holidays.to())?;
+        Days::tabled(alloc, holidays, Arc::new(alloc, outages)?)
+    }
+
+    /// The days with these holidays and these outages, and tables that are made for them.
+    fn tabled(alloc: Global, holidays: Holidays, outages: Arc<Outages>) -> Result<Days, AllocError>
+        requires { days_through holidays.from holidays.to ≤ 36525 }
+        ensures { IfOk result (λ d. d ≡ with_outages holidays (arc_value outages)) }
+    {
         let after = table_of(alloc, &holidays, Direction::After)?;
         let before = table_of(alloc, &holidays, Direction::Before)?;
-        let outages = Outages::empty(alloc, holidays.from(), holidays.to())?;
         let held = DayRecord {
             holidays,
             after: Arc::new(alloc, after)?,
             before: Arc::new(alloc, before)?,
-            outages: Arc::new(alloc, outages)?,
+            outages,
         };
         Ok(Days {
             held: Arc::new(alloc, held)?,
@@ -211,6 +219,13 @@ impl Days {
         self.held.outages.as_slice()
     }
 
+    /// The dates of the list, each once, in the order in which they came.
+    pub fn listed(&self, list: HolidayList) -> &[Day]
+        ensures { result.now ≡ dates_of self.now list }
+    {
+        self.held.holidays.listed(list)
+    }
+
     /// How many different dates the list has.
     pub fn dates(&self, list: HolidayList) -> usize
         ensures value { result ≡ length (dates_of self.now list) }
@@ -242,6 +257,21 @@ impl Days {
         Ok(Days {
             held: Arc::new(alloc, more)?,
         })
+    }
+
+    /// These days without these dates in a holiday list, as they are by the reading that those are no holidays. This value doesn't
+    /// change. It goes over all days that are covered, so it is made once and kept. An `Err` says that memory ran out.
+    pub fn without(
+        &self,
+        alloc: Global,
+        list: HolidayList,
+        dropped: &[Day],
+    ) -> Result<Days, AllocError>
+        ensures { IfOk result (λ d. d ≡ without_dates self.now list dropped.now) }
+    {
+        let held: &DayRecord = &self.held;
+        let holidays = held.holidays.without(alloc, list, dropped)?;
+        Days::tabled(alloc, holidays, held.outages.clone()?)
     }
 
     /// These days with one more outage, after the others. This value doesn't change. An `Err` says that memory ran out.

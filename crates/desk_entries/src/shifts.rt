@@ -1,14 +1,15 @@
-//! The deadlines that move when days change.
+//! What moves when days change: the ends of deadlines, and the last days for affidavits of hearings.
 ghost use Rattle.std.specs.Prelude.{◌≡◌, ◌+◌, ◌<◌, ◌≤◌, ◌++◌, ℕ, List, IfOk, OnOk, string_bytes};
 ghost use Rattle.std.specs.List.{flat_map};
 ghost use Rattle.csv.specs.Records.{fields_of};
-ghost use Rattle.docket_rows.specs.Words.{Rows, setup_of};
+ghost use Rattle.docket_rows.specs.declared.view.View.TheVariants.{Sheet as SheetView};
+ghost use Rattle.docket_rows.specs.Words.{Rows, setup_of, sheet_hearing};
 ghost use Rattle.docket_core.specs.Words.{StandsFor};
 ghost use Rattle.office_texts.specs.Run.Words.{Holds};
-ghost use Rattle.office_texts.specs.Words.{AddsText, shown_text};
+ghost use Rattle.office_texts.specs.Words.{AddsText, hearing_text, shown_text};
 ghost use Rattle.desk_entries.specs.Entries.{most_entries};
 ghost use Rattle.desk_entries.specs.Rows.{answer_to};
-ghost use Rattle.desk_entries.specs.Shifts.{changes_days, days_before, deadline_shift, sheet_shifts, shifts, shifts_by, shifts_from, shifts_since};
+ghost use Rattle.desk_entries.specs.Shifts.{changes_days, days_before, deadline_shift, motion_shift, sheet_shifts, shifts, shifts_by, shifts_from, shifts_since};
 
 use crate::register::{DocketRegister, Done};
 use crate::standing::Standing;
@@ -16,11 +17,14 @@ use case_numbers::{CaseName, Cases};
 use court_days::{Court, Days};
 use desk_numbers::MovedNumbers;
 use docket_core::Docket;
-use docket_rows::{Command, Counted, LAST_CASE, Query, SheetDeadline, View};
+use docket_rows::{
+    Command, Counted, Hearing, LAST_CASE, Query, Sheet, SheetDeadline, SheetHearing, SheetMotion,
+    View,
+};
 use docket_shifts::push_shift;
-use office_texts::push_shown;
+use office_texts::{push_hearing, push_shown};
 use row_forms::{Row, Work};
-use rule_periods::shown;
+use rule_periods::{affidavit_day, shown};
 use rule6::Shown;
 use std::alloc::{AllocError, Global};
 
@@ -65,7 +69,7 @@ fn push_deadline(
     case: u32,
     deadline: &SheetDeadline,
 ) -> Result<(), AllocError>
-    ensures { OnOk result (AddsText text.old text.new (deadline_shift court.now.clock before.now cases.now.named case deadline.now)) }
+    ensures { OnOk result (AddsText text.old text.new (deadline_shift court.now before.now cases.now.named case deadline.now)) }
 {
     let was = end_text(alloc, court, shown(before, court.clock(), &deadline.row))?;
     let is = end_text(alloc, court, deadline.shown)?;
@@ -90,12 +94,108 @@ fn push_deadlines(
     case: u32,
     deadlines: &[SheetDeadline],
 ) -> Result<(), AllocError>
-    ensures { OnOk result (AddsText text.old text.new (flat_map (deadline_shift court.now.clock before.now cases.now.named case) deadlines.now)) }
+    ensures { OnOk result (AddsText text.old text.new (flat_map (deadline_shift court.now before.now cases.now.named case) deadlines.now)) }
 {
     for deadline in deadlines {
         push_deadline(alloc, text, court, cases, before, case, deadline)?;
     }
     Ok(())
+}
+
+// The hearing of a motion, as sheets show it.
+fn hearing_shown(alloc: Global, court: &Court, hearing: &SheetHearing) -> Result<String, AllocError>
+    ensures { IfOk result (λ text. string_bytes text ≡ hearing_text court.now hearing.now) }
+{
+    let mut text = String::new(alloc);
+    push_hearing(&mut text, court, hearing)?;
+    Ok(text)
+}
+
+// A hearing with the last day for affidavits by these days.
+fn hearing_by(days: &Days, hearing: Hearing) -> SheetHearing
+    ensures { result ≡ sheet_hearing days.now hearing }
+{
+    SheetHearing {
+        hearing,
+        affidavits: affidavit_day(days, hearing.day),
+    }
+}
+
+// Adds the line of a motion of a sheet, unless its hearing is shown as by the days before.
+fn push_motion(
+    alloc: Global,
+    text: &mut String,
+    court: &Court,
+    cases: &Cases,
+    before: &Days,
+    case: u32,
+    motion: &SheetMotion,
+) -> Result<(), AllocError>
+    ensures { OnOk result (AddsText text.old text.new (motion_shift court.now before.now cases.now.named case motion.now)) }
+{
+    let Some(hearing) = motion.hearing else {
+        return Ok(());
+    };
+    let was = hearing_shown(alloc, court, &hearing_by(before, hearing.hearing))?;
+    let is = hearing_shown(alloc, court, &hearing)?;
+    push_shift(
+        text,
+        cases,
+        case,
+        Counted::Motion,
+        motion.number,
+        was.as_str(),
+        is.as_str(),
+    )
+}
+
+// Adds the lines of the motions of a sheet.
+fn push_motions(
+    alloc: Global,
+    text: &mut String,
+    court: &Court,
+    cases: &Cases,
+    before: &Days,
+    case: u32,
+    motions: &[SheetMotion],
+) -> Result<(), AllocError>
+    ensures { OnOk result (AddsText text.old text.new (flat_map (motion_shift court.now before.now cases.now.named case) motions.now)) }
+{
+    for motion in motions {
+        push_motion(alloc, text, court, cases, before, case, motion)?;
+    }
+    Ok(())
+}
+
+// Adds the lines of a case.
+fn push_case(
+    alloc: Global,
+    text: &mut String,
+    court: &Court,
+    cases: &Cases,
+    before: &Days,
+    sheet: &Sheet,
+) -> Result<(), AllocError>
+    ensures { OnOk result (AddsText text.old text.new (sheet_shifts court.now before.now cases.now.named (SheetView sheet.now))) }
+{
+    push_deadlines(
+        alloc,
+        text,
+        court,
+        cases,
+        before,
+        sheet.case,
+        sheet.deadlines.as_slice(),
+    )?;
+    push_motions(
+        alloc,
+        text,
+        court,
+        cases,
+        before,
+        sheet.case,
+        sheet.motions.as_slice(),
+    )
 }
 
 // Adds the lines of a sheet, where the view is one.
@@ -107,18 +207,10 @@ fn push_sheet(
     before: &Days,
     view: &View,
 ) -> Result<(), AllocError>
-    ensures { OnOk result (AddsText text.old text.new (sheet_shifts court.now.clock before.now cases.now.named view.now)) }
+    ensures { OnOk result (AddsText text.old text.new (sheet_shifts court.now before.now cases.now.named view.now)) }
 {
     match view {
-        View::Sheet(sheet) => push_deadlines(
-            alloc,
-            text,
-            court,
-            cases,
-            before,
-            sheet.case,
-            sheet.deadlines.as_slice(),
-        ),
+        View::Sheet(sheet) => push_case(alloc, text, court, cases, before, sheet),
         _ => Ok(()),
     }
 }
@@ -136,7 +228,7 @@ fn push_sheets(
     count: u32,
 ) -> Result<(), AllocError>
     requires numbers { first + count ≤ 5_000 }
-    ensures { (docketed : Rows) → Holds (setup_of court.now) docket.now docketed → OnOk result (AddsText text.old text.new (shifts_from (setup_of court.now) docketed moved.now cases.now.named before.now first count)) }
+    ensures { (docketed : Rows) → Holds (setup_of court.now) docket.now docketed → OnOk result (AddsText text.old text.new (shifts_from court.now docketed moved.now cases.now.named before.now first count)) }
 {
     for case in first..first + count {
         let seen = docket.show(alloc, &Query::Sheet(case))?;
@@ -146,7 +238,7 @@ fn push_sheets(
     Ok(())
 }
 
-// The deadlines of a docket that end otherwise than by the days before, a line for each.
+// What of a docket is shown otherwise than by the days before, a line for each.
 fn shifts_text(
     alloc: Global,
     court: &Court,
@@ -155,7 +247,7 @@ fn shifts_text(
     cases: &Cases,
     before: &Days,
 ) -> Result<String, AllocError>
-    ensures { (docketed : Rows) → Holds (setup_of court.now) docket.now docketed → IfOk result (λ text. string_bytes text ≡ shifts (setup_of court.now) docketed moved.now cases.now.named before.now) }
+    ensures { (docketed : Rows) → Holds (setup_of court.now) docket.now docketed → IfOk result (λ text. string_bytes text ≡ shifts court.now docketed moved.now cases.now.named before.now) }
 {
     let mut text = String::new(alloc);
     push_sheets(
@@ -164,7 +256,7 @@ fn shifts_text(
     Ok(text)
 }
 
-// Adds the deadlines of a docket that moved since these days, if there are some.
+// Adds what of a docket moved since these days, if there are some.
 fn push_shifts(
     alloc: Global,
     text: &mut Vec<u8>,
@@ -172,7 +264,7 @@ fn push_shifts(
     register: &DocketRegister,
     before: &Option<Days>,
 ) -> Result<(), AllocError>
-    ensures { (docketed : Rows) → Holds (setup_of court.now) register.now.docket docketed → OnOk result (text.new.items ≡ text.old.items ++ shifts_since (setup_of court.now) docketed register.now.numbers.moved register.now.cases.named before.now) }
+    ensures { (docketed : Rows) → Holds (setup_of court.now) register.now.docket docketed → OnOk result (text.new.items ≡ text.old.items ++ shifts_since court.now docketed register.now.numbers.moved register.now.cases.named before.now) }
 {
     match before {
         Some(before) => {
@@ -188,7 +280,7 @@ fn push_shifts(
 impl DocketRegister {
     ghost use Rattle.desk_entries.specs.Register.{IsDone, StandsAt};
 
-    // Does a row, perhaps with a new name, and tells its answer and the deadlines that it moves.
+    // Does a row, perhaps with a new name, and tells its answer and what it moves.
     pub(crate) fn tell(
         &mut self,
         alloc: Global,

@@ -9,6 +9,7 @@ use crate::fault::Fault;
 use crate::folder::{put, read_file};
 use court_file_check::{Asked, Report, check_file as checked_file, report_of};
 use court_writing::{CourtName, court_text};
+use desk_program::check_court;
 use program_streams::Watched;
 use std::alloc::Global;
 use std::io::Write;
@@ -26,7 +27,8 @@ fn status_of(report: &Report) -> u8
     }
 }
 
-/// Checks a court's file, writes what was found, and gives the status.
+/// Checks a court's file, writes what was found, and gives the status. A file with no fault that no program can take, since a line
+/// `%%` in one of its texts divides it, is refused as `init` refuses it.
 pub fn check_file<W: Write>(
     rt: &HostRuntime,
     writer: &mut Watched<W>,
@@ -38,6 +40,9 @@ pub fn check_file<W: Write>(
     let bytes = read_file(rt, name)?;
     let checked = checked_file(rt.alloc(), bytes.as_slice(), asked)?;
     let report = report_of(rt.alloc(), name, bytes.as_slice(), asked, &checked)?;
+    if report.faults == 0 {
+        check_court(rt.alloc(), bytes.as_slice())?;
+    }
     put(writer, report.text.as_bytes())?;
     Ok(status_of(&report))
 }

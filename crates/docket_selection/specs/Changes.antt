@@ -1,6 +1,7 @@
 pub mod Change
 pub mod History
 pub mod Laws
+pub mod Named
 pub mod Noted
 pub mod Revision
 pub mod Words

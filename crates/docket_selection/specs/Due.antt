@@ -6,12 +6,11 @@ use Rattle.std.specs.List.Sorted.{IsPermutation}
 use Rattle.std.specs.Option.{option_and_then}
 use Rattle.std.specs.Ordering.{int_eq}
 use Rattle.court_clock.specs.Words.{ClockView}
-use Rattle.court_days.specs.Words.{DaysView}
 use Rattle.docket_rows.specs.declared.sheet.Sheet.{Sheet}
 use Rattle.docket_rows.specs.declared.sheet.SheetDeadline.{SheetDeadline}
 use Rattle.docket_rows.specs.declared.sheet.SheetMotion.{SheetMotion}
 use Rattle.docket_rows.specs.Words.{CourtSetup, Rows}
-use Rattle.reason_notes.specs.Readings.Words.{other_end}
+use Rattle.reason_notes.specs.Readings.Words.{DaysByReadingView, days_by_reading, other_end}
 use Rattle.docket_selection.specs.declared.choice.Choice.{Choice}
 use Rattle.docket_selection.specs.declared.item.DueItem.{DueItem}
 use Rattle.docket_selection.specs.declared.item.Matter.{Matter}
@@ -52,22 +51,22 @@ abbrev pub due_by_either : ClockView → Choice → (before : Bool) → Option D
 due_by_either clock choice before item = option_and_then (λ (x : DueItem). if is_due_by_either clock choice before x then Some x else None) item
 
 -- the item of a deadline, with the end by another reading, where it is due by either, and that of a motion's hearing, where it is due
-abbrev pub due_deadline : DaysView → ClockView → (doubtful : List ℤ) → (case : ℕ) → Choice → (before : Bool) → SheetDeadline → Option DueItem
-due_deadline days clock doubtful case choice before d =
-    due_by_either clock choice before (option_map (with_other (other_end days clock doubtful d.row)) (deadline_item clock case d))
+abbrev pub due_deadline : DaysByReadingView → ClockView → (case : ℕ) → Choice → (before : Bool) → SheetDeadline → Option DueItem
+due_deadline days clock case choice before d =
+    due_by_either clock choice before (option_map (with_other (other_end days clock d.row)) (deadline_item clock case d))
 
 abbrev pub due_hearing : (case : ℕ) → Choice → (before : Bool) → SheetMotion → Option DueItem
 due_hearing case choice before m = due_only choice before (hearing_item case m)
 
 -- what is due of the case of a sheet: its deadlines, and then its hearings, each by number
-unfoldable pub due_in : DaysView → ClockView → (doubtful : List ℤ) → Choice → Sheet → List DueItem
-due_in days clock doubtful choice sheet =
+unfoldable pub due_in : DaysByReadingView → ClockView → Choice → Sheet → List DueItem
+due_in days clock choice sheet =
     let before = is_before choice sheet.motions in
-    filter_map (due_deadline days clock doubtful sheet.case choice before) sheet.deadlines ++ filter_map (due_hearing sheet.case choice before) sheet.motions
+    filter_map (due_deadline days clock sheet.case choice before) sheet.deadlines ++ filter_map (due_hearing sheet.case choice before) sheet.motions
 
 -- what is due of all open cases, by their numbers
 abbrev pub all_due : CourtSetup → Rows → (doubtful : List ℤ) → Choice → List DueItem
-all_due setup docketed doubtful choice = flat_map (due_in docketed.days setup.clock doubtful choice) (open_sheets setup docketed)
+all_due setup docketed doubtful choice = flat_map (due_in (days_by_reading docketed.days doubtful) setup.clock choice) (open_sheets setup docketed)
 
 -- the two have the same time
 abbrev pub is_at_time_of : DueItem → DueItem → Bool

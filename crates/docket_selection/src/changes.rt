@@ -5,6 +5,7 @@ mod change;
 mod histories;
 mod history;
 mod laws;
+mod named;
 mod revision;
 
 pub use change::{Change, HearingChange, RowChange, change_made};

@@ -16,10 +16,10 @@ use crate::item::{
 use crate::lists::push_if;
 use crate::sheets::sheets_of;
 use court_clock::{Clock, Day};
-use court_days::{Court, Days};
+use court_days::Court;
 use docket_core::Docket;
 use docket_rows::{Sheet, SheetDeadline, SheetMotion};
-use reason_notes::other_end;
+use reason_notes::{DaysByReading, other_end};
 use std::alloc::{AllocError, Global};
 
 /// The deadlines that end within the chosen days, those with no timely act or all, and the hearings within them, by time. Each
@@ -37,14 +37,8 @@ pub fn due_of(
 {
     let _types: DueTypes = None;
     let sheets = sheets_of(alloc, docket)?;
-    let items = due_among(
-        alloc,
-        docket.days(),
-        court.clock(),
-        doubtful,
-        &sheets,
-        choice,
-    )?;
+    let days = DaysByReading::new(alloc, docket.days(), doubtful)?;
+    let items = due_among(alloc, &days, court.clock(), &sheets, choice)?;
     in_order(items)
 }
 
@@ -60,18 +54,17 @@ fn in_order(items: Vec<DueItem>) -> Result<Vec<DueItem>, AllocError>
 /// What is due of the cases of these sheets.
 fn due_among(
     alloc: Global,
-    days: &Days,
+    days: &DaysByReading,
     clock: &Clock,
-    doubtful: &[Day],
     sheets: &[Sheet],
     choice: &Choice,
 ) -> Result<Vec<DueItem>, AllocError>
-    ensures { IfOk result (λ list. list.items ≡ flat_map (due_in days.now clock.now doubtful.now choice.now) sheets.now) }
+    ensures { IfOk result (λ list. list.items ≡ flat_map (due_in days.now clock.now choice.now) sheets.now) }
 {
     let _types: DueTypes = None;
     let mut list = Vec::new(alloc);
     for sheet in sheets {
-        push_due_in(alloc, &mut list, days, clock, doubtful, sheet, choice)?;
+        push_due_in(alloc, &mut list, days, clock, sheet, choice)?;
     }
     Ok(list)
 }
@@ -81,13 +74,12 @@ fn due_among(
 fn push_due_in(
     alloc: Global,
     list: &mut Vec<DueItem>,
-    days: &Days,
+    days: &DaysByReading,
     clock: &Clock,
-    doubtful: &[Day],
     sheet: &Sheet,
     choice: &Choice,
 ) -> Result<(), AllocError>
-    ensures { OnOk result (list.new.items ≡ list.old.items ++ due_in days.now clock.now doubtful.now choice.now sheet.now) }
+    ensures { OnOk result (list.new.items ≡ list.old.items ++ due_in days.now clock.now choice.now sheet.now) }
 {
     let _types: DueTypes = None;
     let before = is_before(choice, sheet.motions.as_slice());
@@ -96,7 +88,6 @@ fn push_due_in(
         list,
         days,
         clock,
-        doubtful,
         sheet.case,
         sheet.deadlines.as_slice(),
         choice,
@@ -109,19 +100,18 @@ fn push_due_in(
 fn push_deadlines(
     alloc: Global,
     list: &mut Vec<DueItem>,
-    days: &Days,
+    days: &DaysByReading,
     clock: &Clock,
-    doubtful: &[Day],
     case: u32,
     deadlines: &[SheetDeadline],
     choice: &Choice,
     before: bool,
 ) -> Result<(), AllocError>
-    ensures { OnOk result (list.new.items ≡ list.old.items ++ filter_map (due_deadline days.now clock.now doubtful.now case choice.now before) deadlines.now) }
+    ensures { OnOk result (list.new.items ≡ list.old.items ++ filter_map (due_deadline days.now clock.now case choice.now before) deadlines.now) }
 {
     let _types: DueTypes = None;
     for deadline in deadlines {
-        let due = due_deadline(alloc, days, clock, doubtful, case, deadline, choice, before)?;
+        let due = due_deadline(alloc, days, clock, case, deadline, choice, before)?;
         push_if(list, due)?;
     }
     Ok(())
@@ -130,15 +120,14 @@ fn push_deadlines(
 /// The item of a deadline with the end by another reading, where it is due by either end.
 fn due_deadline(
     alloc: Global,
-    days: &Days,
+    days: &DaysByReading,
     clock: &Clock,
-    doubtful: &[Day],
     case: u32,
     deadline: &SheetDeadline,
     choice: &Choice,
     before: bool,
 ) -> Result<Option<DueItem>, AllocError>
-    ensures { IfOk result (λ item. item ≡ due_deadline days.now clock.now doubtful.now case choice.now before deadline.now) }
+    ensures { IfOk result (λ item. item ≡ due_deadline days.now clock.now case choice.now before deadline.now) }
 {
     let Some(item) = deadline_item(clock, case, deadline) else {
         return Ok(None);
@@ -146,7 +135,7 @@ fn due_deadline(
     if !is_due_any_day(choice, before, &item) {
         return Ok(None);
     }
-    let other = other_end(alloc, days, clock, doubtful, &deadline.row)?;
+    let other = other_end(alloc, days, clock, &deadline.row)?;
     let item = with_other(item, other);
     if is_due_by_either(clock, choice, before, &item) {
         Ok(Some(item))

@@ -1,7 +1,5 @@
 pub mod Changed
-pub mod Counted
-pub mod Friday
-pub mod Doubtful
+pub mod ByReading
 pub mod Earlier
 pub mod Readings
 pub mod Others

@@ -9,7 +9,7 @@ pub use margins::{
     Margin, end_day, margin_of, margins_decide, push_act, push_ahead, push_end_time, push_recorded,
 };
 pub use readings::{
-    Reading, counted_again_shows_the_same, no_other_end_has_no_line, other_end,
+    DaysByReading, Reading, counted_again_shows_the_same, no_other_end_has_no_line, other_end,
     other_end_is_earliest, push_readings, same_act_shows_the_same, shown_by,
 };
 pub use warnings::{

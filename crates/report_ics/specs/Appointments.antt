@@ -2,15 +2,14 @@
 use Rattle.std.specs.Prelude.{ℕ, ℤ, ◌==◌, Bool, true, false, ◌&&◌, ◌||◌, not, List, ◌++◌, Option, Some, None, is_some, length, map, option_to_list, if◌then◌else◌}
 use Rattle.std.specs.List.{flat_map, list_all, list_any, range_with_len}
 use Rattle.std.specs.Option.{option_and_then}
-use Rattle.docket_rows.specs.Words.{last_case, most_motions}
-use Rattle.desk_numbers.specs.Words.{place_apart}
+use Rattle.docket_rows.specs.Words.{last_case}
 use Rattle.docket_selection.specs.declared.choice.Choice.{Choice}
 use Rattle.docket_selection.specs.declared.item.DueItem.{DueItem}
 use Rattle.docket_selection.specs.declared.item.Matter.{Matter}
 use Rattle.docket_selection.specs.declared.item.Matter.TheVariants.{Deadline, Hearing}
 use Rattle.docket_selection.specs.Words.{is_due, set_item}
 use Rattle.docket_selection.specs.declared.changes.history.HearingHistory.{HearingHistory}
-use Rattle.docket_selection.specs.Changes.Words.{FollowedChanges, history_of, revision_of}
+use Rattle.docket_selection.specs.Changes.Words.{FollowedChanges, history_of, motions_named, revision_of}
 use Rattle.report_ics.specs.declared.appointment.Appointment.{Appointment}
 
 -- an item as it is set
@@ -35,18 +34,12 @@ abbrev pub off_hearing : Choice → FollowedChanges → (case number : ℕ) → 
 off_hearing choice followed case number =
     chosen_only choice (set_off (revision_of case followed.changes) case number (history_of followed.judge case number followed.changes))
 
--- those of some motions of a case, from a first place on, and of some cases
-unfoldable pub off_in_case : Choice → FollowedChanges → (case first count : ℕ) → List Appointment
-off_in_case choice followed case first count = flat_map (λ number. option_to_list (off_hearing choice followed case number)) (range_with_len first count)
+-- those of a case, also of motions that are none any more, since their rows are struck
+unfoldable pub off_of_case : Choice → FollowedChanges → (case : ℕ) → List Appointment
+off_of_case choice followed case =
+    flat_map (λ number. option_to_list (off_hearing choice followed case number)) (motions_named case followed.changes)
 
--- the first of the places at which a folder has motions that are none any more, since their rows are struck
-abbrev pub first_apart : ℕ
-first_apart = place_apart most_motions
-
--- those of the motions of a case, and of those that are none any more
-abbrev pub off_of_case : Choice → FollowedChanges → (case : ℕ) → List Appointment
-off_of_case choice followed case = off_in_case choice followed case 1 most_motions ++ off_in_case choice followed case first_apart most_motions
-
+-- those of some cases
 unfoldable pub off_from : Choice → FollowedChanges → (first count : ℕ) → List Appointment
 off_from choice followed first count = flat_map (off_of_case choice followed) (range_with_len first count)
 
@@ -54,13 +47,10 @@ off_from choice followed first count = flat_map (off_of_case choice followed) (r
 abbrev pub off_hearings : Choice → FollowedChanges → List Appointment
 off_hearings choice followed = off_from choice followed 1 last_case
 
--- the hearings that the judge had, of some motions of a case, from a first place on
-unfoldable pub histories_in : FollowedChanges → (case first count : ℕ) → List HearingHistory
-histories_in followed case first count = flat_map (λ number. option_to_list (history_of followed.judge case number followed.changes)) (range_with_len first count)
-
--- of the motions of a case, and of those that are none any more
-abbrev pub histories_of_case : FollowedChanges → (case : ℕ) → List HearingHistory
-histories_of_case followed case = histories_in followed case 1 most_motions ++ histories_in followed case first_apart most_motions
+-- the hearings that the judge had in a case, also of motions that are none any more
+unfoldable pub histories_of_case : FollowedChanges → (case : ℕ) → List HearingHistory
+histories_of_case followed case =
+    flat_map (λ number. option_to_list (history_of followed.judge case number followed.changes)) (motions_named case followed.changes)
 
 abbrev pub is_off : HearingHistory → Bool
 is_off h = h.cancelled

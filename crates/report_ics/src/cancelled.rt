@@ -1,12 +1,12 @@
 //! Hearings that are off.
 
-ghost use Rattle.std.specs.Prelude.{◌≡◌, ◌+◌, ◌≤◌, ◌++◌, OnOk};
-ghost use Rattle.report_ics.specs.Appointments.{chosen_only, item_of, off_from, off_hearing, off_hearings, off_in_case, off_of_case, set_off};
+ghost use Rattle.std.specs.Prelude.{◌≡◌, ◌+◌, ◌≤◌, ◌++◌, option_to_list, OnOk};
+ghost use Rattle.std.specs.List.{flat_map};
+ghost use Rattle.report_ics.specs.Appointments.{chosen_only, item_of, off_from, off_hearing, off_hearings, off_of_case, set_off};
 
 use crate::appointment::{Appointment, AppointmentTypes};
-use crate::left::FIRST_APART;
 use crate::lists::push_if;
-use docket_rows::{LAST_CASE, MOST_MOTIONS, SheetHearing};
+use docket_rows::{LAST_CASE, SheetHearing};
 use docket_selection::{Choice, DueItem, HearingHistories, HearingHistory, Matter, is_due};
 use std::alloc::AllocError;
 
@@ -39,7 +39,8 @@ fn push_off_from(
     Ok(())
 }
 
-/// Adds those of the motions of a case, and of those that are none any more.
+/// Adds those of a case, also of motions that are none any more.
+#[tactic(auto, unfolding(crate::specs::Appointments::off_of_case))]
 fn push_off_of(
     list: &mut Vec<Appointment>,
     choice: &Choice,
@@ -48,32 +49,22 @@ fn push_off_of(
 ) -> Result<(), AllocError>
     ensures { OnOk result (list.new.items ≡ list.old.items ++ off_of_case choice.now histories.now case) }
 {
-    push_off_in(list, choice, histories, case, 1, MOST_MOTIONS as u32)?;
-    push_off_in(
-        list,
-        choice,
-        histories,
-        case,
-        FIRST_APART,
-        MOST_MOTIONS as u32,
-    )
+    push_off_each(list, choice, histories, case, histories.motions(case))
 }
 
-/// Adds those of some motions of a case, from the first place on.
-fn push_off_in(
+/// Adds those of some motions of a case.
+fn push_off_each(
     list: &mut Vec<Appointment>,
     choice: &Choice,
     histories: &HearingHistories,
     case: u32,
-    first: u32,
-    count: u32,
+    motions: &[u32],
 ) -> Result<(), AllocError>
-    requires numbers { first + count ≤ 4_294_967_295 }
-    ensures { OnOk result (list.new.items ≡ list.old.items ++ off_in_case choice.now histories.now case first count) }
+    ensures { OnOk result (list.new.items ≡ list.old.items ++ flat_map (λ number. option_to_list (off_hearing choice.now histories.now case number)) motions.now) }
 {
     let _types: AppointmentTypes = None;
-    for motion in first..first + count {
-        push_if(list, off_hearing(choice, histories, case, motion))?;
+    for motion in motions {
+        push_if(list, off_hearing(choice, histories, case, *motion))?;
     }
     Ok(())
 }

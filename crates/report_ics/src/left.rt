@@ -1,18 +1,16 @@
 //! Deadlines of cases in which a judge has no hearing any more.
 
-ghost use Rattle.std.specs.Prelude.{◌≡◌, ◌+◌, ◌≤◌, ◌++◌, IfOk, OnOk};
-ghost use Rattle.std.specs.List.{list_all, list_any};
-ghost use Rattle.report_ics.specs.Appointments.{are_off, first_apart, has_left, histories_in, histories_of_case, is_off, off_deadlines, off_item};
+ghost use Rattle.std.specs.Prelude.{◌≡◌, ◌++◌, option_to_list, IfOk, OnOk};
+ghost use Rattle.std.specs.List.{flat_map, list_all, list_any};
+ghost use Rattle.docket_selection.specs.Changes.Words.{history_of};
+ghost use Rattle.report_ics.specs.Appointments.{are_off, has_left, histories_of_case, is_off, off_deadlines, off_item};
 
 use crate::appointment::{Appointment, AppointmentTypes};
 use crate::lists::push_if;
-use docket_rows::{Hearing, MOST_MOTIONS};
+use docket_rows::Hearing;
 use docket_selection::{DueItem, HearingHistories, HearingHistory, Matter};
 use hearing_slots::Panel;
 use std::alloc::{AllocError, Global};
-
-/// The first of the places at which a folder has motions that are none any more.
-pub(crate) const FIRST_APART: u32 = u32::MAX - MOST_MOTIONS as u32;
 
 /// Adds the deadlines among the items of cases in which the judge of the histories has no hearing any more.
 pub(crate) fn push_off_deadlines(
@@ -84,7 +82,8 @@ fn are_all_off(had: &[HearingHistory]) -> bool
     had.iter().all(|history| history.cancelled)
 }
 
-/// The hearings that the judge had, of the motions of a case and of those that are none any more.
+/// The hearings that the judge had in a case, also of motions that are none any more.
+#[tactic(auto, unfolding(crate::specs::Appointments::histories_of_case))]
 pub(crate) fn histories_of(
     alloc: Global,
     histories: &HearingHistories,
@@ -92,28 +91,22 @@ pub(crate) fn histories_of(
 ) -> Result<Vec<HearingHistory>, AllocError>
     ensures { IfOk result (λ list. list.items ≡ histories_of_case histories.now case) }
 {
-    let _types: Option<(Hearing, Panel)> = None;
-    let mut list = histories_in(alloc, histories, case, 1, MOST_MOTIONS as u32)?;
-    let gone = histories_in(alloc, histories, case, FIRST_APART, MOST_MOTIONS as u32)?;
-    list.extend_from_slice(&gone)?;
-    Ok(list)
+    histories_each(alloc, histories, case, histories.motions(case))
 }
 
-/// The hearings that the judge had, of some motions of a case, from the first place on.
-fn histories_in(
+/// The hearings that the judge had of some motions of a case.
+fn histories_each(
     alloc: Global,
     histories: &HearingHistories,
     case: u32,
-    first: u32,
-    count: u32,
+    motions: &[u32],
 ) -> Result<Vec<HearingHistory>, AllocError>
-    requires numbers { first + count ≤ 4_294_967_295 }
-    ensures { IfOk result (λ list. list.items ≡ histories_in histories.now case first count) }
+    ensures { IfOk result (λ list. list.items ≡ flat_map (λ number. option_to_list (history_of histories.now.judge case number histories.now.changes)) motions.now) }
 {
     let _types: Option<(Hearing, Panel)> = None;
     let mut list = Vec::new(alloc);
-    for motion in first..first + count {
-        push_if(&mut list, histories.of(case, motion))?;
+    for motion in motions {
+        push_if(&mut list, histories.of(case, *motion))?;
     }
     Ok(list)
 }

@@ -1,5 +1,6 @@
 -- What a docket shows that holds what is docketed.
-use Rattle.std.proofs.Common.{◌≡◌, ℕ, ℤ, true, Option, Some, None, refl}
+use Rattle.std.proofs.Common.{◌≡◌, ◌∙◌, ℕ, ℤ, List, true, Option, Some, None, ap, refl}
+use Rattle.court_days.specs.Words.{DaysView}
 use Rattle.rule6.specs.declared.service.ServiceKind.{ServiceKind}
 use Rattle.rule6.specs.declared.timeliness.Shown.{Shown}
 use Rattle.rule_periods.specs.declared.period.Period.{Period}
@@ -13,6 +14,9 @@ use Rattle.docket_laws.proofs.CallerLemmas.{hold_same}
 use Rattle.office_texts.specs.declared.run.reply.Reply.{Reply}
 use Rattle.office_texts.specs.declared.run.reply.Reply.TheVariants.{Made, Viewed}
 use Rattle.office_texts.specs.Run.Words.{Holds}
+use Rattle.reason_notes.specs.Readings.Words.{DaysByReadingView, days_by_reading}
+use Rattle.report_texts.specs.Words.{LabelsView}
+use Rattle.report_memo.specs.Reasons.{days_docketed}
 use Rattle.report_memo.specs.Replies.{is_computed}
 
 module _ (setup : CourtSetup) (d : DocketView) (docketed : Rows) (holds : Holds setup d docketed) where
@@ -20,6 +24,11 @@ module _ (setup : CourtSetup) (d : DocketView) (docketed : Rows) (holds : Holds 
   pub days_held : (parts_held d).days ≡ docketed.days
   unfolding parts_of
   days_held = (hold_same (parts_held d) (parts_of docketed) holds.stands).days
+
+  -- its days by other readings are those that are docketed
+  pub days_read : (labels : LabelsView) (made : DaysByReadingView) (days : DaysView) (doubtful : List ℤ) → made ≡ days_by_reading days doubtful → days ≡ (parts_held d).days → doubtful ≡ labels.doubtful → made ≡ days_docketed labels docketed
+  days_read labels made days doubtful is held marked =
+      is ∙ ap (λ (c : DaysView). days_by_reading c doubtful) (held ∙ days_held) ∙ ap (days_by_reading docketed.days) marked
 
   -- its deadlines are too
   pub deadline_held : (case number : ℕ) → deadline_in (parts_held d) case number ≡ deadline_in (parts_of docketed) case number

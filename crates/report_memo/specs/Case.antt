@@ -2,7 +2,7 @@
 use Rattle.std.specs.Prelude.{◌≡◌, ℕ, ℤ, List, ◌++◌, Option, codes, map}
 use Rattle.case_numbers.specs.Words.{case_text}
 use Rattle.case_numbers.specs.declared.names.NamedCase.{NamedCase}
-use Rattle.court_days.specs.Words.{CourtView, DaysView}
+use Rattle.court_days.specs.Words.{CourtView}
 use Rattle.docket_rows.specs.declared.query.Query.TheVariants as query
 use Rattle.docket_rows.specs.declared.view.View.{View}
 use Rattle.docket_rows.specs.declared.view.View.TheVariants as view
@@ -12,10 +12,12 @@ use Rattle.desk_numbers.specs.Words.{numbered_view}
 use Rattle.row_forms.specs.declared.numbered.NumberedRow.{NumberedRow}
 use Rattle.row_forms.specs.Words.{rows_of}
 use Rattle.office_texts.specs.Run.Words.{docketed_after}
+use Rattle.reason_notes.specs.Readings.Words.{DaysByReadingView}
 use Rattle.report_memo.specs.declared.detail.Detail.{Detail}
 use Rattle.report_memo.specs.declared.detail.Detail.TheVariants.{Whole}
 use Rattle.report_texts.specs.Words.{LabelsView}
 use Rattle.report_memo.specs.Sources.{numbered_source, sources_made}
+use Rattle.report_memo.specs.Reasons.{days_docketed}
 use Rattle.report_memo.specs.Sheets.{IsSheet}
 
 -- the line of a case that isn't open
@@ -23,7 +25,7 @@ abbrev pub closed_line : List NamedCase → (case : ℕ) → List ℕ
 closed_line named case = codes "docket: case " ++ case_text named case ++ codes " isn't open: no row has opened it\n"
 
 -- the sheet of the case with that much detail, where the view is one
-abbrev pub IsCaseShown : CourtView → LabelsView → DaysView → Detail → View → List ℕ → Type 0
+abbrev pub IsCaseShown : CourtView → LabelsView → DaysByReadingView → Detail → View → List ℕ → Type 0
 IsCaseShown court labels days detail (view.Sheet sheet) text = IsSheet court labels days detail sheet text
 IsCaseShown court labels days detail _ text = ⊥
 
@@ -38,7 +40,7 @@ case_view court moved docketed case = numbered_view moved (view_of (setup_of cou
 
 -- the sheet, by what is docketed
 abbrev pub IsCaseOf : CourtView → LabelsView → (docketed : Rows) → (case : ℕ) → Detail → List ℕ → Type 0
-IsCaseOf court labels docketed case detail = IsCaseShown court labels docketed.days detail (case_view court labels.moved docketed case)
+IsCaseOf court labels docketed case detail = IsCaseShown court labels (days_docketed labels docketed) detail (case_view court labels.moved docketed case)
 
 -- the whole sheet after all rows, with what they did to the deadlines of the case
 abbrev pub IsCaseMemo : CourtView → LabelsView → List NumberedRow → (case : ℕ) → (today : Option ℤ) → List ℕ → Type 0

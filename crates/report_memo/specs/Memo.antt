@@ -11,6 +11,7 @@ use Rattle.row_forms.specs.Words.{rows_of}
 use Rattle.office_texts.specs.Run.Words.{docketed_after}
 use Rattle.office_texts.specs.Named.Words.{named_calendar}
 use Rattle.report_texts.specs.Words.{LabelsView}
+use Rattle.report_memo.specs.Reasons.{days_docketed}
 use Rattle.report_memo.specs.Replies.{AreReplies}
 use Rattle.report_memo.specs.Sheets.{IsSheetShown}
 use Rattle.report_memo.specs.Texts.{Each, Is, Then}
@@ -18,7 +19,7 @@ use Rattle.report_memo.specs.Texts.{Each, Is, Then}
 -- the sheet of a case, where it is open
 abbrev pub IsSheetOf : CourtView → LabelsView → (docketed : Rows) → (case : ℕ) → List ℕ → Type 0
 IsSheetOf court labels docketed case =
-    IsSheetShown court labels docketed.days (numbered_view labels.moved (view_of (setup_of court) docketed (query.Sheet case)))
+    IsSheetShown court labels (days_docketed labels docketed) (numbered_view labels.moved (view_of (setup_of court) docketed (query.Sheet case)))
 
 -- the sheets of a number of cases from a first number on
 abbrev pub AreSheets : CourtView → LabelsView → (docketed : Rows) → (first count : ℕ) → List ℕ → Type 0

@@ -18,10 +18,11 @@ use Rattle.office_texts.specs.declared.run.reply.Reply.{Reply}
 use Rattle.office_texts.specs.declared.run.reply.Reply.TheVariants.{Made, Viewed}
 use Rattle.office_texts.specs.Run.Words.{Holds, docketed_then, reply_to, row_numbers}
 use Rattle.office_texts.specs.Named.Words.{named_line_of}
+use Rattle.reason_notes.specs.Readings.Words.{DaysByReadingView}
 use Rattle.report_memo.specs.declared.detail.Detail.TheVariants.{Reasons}
 use Rattle.report_texts.specs.Words.{LabelsView}
 use Rattle.report_memo.specs.Notes.{notes_text}
-use Rattle.report_memo.specs.Reasons.{AreReasonsDocketed, AreReasonsIfAny}
+use Rattle.report_memo.specs.Reasons.{AreReasonsDocketed, AreReasonsIfAny, days_docketed}
 use Rattle.report_memo.specs.Sheets.{IsSheet}
 use Rattle.report_memo.specs.Texts.{Is, Then}
 
@@ -59,17 +60,19 @@ is_computed reply = false
 abbrev pub deadline_computed : Work → Reply → Option DeadlineRowView
 deadline_computed work reply = if is_computed reply then deadline_asked work else None
 
--- The docket of that court has answered the work so, and stands for what is docketed since.
-pub record HasAnswered (court : CourtView) (docket : DocketView) (docketed : Rows) (work : Work) (reply : Reply) : Type 0 where
+-- The docket of that court has answered the work so, and stands for what is docketed since; and the days are those that are
+-- docketed, here and by other readings.
+pub record HasAnswered (court : CourtView) (labels : LabelsView) (docket : DocketView) (days : DaysByReadingView) (docketed : Rows) (work : Work) (reply : Reply) : Type 0 where
   pub before : Rows
   pub said : reply ≡ reply_to (setup_of court) before work
   pub left : docketed ≡ docketed_then (setup_of court) before work
   pub holds : Holds (setup_of court) docket docketed
+  pub read : days ≡ days_docketed labels docketed
 
 -- the reasons of the deadline whose end a reply tells, as it is docketed after the row, or of that whose end is computed
 abbrev pub AreReasonsTold : CourtView → LabelsView → (docketed : Rows) → Option (ℕ × ℕ) → Option DeadlineRowView → List ℕ → Type 0
 AreReasonsTold court labels docketed (Some told) computed = AreReasonsDocketed court labels docketed told.0 told.1
-AreReasonsTold court labels docketed None computed = AreReasonsIfAny court labels docketed.days computed
+AreReasonsTold court labels docketed None computed = AreReasonsIfAny court labels (days_docketed labels docketed) computed
 
 abbrev pub AreReasonsWith : CourtView → LabelsView → (docketed : Rows) → Work → Reply → List ℕ → Type 0
 AreReasonsWith court labels docketed work reply = AreReasonsTold court labels docketed (deadline_told work reply) (deadline_computed work reply)
@@ -77,6 +80,12 @@ AreReasonsWith court labels docketed work reply = AreReasonsTold court labels do
 -- what is written below the line of a reply: the reasons of the deadline that it tells, and what is said of an act or a refusal
 abbrev pub IsTold : CourtView → LabelsView → (docketed : Rows) → Work → Reply → List ℕ → Type 0
 IsTold court labels docketed work reply = Then (AreReasonsWith court labels docketed work reply) (Is (notes_text court labels docketed work reply))
+
+-- the answer is to a row that changed the days
+abbrev pub changes_days : Reply → Bool
+changes_days (Made answer.HolidayEntered) = true
+changes_days (Made answer.OutageEntered) = true
+changes_days reply = false
 
 -- the sheet that a reply shows
 abbrev pub sheet_replied : Reply → Option Sheet
@@ -92,7 +101,7 @@ without_list reply = Some reply
 -- to a row a sheet with the reasons of its deadlines, or the text of the reply with numbers and what is written below it
 abbrev pub IsReplyWith : CourtView → LabelsView → (docketed : Rows) → NumberedRow → Reply → Option Sheet → List ℕ → Type 0
 IsReplyWith court labels docketed n reply (Some sheet) =
-    Then (Is (row_numbers n.number n.row.clerk ++ codes "sheet\n")) (IsSheet court labels docketed.days Reasons sheet)
+    Then (Is (row_numbers n.number n.row.clerk ++ codes "sheet\n")) (IsSheet court labels (days_docketed labels docketed) Reasons sheet)
 IsReplyWith court labels docketed n reply None =
     Then (Is (named_line_of court labels.cases n.number n.row.clerk (numbered labels.moved n.row.work reply))) (IsTold court labels docketed n.row.work reply)
 

@@ -14,6 +14,7 @@ use Rattle.docket_rows.specs.declared.view.View.TheVariants as view
 use Rattle.rule6.specs.declared.timeliness.Shown.{Shown}
 use Rattle.office_texts.specs.Words.{deadline_line, motion_lines}
 use Rattle.office_texts.specs.Named.Words.{named_case_line}
+use Rattle.reason_notes.specs.Readings.Words.{DaysByReadingView}
 use Rattle.reason_notes.specs.Margins.Words.{ahead_line, recorded_lines}
 use Rattle.reason_notes.specs.Warnings.Words.{deadline_notes, hearing_notes}
 use Rattle.report_memo.specs.declared.detail.Detail.{Detail}
@@ -47,9 +48,9 @@ more_lines court days filed Reasons d = []
 more_lines court days filed (Whole today sources) d = whole_lines court days filed today d
 
 -- the line of a deadline, its reasons, and what comes before and after them
-abbrev pub IsDeadline : CourtView → LabelsView → DaysView → (filed : ℤ) → Detail → SheetDeadline → List ℕ → Type 0
+abbrev pub IsDeadline : CourtView → LabelsView → DaysByReadingView → (filed : ℤ) → Detail → SheetDeadline → List ℕ → Type 0
 IsDeadline court labels days filed detail d =
-    Then (Is (first_lines court.clock detail d)) (Then (AreReasons court labels days d.row) (Is (more_lines court days filed detail d)))
+    Then (Is (first_lines court.clock detail d)) (Then (AreReasons court labels days d.row) (Is (more_lines court days.here filed detail d)))
 
 -- what a reader is warned of a hearing, where one is set
 abbrev pub notes_if_set : DaysView → Option SheetHearing → List ℕ
@@ -65,11 +66,11 @@ motions_text court days Reasons motions = flat_map (motion_lines court) motions
 motions_text court days (Whole today sources) motions = flat_map (whole_motion court days) motions
 
 -- the line of the case, then its deadlines, each with its reasons, then its motions
-abbrev pub IsSheet : CourtView → LabelsView → DaysView → Detail → Sheet → List ℕ → Type 0
+abbrev pub IsSheet : CourtView → LabelsView → DaysByReadingView → Detail → Sheet → List ℕ → Type 0
 IsSheet court labels days detail sheet =
-    Then (Is (named_case_line labels.cases sheet)) (Then (Each (IsDeadline court labels days sheet.filed detail) sheet.deadlines) (Is (motions_text court days detail sheet.motions)))
+    Then (Is (named_case_line labels.cases sheet)) (Then (Each (IsDeadline court labels days sheet.filed detail) sheet.deadlines) (Is (motions_text court days.here detail sheet.motions)))
 
 -- a case that isn't open shows none
-abbrev pub IsSheetShown : CourtView → LabelsView → DaysView → View → List ℕ → Type 0
+abbrev pub IsSheetShown : CourtView → LabelsView → DaysByReadingView → View → List ℕ → Type 0
 IsSheetShown court labels days (view.Sheet sheet) = IsSheet court labels days Reasons sheet
 IsSheetShown court labels days _ = Is []

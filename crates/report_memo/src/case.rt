@@ -9,9 +9,10 @@ use crate::sheets::push_sheet;
 use crate::sources::{Sources, docket_after};
 use case_numbers::{Cases, push_case_text};
 use court_clock::Day;
-use court_days::{Court, Days};
+use court_days::Court;
 use docket_rows::{Query, View};
 use program_runs::Finding;
+use reason_notes::DaysByReading;
 use report_texts::Labels;
 use row_forms::NumberedRow;
 use std::alloc::{AllocError, Global};
@@ -34,15 +35,8 @@ pub(crate) fn case_text(
     let detail = Detail::Whole { today, sources };
     let view = docket.show(alloc, &Query::Sheet(case))?;
     let numbered = labels.moved.number_view(view);
-    case_shown(
-        alloc,
-        court,
-        labels,
-        docket.days(),
-        &detail,
-        case,
-        &numbered,
-    )
+    let days = DaysByReading::new(alloc, docket.days(), labels.doubtful)?;
+    case_shown(alloc, court, labels, &days, &detail, case, &numbered)
 }
 
 /// The sheet of a case with that much detail, where the view is one, and else the line of a case that isn't open.
@@ -50,7 +44,7 @@ fn case_shown(
     alloc: Global,
     court: &Court,
     labels: &Labels<'_>,
-    days: &Days,
+    days: &DaysByReading,
     detail: &Detail,
     case: u32,
     view: &View,

@@ -4,14 +4,14 @@ ghost use Rattle.std.specs.Prelude.{◌≡◌, ◌++◌, None, OnOk, string_byte
 ghost use Rattle.rule_periods.specs.Words.{start_refusal};
 ghost use Rattle.docket_rows.specs.Words.{Rows, setup_of, started};
 ghost use Rattle.office_texts.specs.Run.Words.{Holds};
-ghost use Rattle.report_memo.specs.Reasons.{AreReasons, AreReasonsDocketed, deadline_lines};
+ghost use Rattle.report_memo.specs.Reasons.{AreReasons, AreReasonsDocketed, days_docketed, deadline_lines};
 ghost use Rattle.report_memo.specs.Texts.{Pushes};
 
 use court_clock::Day;
-use court_days::{Court, Days};
+use court_days::Court;
 use deadline_reasons::{Reason, reasons_of};
 use docket_core::Docket;
-use reason_notes::push_readings;
+use reason_notes::{DaysByReading, push_readings};
 use reason_texts::{Course, push_heading, push_reasons};
 use report_texts::Labels;
 use rule_periods::{DeadlineRow, DocketRow, Event, Period, check_start};
@@ -25,12 +25,12 @@ pub(crate) fn push_deadline_reasons(
     text: &mut String,
     court: &Court,
     labels: &Labels<'_>,
-    days: &Days,
+    days: &DaysByReading,
     row: &DeadlineRow,
 ) -> Result<(), AllocError>
     ensures { Pushes (AreReasons court.now labels.now days.now row.now) result text.old text.new }
 {
-    let reasons = reasons_of(alloc, days, court.clock(), row)?;
+    let reasons = reasons_of(alloc, days.here(), court.clock(), row)?;
     push_lines(alloc, text, court, labels, days, row, reasons.as_slice())
 }
 
@@ -40,7 +40,7 @@ fn push_lines(
     text: &mut String,
     court: &Court,
     labels: &Labels<'_>,
-    days: &Days,
+    days: &DaysByReading,
     row: &DeadlineRow,
     reasons: &[Reason],
 ) -> Result<(), AllocError>
@@ -49,7 +49,7 @@ fn push_lines(
     push_heading(alloc, text, row)?;
     let course = Course::of(&row.period());
     push_reasons(text, court.clock(), labels.holidays, course, reasons)?;
-    push_readings(alloc, text, days, court.clock(), labels.doubtful, row)
+    push_readings(alloc, text, days, court.clock(), row)
 }
 
 /// Adds the reasons of the docketed deadline at that place in its case, if there is one.
@@ -59,13 +59,15 @@ pub(crate) fn push_docketed_reasons(
     court: &Court,
     labels: &Labels<'_>,
     docket: &Docket,
+    days: &DaysByReading,
     case: u32,
     place: u32,
 ) -> Result<(), AllocError>
-    ensures { (docketed : Rows) → Holds (setup_of court.now) docket.now docketed → Pushes (AreReasonsDocketed court.now labels.now docketed case place) result text.old text.new }
+    ensures { (docketed : Rows) → Holds (setup_of court.now) docket.now docketed → days.now ≡ days_docketed labels.now docketed →
+        Pushes (AreReasonsDocketed court.now labels.now docketed case place) result text.old text.new }
 {
     match docket.deadline(case, place) {
-        Some(row) => push_deadline_reasons(alloc, text, court, labels, docket.days(), row.row()),
+        Some(row) => push_deadline_reasons(alloc, text, court, labels, days, row.row()),
         None => Ok(()),
     }
 }
@@ -76,16 +78,16 @@ pub(crate) fn push_started_reasons(
     text: &mut String,
     court: &Court,
     labels: &Labels<'_>,
-    days: &Days,
+    days: &DaysByReading,
     period: &Period,
     event: &Event,
     second: &Option<Day>,
     service: &Option<ServiceKind>,
 ) -> Result<(), AllocError>
-    ensures { start_refusal days.now period.now event.now second.now service.now ≡ None →
+    ensures { start_refusal days.now.here period.now event.now second.now service.now ≡ None →
         Pushes (AreReasons court.now labels.now days.now (started period.now event.now second.now service.now)) result text.old text.new }
 {
-    match check_start(days, period, *event, *second, *service) {
+    match check_start(days.here(), period, *event, *second, *service) {
         Ok(()) => {
             let row = DocketRow::start(alloc, *period, *event, *second, *service);
             push_deadline_reasons(alloc, text, court, labels, days, row.row())

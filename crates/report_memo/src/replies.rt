@@ -1,16 +1,18 @@
 //! The replies to rows, with the numbers of what they show, and the reasons of each deadline.
 
-ghost use Rattle.std.specs.Prelude.{◌≡◌, ◌++◌, codes, option_copied, OnOk};
+ghost use Rattle.std.specs.Prelude.{◌≡◌, ◌++◌, codes, if◌then◌else◌, option_copied, OnOk};
 ghost use Rattle.rule6.specs.declared.timeliness.Shown.{Shown};
 ghost use Rattle.docket_rows.specs.declared.view.View.TheVariants.{Computed};
 ghost use Rattle.docket_rows.specs.Words.{Rows, setup_of, opening_rows, view_of};
 ghost use Rattle.office_texts.specs.declared.run.reply.Reply.{Reply};
 ghost use Rattle.office_texts.specs.declared.run.reply.Reply.TheVariants.{Viewed};
+ghost use Rattle.docket_core.specs.Words.{parts_held};
+ghost use Rattle.reason_notes.specs.Readings.Words.{days_by_reading};
 ghost use Rattle.office_texts.specs.Run.Words.{Holds, docketed_after, docketed_then, row_numbers};
 ghost use Rattle.office_texts.specs.Words.{AddsText};
 ghost use Rattle.row_forms.specs.Words.{rows_of};
-ghost use Rattle.report_memo.specs.Reasons.{AreReasonsIfAny};
-ghost use Rattle.report_memo.specs.Replies.{AreReasonsWith, AreReplies, HasAnswered, IsReply, IsRow, IsTold, deadline_asked, deadline_extended, deadline_queried, deadline_started, deadline_told, is_computed, sheet_replied, without_list};
+ghost use Rattle.report_memo.specs.Reasons.{AreReasonsIfAny, days_docketed};
+ghost use Rattle.report_memo.specs.Replies.{AreReasonsWith, AreReplies, HasAnswered, IsReply, IsRow, IsTold, changes_days, deadline_asked, deadline_extended, deadline_queried, deadline_started, deadline_told, is_computed, sheet_replied, without_list};
 ghost use Rattle.report_memo.specs.Texts.{Pushes};
 
 use crate::detail::Detail;
@@ -21,6 +23,7 @@ use court_days::Court;
 use docket_core::Docket;
 use docket_rows::{Answer, Command, Query, Sheet, View};
 use office_texts::{Reply, push_named_line, push_numbers, reply_to};
+use reason_notes::DaysByReading;
 use report_texts::Labels;
 use row_forms::{NumberedRow, Work};
 use std::alloc::{AllocError, Global};
@@ -38,8 +41,9 @@ pub(crate) fn push_replies(
     ensures text { Pushes (AreReplies court.now labels.now (opening_rows (setup_of court.now)) rows.now) result text.old text.new }
     ensures docket { OnOk result (Holds (setup_of court.now) docket.new (docketed_after (setup_of court.now) (opening_rows (setup_of court.now)) (rows_of rows.now))) }
 {
+    let mut days = DaysByReading::new(alloc, docket.days(), labels.doubtful)?;
     for row in rows {
-        push_row(alloc, text, court, labels, docket, row)?;
+        push_row(alloc, text, court, labels, docket, &mut days, row)?;
     }
     Ok(())
 }
@@ -51,13 +55,44 @@ fn push_row(
     court: &Court,
     labels: &Labels<'_>,
     docket: &mut Docket,
+    days: &mut DaysByReading,
     row: &NumberedRow,
 ) -> Result<(), AllocError>
-    ensures text { (docketed : Rows) → Holds (setup_of court.now) docket.old docketed → Pushes (IsRow court.now labels.now docketed row.now) result text.old text.new }
+    ensures text { (docketed : Rows) → Holds (setup_of court.now) docket.old docketed → days.old ≡ days_docketed labels.now docketed →
+        Pushes (IsRow court.now labels.now docketed row.now) result text.old text.new }
     ensures docket { (docketed : Rows) → Holds (setup_of court.now) docket.old docketed → OnOk result (Holds (setup_of court.now) docket.new (docketed_then (setup_of court.now) docketed row.now.row.work)) }
+    ensures days { (docketed : Rows) → Holds (setup_of court.now) docket.old docketed → days.old ≡ days_docketed labels.now docketed →
+        OnOk result (days.new ≡ days_docketed labels.now (docketed_then (setup_of court.now) docketed row.now.row.work)) }
 {
     let reply = reply_to(alloc, docket, &row.row.work)?;
-    push_explained(alloc, text, court, labels, docket, row, reply)
+    renew(alloc, days, docket, labels, &reply)?;
+    push_explained(alloc, text, court, labels, docket, days, row, reply)
+}
+
+/// Makes the days anew after a row that changed them.
+fn renew(
+    alloc: Global,
+    days: &mut DaysByReading,
+    docket: &Docket,
+    labels: &Labels<'_>,
+    reply: &Reply,
+) -> Result<(), AllocError>
+    ensures { OnOk result (days.new ≡ (if changes_days reply.now then days_by_reading (parts_held docket.now).days labels.now.doubtful else days.old)) }
+{
+    if changes_days(reply) {
+        *days = DaysByReading::new(alloc, docket.days(), labels.doubtful)?;
+    }
+    Ok(())
+}
+
+/// Whether the reply is to a row that changed the days.
+fn changes_days(reply: &Reply) -> bool
+    ensures { result ≡ changes_days reply.now }
+{
+    matches!(
+        reply,
+        Reply::Made(Answer::HolidayEntered | Answer::OutageEntered)
+    )
 }
 
 /// Adds the reply to a row, with the numbers of what it shows, and the reasons of the deadlines that it shows, where the docket
@@ -68,10 +103,11 @@ fn push_explained(
     court: &Court,
     labels: &Labels<'_>,
     docket: &Docket,
+    days: &DaysByReading,
     row: &NumberedRow,
     reply: Reply,
 ) -> Result<(), AllocError>
-    ensures { (docketed : Rows) → HasAnswered court.now docket.now docketed row.now.row.work reply → Pushes (IsReply court.now labels.now docketed row.now reply) result text.old text.new }
+    ensures { (docketed : Rows) → HasAnswered court.now labels.now docket.now days.now docketed row.now.row.work reply → Pushes (IsReply court.now labels.now docketed row.now reply) result text.old text.new }
 {
     let placed = without_list(&reply);
     let (work, number, clerk) = (&row.row.work, row.number, row.row.clerk);
@@ -79,19 +115,11 @@ fn push_explained(
     match sheet_replied(&numbered) {
         Some(sheet) => {
             push_sheet_front(text, number, clerk)?;
-            push_sheet(
-                alloc,
-                text,
-                court,
-                labels,
-                docket.days(),
-                &Detail::Reasons,
-                sheet,
-            )
+            push_sheet(alloc, text, court, labels, days, &Detail::Reasons, sheet)
         }
         None => {
             push_named_line(text, court, labels.cases, number, clerk, &numbered)?;
-            push_told(alloc, text, court, labels, docket, work, placed)
+            push_told(alloc, text, court, labels, docket, days, work, placed)
         }
     }
 }
@@ -115,15 +143,16 @@ fn push_told(
     court: &Court,
     labels: &Labels<'_>,
     docket: &Docket,
+    days: &DaysByReading,
     work: &Work,
     placed: Option<Reply>,
 ) -> Result<(), AllocError>
-    ensures { (docketed : Rows) (reply : Reply) → HasAnswered court.now docket.now docketed work.now reply → placed ≡ without_list reply →
+    ensures { (docketed : Rows) (reply : Reply) → HasAnswered court.now labels.now docket.now days.now docketed work.now reply → placed ≡ without_list reply →
         Pushes (IsTold court.now labels.now docketed work.now reply) result text.old text.new }
 {
     match placed {
         Some(reply) => {
-            push_reasons_told(alloc, text, court, labels, docket, work, &reply)?;
+            push_reasons_told(alloc, text, court, labels, docket, days, work, &reply)?;
             push_notes(alloc, text, court, labels, docket, work, &reply)
         }
         None => Ok(()),
@@ -155,16 +184,19 @@ fn push_reasons_told(
     court: &Court,
     labels: &Labels<'_>,
     docket: &Docket,
+    days: &DaysByReading,
     work: &Work,
     reply: &Reply,
 ) -> Result<(), AllocError>
-    ensures { (docketed : Rows) → HasAnswered court.now docket.now docketed work.now reply.now → Pushes (AreReasonsWith court.now labels.now docketed work.now reply.now) result text.old text.new }
+    ensures { (docketed : Rows) → HasAnswered court.now labels.now docket.now days.now docketed work.now reply.now → Pushes (AreReasonsWith court.now labels.now docketed work.now reply.now) result text.old text.new }
 {
     match deadline_told(work, reply) {
         Some((case, place)) => push_docketed_reasons(
-            alloc, text, court, labels, docket, case, place,
+            alloc, text, court, labels, docket, days, case, place,
         ),
-        None if is_computed(reply) => push_reasons_asked(alloc, text, court, labels, docket, work),
+        None if is_computed(reply) => push_reasons_asked(
+            alloc, text, court, labels, docket, days, work,
+        ),
         None => Ok(()),
     }
 }
@@ -183,13 +215,14 @@ fn push_reasons_asked(
     court: &Court,
     labels: &Labels<'_>,
     docket: &Docket,
+    days: &DaysByReading,
     work: &Work,
 ) -> Result<(), AllocError>
-    ensures { (docketed : Rows) (shown : Shown) → HasAnswered court.now docket.now docketed work.now (Viewed (Computed shown)) →
-        Pushes (AreReasonsIfAny court.now labels.now docketed.days (deadline_asked work.now)) result text.old text.new }
+    ensures { (docketed : Rows) (shown : Shown) → HasAnswered court.now labels.now docket.now days.now docketed work.now (Viewed (Computed shown)) →
+        Pushes (AreReasonsIfAny court.now labels.now (days_docketed labels.now docketed) (deadline_asked work.now)) result text.old text.new }
 {
     match work {
-        Work::Query(query) => push_reasons_queried(alloc, text, court, labels, docket, query),
+        Work::Query(query) => push_reasons_queried(alloc, text, court, labels, docket, days, query),
         _ => Ok(()),
     }
 }
@@ -201,22 +234,15 @@ fn push_reasons_queried(
     court: &Court,
     labels: &Labels<'_>,
     docket: &Docket,
+    days: &DaysByReading,
     query: &Query,
 ) -> Result<(), AllocError>
-    ensures { (docketed : Rows) (shown : Shown) → Computed shown ≡ view_of (setup_of court.now) docketed query.now → Holds (setup_of court.now) docket.now docketed →
-        Pushes (AreReasonsIfAny court.now labels.now docketed.days (deadline_queried query.now)) result text.old text.new }
+    ensures { (docketed : Rows) (shown : Shown) → Computed shown ≡ view_of (setup_of court.now) docketed query.now → Holds (setup_of court.now) docket.now docketed → days.now ≡ days_docketed labels.now docketed →
+        Pushes (AreReasonsIfAny court.now labels.now (days_docketed labels.now docketed) (deadline_queried query.now)) result text.old text.new }
 {
     match query {
         Query::Compute(period, event, second, service) => push_started_reasons(
-            alloc,
-            text,
-            court,
-            labels,
-            docket.days(),
-            period,
-            event,
-            second,
-            service,
+            alloc, text, court, labels, days, period, event, second, service,
         ),
         _ => Ok(()),
     }

@@ -12,10 +12,11 @@ use crate::reasons::push_deadline_reasons;
 use crate::sources::push_sources;
 use crate::whole::{push_all_motions, push_more};
 use court_clock::Day;
-use court_days::{Court, Days};
+use court_days::Court;
 use docket_core::Docket;
 use docket_rows::{Query, Sheet, SheetDeadline, View};
 use office_texts::{push_case_line, push_deadline};
+use reason_notes::DaysByReading;
 use report_texts::Labels;
 use std::alloc::{AllocError, Global};
 
@@ -26,7 +27,7 @@ pub(crate) fn push_sheet(
     text: &mut String,
     court: &Court,
     labels: &Labels<'_>,
-    days: &Days,
+    days: &DaysByReading,
     detail: &Detail,
     sheet: &Sheet,
 ) -> Result<(), AllocError>
@@ -43,7 +44,7 @@ pub(crate) fn push_sheet(
         detail,
         sheet.deadlines.as_slice(),
     )?;
-    push_all_motions(text, court, days, detail, sheet.motions.as_slice())
+    push_all_motions(text, court, days.here(), detail, sheet.motions.as_slice())
 }
 
 /// Adds the line of each deadline, its reasons, and what comes before and after them.
@@ -52,7 +53,7 @@ fn push_deadlines(
     text: &mut String,
     court: &Court,
     labels: &Labels<'_>,
-    days: &Days,
+    days: &DaysByReading,
     filed: Day,
     detail: &Detail,
     deadlines: &[SheetDeadline],
@@ -71,7 +72,7 @@ fn push_explained(
     text: &mut String,
     court: &Court,
     labels: &Labels<'_>,
-    days: &Days,
+    days: &DaysByReading,
     filed: Day,
     detail: &Detail,
     deadline: &SheetDeadline,
@@ -80,7 +81,7 @@ fn push_explained(
 {
     push_first_lines(alloc, text, court, detail, deadline)?;
     push_deadline_reasons(alloc, text, court, labels, days, &deadline.row)?;
-    push_more(alloc, text, court, days, filed, detail, deadline)
+    push_more(alloc, text, court, days.here(), filed, detail, deadline)
 }
 
 /// Adds the line of a deadline, and where the whole sheet is asked for the rows that made it what it is.
@@ -116,10 +117,11 @@ pub(crate) fn push_sheets(
     requires numbers { first + count ≤ 5_000 }
     ensures { (docketed : Rows) → Holds (setup_of court.now) docket.now docketed → Pushes (AreSheets court.now labels.now docketed first count) result text.old text.new }
 {
+    let days = DaysByReading::new(alloc, docket.days(), labels.doubtful)?;
     for case in first..first + count {
         let view = docket.show(alloc, &Query::Sheet(case))?;
         let numbered = labels.moved.number_view(view);
-        push_sheet_shown(alloc, text, court, labels, docket.days(), &numbered)?;
+        push_sheet_shown(alloc, text, court, labels, &days, &numbered)?;
     }
     Ok(())
 }
@@ -130,7 +132,7 @@ fn push_sheet_shown(
     text: &mut String,
     court: &Court,
     labels: &Labels<'_>,
-    days: &Days,
+    days: &DaysByReading,
     view: &View,
 ) -> Result<(), AllocError>
     ensures { Pushes (IsSheetShown court.now labels.now days.now view.now) result text.old text.new }

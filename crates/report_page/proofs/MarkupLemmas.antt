@@ -5,6 +5,7 @@ use Rattle.std.specs.List.{flat_map}
 use Rattle.case_numbers.specs.declared.names.NamedCase.{NamedCase}
 use Rattle.court_clock.specs.Words.{ClockView}
 use Rattle.court_days.specs.Words.{CourtView, DaysView}
+use Rattle.reason_notes.specs.Readings.Words.{DaysByReadingView, days_by_reading}
 use Rattle.rule6.specs.declared.timeliness.Shown.{Shown}
 use Rattle.hearing_slots.specs.declared.booking.Booking.{Booking}
 use Rattle.rule_periods.specs.Words.{DeadlineRowView}
@@ -125,23 +126,23 @@ unfolding deadline_row
 deadline_row_is clock d other =
     within tag.Row (both (both (both (words tag.RowHead _) (period_cell_is d.row)) (end_cell_is clock d.shown other)) (words _ _))
 
-reasons_cell_is : (days : DaysView) (clock : ClockView) (doubtful : List ℤ) (e : ExplainedDeadline) → IsMarkup (reasons_cell days clock doubtful e)
+reasons_cell_is : (days : DaysByReadingView) (clock : ClockView) (e : ExplainedDeadline) → IsMarkup (reasons_cell days clock e)
 unfolding reasons_cell
-reasons_cell_is days clock doubtful e = within tag.WideCell (within tag.Details (both (words tag.Summary _) (words tag.Reasons _)))
+reasons_cell_is days clock e = within tag.WideCell (within tag.Details (both (words tag.Summary _) (words tag.Reasons _)))
 
-deadline_rows_are : (days : DaysView) (clock : ClockView) (doubtful : List ℤ) (e : ExplainedDeadline) → IsMarkup (deadline_rows days clock doubtful e)
+deadline_rows_are : (days : DaysByReadingView) (clock : ClockView) (e : ExplainedDeadline) → IsMarkup (deadline_rows days clock e)
 unfolding deadline_rows
-deadline_rows_are days clock doubtful e = both (deadline_row_is clock e.deadline e.other) (within tag.Row (reasons_cell_is days clock doubtful e))
+deadline_rows_are days clock e = both (deadline_row_is clock e.deadline e.other) (within tag.Row (reasons_cell_is days clock e))
 
 deadline_heads_are : IsMarkup deadline_heads
 unfolding deadline_heads
 deadline_heads_are = four_heads_are _ _ _ _
 
-deadline_table_is : (days : DaysView) (clock : ClockView) (labels : LabelsView) (case : ℕ) (deadlines : List ExplainedDeadline) → IsMarkup (deadline_table days clock labels case deadlines)
+deadline_table_is : (days : DaysByReadingView) (clock : ClockView) (labels : LabelsView) (case : ℕ) (deadlines : List ExplainedDeadline) → IsMarkup (deadline_table days clock labels case deadlines)
 unfolding deadline_table
 deadline_table_is days clock labels case [] = words tag.Paragraph _
 deadline_table_is days clock labels case (e ∷ deadlines) =
-    within tag.Table (both (both (words tag.Caption _) deadline_heads_are) (within tag.TableBody (each (deadline_rows days clock labels.doubtful) (deadline_rows_are days clock labels.doubtful) (e ∷ deadlines))))
+    within tag.Table (both (both (words tag.Caption _) deadline_heads_are) (within tag.TableBody (each (deadline_rows days clock) (deadline_rows_are days clock) (e ∷ deadlines))))
 
 hearing_cell_is : (court : CourtView) (hearing : Option SheetHearing) → IsMarkup (hearing_cell court hearing)
 unfolding hearing_cell
@@ -162,18 +163,18 @@ motion_table_is court named case [] = words tag.Paragraph _
 motion_table_is court named case (m ∷ motions) =
     within tag.Table (both (both (words tag.Caption _) motion_heads_are) (within tag.TableBody (each (motion_row court) (motion_row_is court) (m ∷ motions))))
 
-case_part_is : (court : CourtView) (days : DaysView) (labels : LabelsView) (s : ExplainedSheet) → IsMarkup (case_part court days labels s)
+case_part_is : (court : CourtView) (days : DaysByReadingView) (labels : LabelsView) (s : ExplainedSheet) → IsMarkup (case_part court days labels s)
 unfolding case_part
 case_part_is court days labels s =
     within (tag.CaseSection s.case) (both (both (both (words tag.Heading3 _) (words tag.Paragraph _)) (deadline_table_is days court.clock labels s.case s.deadlines.items)) (motion_table_is court labels.cases s.case s.motions))
 
-case_parts_are : (court : CourtView) (days : DaysView) (labels : LabelsView) (sheets : List ExplainedSheet) → IsMarkup (case_parts court days labels sheets)
+case_parts_are : (court : CourtView) (days : DaysByReadingView) (labels : LabelsView) (sheets : List ExplainedSheet) → IsMarkup (case_parts court days labels sheets)
 case_parts_are court days labels [] = words tag.Paragraph _
 case_parts_are court days labels (s ∷ sheets) = each (case_part court days labels) (case_part_is court days labels) (s ∷ sheets)
 
 cases_part_is : (court : CourtView) (days : DaysView) (labels : LabelsView) (sheets : List ExplainedSheet) → IsMarkup (cases_part court days labels sheets)
 unfolding cases_part
-cases_part_is court days labels sheets = within tag.Section (both (words tag.Heading2 _) (case_parts_are court days labels sheets))
+cases_part_is court days labels sheets = within tag.Section (both (words tag.Heading2 _) (case_parts_are court (days_by_reading days labels.doubtful) labels sheets))
 
 pub content_is_markup : ContentIsMarkup
 unfolding content

@@ -14,7 +14,7 @@ use Rattle.docket_rows.specs.declared.sheet.SheetMotion.{SheetMotion}
 use Rattle.deadline_reasons.specs.declared.reason.Reason.{Reason}
 use Rattle.reason_texts.specs.Words.{course_of, reason_lines}
 use Rattle.reason_texts.specs.Periods.Words.{heading_lines}
-use Rattle.reason_notes.specs.Readings.Words.{reading_lines}
+use Rattle.reason_notes.specs.Readings.Words.{DaysByReadingView, days_by_reading, reading_lines}
 use Rattle.page_markup.specs.declared.tag.Tag.TheVariants as tag
 use Rattle.page_markup.specs.Words.{element, text_in}
 use Rattle.report_texts.specs.Words.{LabelsView, period_words, reading_words, whole_day}
@@ -44,17 +44,17 @@ reasons_title number = codes "Reasons of deadline " ++ decimal number
 
 -- a line for each reason, and for each other reading that gives another end; a holiday is named as the law of the United
 -- States names it
-unfoldable pub reasons_text : DaysView → ClockView → (doubtful : List ℤ) → DeadlineRowView → List Reason → List ℕ
-reasons_text days clock doubtful row reasons = reason_lines clock [] (course_of row.period) reasons ++ reading_lines days clock doubtful row
+unfoldable pub reasons_text : DaysByReadingView → ClockView → DeadlineRowView → List Reason → List ℕ
+reasons_text days clock row reasons = reason_lines clock [] (course_of row.period) reasons ++ reading_lines days clock row
 
 -- a cell over the whole table, with the reasons of a deadline folded in it
-unfoldable pub reasons_cell : DaysView → ClockView → (doubtful : List ℤ) → ExplainedDeadline → List ℕ
-reasons_cell days clock doubtful e =
-    element tag.WideCell (element tag.Details (text_in tag.Summary (reasons_title e.deadline.number) ++ text_in tag.Reasons (reasons_text days clock doubtful e.deadline.row e.reasons.items)))
+unfoldable pub reasons_cell : DaysByReadingView → ClockView → ExplainedDeadline → List ℕ
+reasons_cell days clock e =
+    element tag.WideCell (element tag.Details (text_in tag.Summary (reasons_title e.deadline.number) ++ text_in tag.Reasons (reasons_text days clock e.deadline.row e.reasons.items)))
 
 -- the row of a deadline, and below it the row of its reasons
-unfoldable pub deadline_rows : DaysView → ClockView → (doubtful : List ℤ) → ExplainedDeadline → List ℕ
-deadline_rows days clock doubtful e = deadline_row clock e.deadline e.other ++ element tag.Row (reasons_cell days clock doubtful e)
+unfoldable pub deadline_rows : DaysByReadingView → ClockView → ExplainedDeadline → List ℕ
+deadline_rows days clock e = deadline_row clock e.deadline e.other ++ element tag.Row (reasons_cell days clock e)
 
 unfoldable pub deadline_heads : List ℕ
 deadline_heads = four_heads (codes "No.") (codes "Period") (codes "Time ends") (codes "State")
@@ -64,10 +64,10 @@ unfoldable pub deadline_caption : List NamedCase → (case : ℕ) → List ℕ
 deadline_caption named case = codes "Deadlines of case " ++ case_text named case
 
 -- two rows for each deadline, or that there are none
-unfoldable pub deadline_table : DaysView → ClockView → LabelsView → (case : ℕ) → List ExplainedDeadline → List ℕ
+unfoldable pub deadline_table : DaysByReadingView → ClockView → LabelsView → (case : ℕ) → List ExplainedDeadline → List ℕ
 deadline_table days clock labels case [] = text_in tag.Paragraph (codes "No deadline is entered.")
 deadline_table days clock labels case (e ∷ deadlines) =
-    element tag.Table (text_in tag.Caption (deadline_caption labels.cases case) ++ deadline_heads ++ element tag.TableBody (flat_map (deadline_rows days clock labels.doubtful) (e ∷ deadlines)))
+    element tag.Table (text_in tag.Caption (deadline_caption labels.cases case) ++ deadline_heads ++ element tag.TableBody (flat_map (deadline_rows days clock) (e ∷ deadlines)))
 
 -- the hearing of a motion, or that none is set
 unfoldable pub hearing_cell : CourtView → Option SheetHearing → List ℕ
@@ -102,15 +102,15 @@ unfoldable pub filed_words : (filed : ℤ) → List ℕ
 filed_words filed = codes "Filed " ++ whole_day filed
 
 -- the sheet of a case
-unfoldable pub case_part : CourtView → DaysView → LabelsView → ExplainedSheet → List ℕ
+unfoldable pub case_part : CourtView → DaysByReadingView → LabelsView → ExplainedSheet → List ℕ
 case_part court days labels s =
     element (tag.CaseSection s.case) (text_in tag.Heading3 (case_title labels.cases s.case) ++ text_in tag.Paragraph (filed_words s.filed) ++ deadline_table days court.clock labels s.case s.deadlines.items ++ motion_table court labels.cases s.case s.motions)
 
 -- a part for each case, or that there is none
-abbrev pub case_parts : CourtView → DaysView → LabelsView → List ExplainedSheet → List ℕ
+abbrev pub case_parts : CourtView → DaysByReadingView → LabelsView → List ExplainedSheet → List ℕ
 case_parts court days labels [] = text_in tag.Paragraph (codes "No case is open.")
 case_parts court days labels (s ∷ sheets) = flat_map (case_part court days labels) (s ∷ sheets)
 
 -- the sheets of the cases
 unfoldable pub cases_part : CourtView → DaysView → LabelsView → List ExplainedSheet → List ℕ
-cases_part court days labels sheets = element tag.Section (text_in tag.Heading2 (codes "Cases") ++ case_parts court days labels sheets)
+cases_part court days labels sheets = element tag.Section (text_in tag.Heading2 (codes "Cases") ++ case_parts court (days_by_reading days labels.doubtful) labels sheets)

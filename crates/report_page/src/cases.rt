@@ -11,6 +11,7 @@ use court_clock::Day;
 use court_days::{Court, Days};
 use docket_selection::ExplainedSheet;
 use page_markup::{Page, Tag};
+use reason_notes::DaysByReading;
 use report_texts::{Labels, push_whole_day};
 use std::alloc::{AllocError, Global};
 
@@ -29,7 +30,8 @@ pub(crate) fn push_cases(
 {
     page.open(Tag::Section)?;
     page.text_in(Tag::Heading2, "Cases")?;
-    push_parts(alloc, page, line, court, days, labels, sheets)?;
+    let days = DaysByReading::new(alloc, days, labels.doubtful)?;
+    push_parts(alloc, page, line, court, &days, labels, sheets)?;
     page.close(Tag::Section)
 }
 
@@ -39,7 +41,7 @@ fn push_parts(
     page: &mut Page,
     line: &mut String,
     court: &Court,
-    days: &Days,
+    days: &DaysByReading,
     labels: &Labels<'_>,
     sheets: &[ExplainedSheet],
 ) -> Result<(), AllocError>
@@ -57,7 +59,7 @@ fn push_sheets(
     page: &mut Page,
     line: &mut String,
     court: &Court,
-    days: &Days,
+    days: &DaysByReading,
     labels: &Labels<'_>,
     sheets: &[ExplainedSheet],
 ) -> Result<(), AllocError>
@@ -76,7 +78,7 @@ fn push_case(
     page: &mut Page,
     line: &mut String,
     court: &Court,
-    days: &Days,
+    days: &DaysByReading,
     labels: &Labels<'_>,
     sheet: &ExplainedSheet,
 ) -> Result<(), AllocError>

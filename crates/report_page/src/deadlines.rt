@@ -9,11 +9,11 @@ use crate::phrases::{set_end, set_number, set_state};
 use crate::reasons::push_reasons_cell;
 use crate::tables::push_four_heads;
 use case_numbers::push_case_text;
-use court_clock::{Clock, Day};
-use court_days::Days;
+use court_clock::Clock;
 use docket_rows::SheetDeadline;
 use docket_selection::ExplainedDeadline;
 use page_markup::{Page, Tag};
+use reason_notes::DaysByReading;
 use reason_texts::push_heading;
 use report_texts::{Labels, push_period, push_reading};
 use rule_periods::DeadlineRow;
@@ -26,7 +26,7 @@ pub(crate) fn push_deadlines(
     alloc: Global,
     page: &mut Page,
     line: &mut String,
-    days: &Days,
+    days: &DaysByReading,
     clock: &Clock,
     labels: &Labels<'_>,
     case: u32,
@@ -42,7 +42,7 @@ pub(crate) fn push_deadlines(
     page.text_in(Tag::Caption, line)?;
     push_heads(page)?;
     page.open(Tag::TableBody)?;
-    push_rows(alloc, page, line, days, clock, labels.doubtful, deadlines)?;
+    push_rows(alloc, page, line, days, clock, deadlines)?;
     page.close(Tag::TableBody)?;
     page.close(Tag::Table)
 }
@@ -69,15 +69,14 @@ fn push_rows(
     alloc: Global,
     page: &mut Page,
     line: &mut String,
-    days: &Days,
+    days: &DaysByReading,
     clock: &Clock,
-    doubtful: &[Day],
     deadlines: &[ExplainedDeadline],
 ) -> Result<(), AllocError>
-    ensures { OnOk result (page.new ≡ page.old ++ flat_map (deadline_rows days.now clock.now doubtful.now) deadlines.now) }
+    ensures { OnOk result (page.new ≡ page.old ++ flat_map (deadline_rows days.now clock.now) deadlines.now) }
 {
     for explained in deadlines {
-        push_explained(alloc, page, line, days, clock, doubtful, explained)?;
+        push_explained(alloc, page, line, days, clock, explained)?;
     }
     Ok(())
 }
@@ -88,12 +87,11 @@ fn push_explained(
     alloc: Global,
     page: &mut Page,
     line: &mut String,
-    days: &Days,
+    days: &DaysByReading,
     clock: &Clock,
-    doubtful: &[Day],
     explained: &ExplainedDeadline,
 ) -> Result<(), AllocError>
-    ensures { OnOk result (page.new ≡ page.old ++ deadline_rows days.now clock.now doubtful.now explained.now) }
+    ensures { OnOk result (page.new ≡ page.old ++ deadline_rows days.now clock.now explained.now) }
 {
     push_row(
         alloc,
@@ -104,7 +102,7 @@ fn push_explained(
         explained.other,
     )?;
     page.open(Tag::Row)?;
-    push_reasons_cell(alloc, page, line, days, clock, doubtful, explained)?;
+    push_reasons_cell(alloc, page, line, days, clock, explained)?;
     page.close(Tag::Row)
 }
 

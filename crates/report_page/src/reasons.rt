@@ -3,13 +3,12 @@
 ghost use Rattle.std.specs.Prelude.{◌≡◌, ◌++◌, OnOk, string_bytes};
 ghost use Rattle.report_page.specs.Cases.{reasons_cell, reasons_text, reasons_title};
 
-use court_clock::{Clock, Day};
-use court_days::Days;
+use court_clock::Clock;
 use deadline_reasons::Reason;
 use docket_selection::ExplainedDeadline;
 use office_texts::push_number;
 use page_markup::{Page, Tag};
-use reason_notes::push_readings;
+use reason_notes::{DaysByReading, push_readings};
 use reason_texts::{Course, push_reasons};
 use rule_periods::DeadlineRow;
 use std::alloc::{AllocError, Global};
@@ -20,12 +19,11 @@ pub(crate) fn push_reasons_cell(
     alloc: Global,
     page: &mut Page,
     line: &mut String,
-    days: &Days,
+    days: &DaysByReading,
     clock: &Clock,
-    doubtful: &[Day],
     explained: &ExplainedDeadline,
 ) -> Result<(), AllocError>
-    ensures { OnOk result (page.new ≡ page.old ++ reasons_cell days.now clock.now doubtful.now explained.now) }
+    ensures { OnOk result (page.new ≡ page.old ++ reasons_cell days.now clock.now explained.now) }
 {
     page.open(Tag::WideCell)?;
     page.open(Tag::Details)?;
@@ -36,7 +34,6 @@ pub(crate) fn push_reasons_cell(
         line,
         days,
         clock,
-        doubtful,
         &explained.deadline.row,
         &explained.reasons,
     )?;
@@ -60,16 +57,15 @@ fn set_title(line: &mut String, number: u32) -> Result<(), AllocError>
 fn set_reasons(
     alloc: Global,
     line: &mut String,
-    days: &Days,
+    days: &DaysByReading,
     clock: &Clock,
-    doubtful: &[Day],
     row: &DeadlineRow,
     reasons: &[Reason],
 ) -> Result<(), AllocError>
-    ensures { OnOk result (string_bytes line.new ≡ reasons_text days.now clock.now doubtful.now row.now reasons.now) }
+    ensures { OnOk result (string_bytes line.new ≡ reasons_text days.now clock.now row.now reasons.now) }
 {
     line.clear();
     let course = Course::of(&row.period());
     push_reasons(line, clock, &[], course, reasons)?;
-    push_readings(alloc, line, days, clock, doubtful, row)
+    push_readings(alloc, line, days, clock, row)
 }

@@ -1,9 +1,9 @@
 //! The dates of one list.
 
-ghost use Rattle.std.specs.Prelude.{◌≡◌, ◌<◌, ◌+ℤ◌, ℕ, ℤ, pos, List, [], length, OnOk, OnErr, IfOk, IfSome, IfNone};
+ghost use Rattle.std.specs.Prelude.{◌≡◌, ◌<◌, ◌+ℤ◌, ℕ, ℤ, pos, List, [], length, not, OnOk, OnErr, IfOk, IfSome, IfNone};
 ghost use Rattle.std.specs.Ordering.{int_eq};
 ghost use Rattle.std.specs.List.{IsDistinct};
-ghost use Rattle.court_days.specs.Days.{is_among, add_date};
+ghost use Rattle.court_days.specs.Days.{is_among, add_date, drop_dates};
 ghost use Rattle.court_days.specs.Days.Marks.{AreMarked};
 
 use court_clock::Day;
@@ -45,6 +45,25 @@ impl Dates {
         })
     }
 
+    /// These dates, each of which is there once, with marks for the days from the first to the last.
+    fn of(alloc: Global, first: Day, last: Day, days: &[Day]) -> Result<Dates, AllocError>
+        requires { IsDistinct int_eq days.now }
+        ensures { IfOk result (λ d. d ≡ days.now) }
+    {
+        let mut dates = Dates::empty(alloc, first, last)?;
+        for day in days {
+            dates.add(*day)?;
+        }
+        Ok(dates)
+    }
+
+    /// The dates.
+    pub(crate) fn as_slice(&self) -> &[Day]
+        ensures { result.now ≡ self.now }
+    {
+        &self.days
+    }
+
     /// How many different dates there are.
     pub(crate) fn len(&self) -> usize
         ensures value { result ≡ length self.now }
@@ -78,6 +97,20 @@ impl Dates {
         Ok(())
     }
 
+    /// The dates without these, in memory of their own, with marks for the days from the first to the last.
+    pub(crate) fn without(
+        &self,
+        alloc: Global,
+        first: Day,
+        last: Day,
+        dropped: &[Day],
+    ) -> Result<Dates, AllocError>
+        ensures { IfOk result (λ d. d ≡ drop_dates dropped.now self.now) }
+    {
+        let kept = kept_of(alloc, &self.days, dropped)?;
+        Dates::of(alloc, first, last, kept.as_slice())
+    }
+
     /// The same dates, in memory of their own.
     pub(crate) fn copy(&self, alloc: Global) -> Result<Dates, AllocError>
         ensures { IfOk result (λ d. d ≡ self.now) }
@@ -88,6 +121,22 @@ impl Dates {
             marks: Vec::from_slice(alloc, &self.marks)?,
         })
     }
+}
+
+/// The days without these.
+fn kept_of(alloc: Global, days: &[Day], dropped: &[Day]) -> Result<Vec<Day>, AllocError>
+    ensures { IfOk result (λ kept. kept.items ≡ drop_dates dropped.now days.now) }
+{
+    let mut kept = Vec::from_slice(alloc, days)?;
+    kept.retain(|day| is_kept(dropped, *day));
+    Ok(kept)
+}
+
+/// Whether the day is none of these.
+fn is_kept(dropped: &[Day], day: Day) -> bool
+    ensures { result ≡ not (is_among dropped.now day) }
+{
+    !dropped.contains(&day)
 }
 
 /// The place of the day among the `count` days from `first` on, counted from 0. None where it is none of them.

@@ -5,7 +5,7 @@ ghost use Rattle.std.specs.Ordering.{int_eq};
 ghost use Rattle.std.specs.List.{IsDistinct};
 ghost use Rattle.std.specs.Arc.{arc_value};
 ghost use Rattle.court_clock.specs.Words.{IsDayNumber, days_through};
-ghost use Rattle.court_days.specs.Days.{DaysView, IsSpan, is_covered, is_holiday, is_among, dates_of, add_date, add_holiday};
+ghost use Rattle.court_days.specs.Days.{DaysView, IsSpan, is_covered, is_holiday, is_among, dates_of, add_date, add_holiday, without_dates};
 ghost use Rattle.court_days.specs.Days.Table.{day_at, permitted_at};
 
 use crate::days::dates::Dates;
@@ -174,6 +174,39 @@ impl Holidays {
         match list {
             HolidayList::Federal => holidays.federal = and_date(alloc, &self.federal, day)?,
             HolidayList::State => holidays.state = and_date(alloc, &self.state, day)?,
+        }
+        Ok(holidays)
+    }
+
+    /// The dates of the list, each once, in the order in which they came.
+    pub(crate) fn listed(&self, list: HolidayList) -> &[Day]
+        ensures { result.now ≡ dates_of self.now list }
+    {
+        match list {
+            HolidayList::Federal => self.federal.as_slice(),
+            HolidayList::State => self.state.as_slice(),
+        }
+    }
+
+    /// The same days without these dates in a holiday list.
+    pub(crate) fn without(
+        &self,
+        alloc: Global,
+        list: HolidayList,
+        dropped: &[Day],
+    ) -> Result<Holidays, AllocError>
+        ensures { IfOk result (λ h. h ≡ without_dates self.now list dropped.now) }
+    {
+        let mut holidays = self.copy()?;
+        match list {
+            HolidayList::Federal => {
+                let kept = self.federal.without(alloc, self.from, self.to, dropped)?;
+                holidays.federal = Arc::new(alloc, kept)?;
+            }
+            HolidayList::State => {
+                let kept = self.state.without(alloc, self.from, self.to, dropped)?;
+                holidays.state = Arc::new(alloc, kept)?;
+            }
         }
         Ok(holidays)
     }

@@ -2,11 +2,13 @@
 
 ghost use Rattle.std.specs.Prelude.{◌≡◌, ℕ, IfOk, OnOk};
 ghost use Rattle.docket_selection.specs.Changes.History.{follow, followed, history_of};
+ghost use Rattle.docket_selection.specs.Changes.Named.{motions_named};
 ghost use Rattle.docket_selection.specs.Changes.Noted.{NotesHistories, noted};
 ghost use Rattle.docket_selection.specs.Changes.Revision.{revision_of};
 
 use crate::changes::change::{Change, HearingChange, RowChange};
 use crate::changes::history::{HearingHistory, changed_to};
+use crate::changes::named::{CaseMotions, motions_by, motions_of};
 use crate::changes::revision::{CaseRows, days_row, later, rows_by};
 use std::alloc::{AllocError, Global};
 use std::collections::HashMap;
@@ -15,19 +17,21 @@ use std::marker::Model;
 /// The history of each motion's hearing, by case and motion.
 type Noted = HashMap<(u32, u32), HearingHistory>;
 
-/// Some changes, in their order: what became of each hearing by them, as one judge saw it or as all did, and which row changed
-/// each case last.
+/// Some changes, in their order: what became of each hearing by them, as one judge saw it or as all did; of which motions of a
+/// case that is known; and which row changed each case last.
 #[derive(Debug, Drop)]
 pub struct HearingHistories {
     judge: Option<u8>,
     changes: Vec<RowChange>,
     noted: Noted,
+    motions: CaseMotions,
     cases: CaseRows,
     days: u64,
 }
 
 impl Model for HearingHistories {
     ghost use Rattle.std.specs.Prelude.{◌≡◌};
+    ghost use Rattle.docket_selection.specs.Changes.Named.{NotesMotions};
     ghost use Rattle.docket_selection.specs.Changes.Noted.{FollowedChanges, NotesHistories, NotesRows};
     ghost use Rattle.docket_selection.specs.Changes.Revision.{changes_days, last_row};
 
@@ -35,7 +39,7 @@ impl Model for HearingHistories {
 
     ghost view = { λ h. record { judge = h.judge; changes = h.changes.items } };
 
-    ghost invariant = { λ h. NotesHistories h.judge h.changes.items h.noted × NotesRows h.changes.items h.cases × (h.days ≡ last_row changes_days h.changes.items) };
+    ghost invariant = { λ h. NotesHistories h.judge h.changes.items h.noted × NotesMotions h.changes.items h.motions × NotesRows h.changes.items h.cases × (h.days ≡ last_row changes_days h.changes.items) };
 }
 
 impl HearingHistories {
@@ -48,12 +52,14 @@ impl HearingHistories {
         ensures { IfOk result (λ histories. histories ≡ record { judge = judge; changes = changes.items }) }
     {
         let noted = noted_by(alloc, judge, &changes)?;
+        let motions = motions_by(alloc, &changes)?;
         let cases = rows_by(alloc, &changes)?;
         let days = days_row(&changes);
         Ok(HearingHistories {
             judge,
             changes,
             noted,
+            motions,
             cases,
             days,
         })
@@ -71,6 +77,13 @@ impl HearingHistories {
         ensures { result ≡ history_of self.now.judge case motion self.now.changes }
     {
         self.noted.get(&(case, motion)).copied()
+    }
+
+    /// The motions of the case whose hearings the changes set or took off, each once, in the order in which they name them first.
+    pub fn motions(&self, case: u32) -> &[u32]
+        ensures { result.now ≡ motions_named case self.now.changes }
+    {
+        motions_of(&self.motions, case)
     }
 
     /// The revision of the events of a case: the number of the last row that changed a deadline or a hearing of it, or the

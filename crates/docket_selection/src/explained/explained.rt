@@ -7,7 +7,7 @@ use court_clock::{Clock, Day};
 use court_days::Days;
 use deadline_reasons::{Reason, reasons_of};
 use docket_rows::{Sheet, SheetDeadline, SheetMotions};
-use reason_notes::other_end;
+use reason_notes::{DaysByReading, other_end};
 use rule6::Shown;
 use std::alloc::{AllocError, Global};
 
@@ -46,10 +46,23 @@ pub fn explained_sheets(
 ) -> Result<Vec<ExplainedSheet>, AllocError>
     ensures { IfOk result (λ list. AreExplained days.now clock.now doubtful.now sheets.items list.items) }
 {
+    let days = DaysByReading::new(alloc, days, doubtful)?;
+    explained_by(alloc, &days, clock, sheets)
+}
+
+/// The sheets, each with the reasons of each deadline.
+fn explained_by(
+    alloc: Global,
+    days: &DaysByReading,
+    clock: &Clock,
+    sheets: Vec<Sheet>,
+) -> Result<Vec<ExplainedSheet>, AllocError>
+    ensures { IfOk result (λ list. AreAlike (IsSheetExplained days.now clock.now) sheets.items list.items) }
+{
     let mut left = sheets;
     let mut list = Vec::new(alloc);
     while let Some(sheet) = left.pop() {
-        list.push(explained_sheet(alloc, days, clock, doubtful, sheet)?)?;
+        list.push(explained_sheet(alloc, days, clock, sheet)?)?;
     }
     list.reverse();
     Ok(list)
@@ -58,12 +71,11 @@ pub fn explained_sheets(
 /// The sheet, with the reasons of each deadline.
 fn explained_sheet(
     alloc: Global,
-    days: &Days,
+    days: &DaysByReading,
     clock: &Clock,
-    doubtful: &[Day],
     sheet: Sheet,
 ) -> Result<ExplainedSheet, AllocError>
-    ensures { IfOk result (λ e. IsSheetExplained days.now clock.now doubtful.now sheet e) }
+    ensures { IfOk result (λ e. IsSheetExplained days.now clock.now sheet e) }
 {
     let Sheet {
         case,
@@ -74,7 +86,7 @@ fn explained_sheet(
     Ok(ExplainedSheet {
         case,
         filed,
-        deadlines: explained_deadlines(alloc, days, clock, doubtful, deadlines.into_vec())?,
+        deadlines: explained_deadlines(alloc, days, clock, deadlines.into_vec())?,
         motions,
     })
 }
@@ -82,17 +94,16 @@ fn explained_sheet(
 /// The deadlines, each with its reasons.
 fn explained_deadlines(
     alloc: Global,
-    days: &Days,
+    days: &DaysByReading,
     clock: &Clock,
-    doubtful: &[Day],
     deadlines: Vec<SheetDeadline>,
 ) -> Result<Vec<ExplainedDeadline>, AllocError>
-    ensures { IfOk result (λ list. AreAlike (IsExplained days.now clock.now doubtful.now) deadlines.items list.items) }
+    ensures { IfOk result (λ list. AreAlike (IsExplained days.now clock.now) deadlines.items list.items) }
 {
     let mut left = deadlines;
     let mut list = Vec::new(alloc);
     while let Some(deadline) = left.pop() {
-        list.push(explained_deadline(alloc, days, clock, doubtful, deadline)?)?;
+        list.push(explained_deadline(alloc, days, clock, deadline)?)?;
     }
     list.reverse();
     Ok(list)
@@ -101,15 +112,14 @@ fn explained_deadlines(
 /// The deadline, with its reasons and the end by another reading.
 fn explained_deadline(
     alloc: Global,
-    days: &Days,
+    days: &DaysByReading,
     clock: &Clock,
-    doubtful: &[Day],
     deadline: SheetDeadline,
 ) -> Result<ExplainedDeadline, AllocError>
-    ensures { IfOk result (λ e. IsExplained days.now clock.now doubtful.now deadline e) }
+    ensures { IfOk result (λ e. IsExplained days.now clock.now deadline e) }
 {
-    let reasons = reasons_of(alloc, days, clock, &deadline.row)?;
-    let other = other_end(alloc, days, clock, doubtful, &deadline.row)?;
+    let reasons = reasons_of(alloc, days.here(), clock, &deadline.row)?;
+    let other = other_end(alloc, days, clock, &deadline.row)?;
     Ok(ExplainedDeadline {
         deadline,
         reasons,

@@ -1,8 +1,7 @@
 -- The lines of other readings: one for each that gives another end.
-use Rattle.std.specs.Prelude.{◌≡◌, ◌↔◌, ℕ, ℤ, List, [], ◌++◌, Option, Some, None, codes}
+use Rattle.std.specs.Prelude.{◌≡◌, ◌↔◌, ℕ, List, [], ◌++◌, Option, Some, None, codes}
 use Rattle.std.specs.List.{flat_map}
 use Rattle.court_clock.specs.Words.{ClockView}
-use Rattle.court_days.specs.Words.{DaysView}
 use Rattle.rule6.specs.declared.timeliness.Shown.{Shown}
 use Rattle.rule6.specs.declared.timeliness.Shown.TheVariants.{Last, Until, Beyond}
 use Rattle.rule_periods.specs.Words.{DeadlineRowView}
@@ -10,6 +9,7 @@ use Rattle.reason_texts.specs.Words.{note_line}
 use Rattle.reason_notes.specs.Margins.Words.{end_day, end_time}
 use Rattle.reason_notes.specs.declared.readings.reading.Reading.{Reading}
 use Rattle.reason_notes.specs.declared.readings.reading.Reading.TheVariants.{OutageMovesNothing, OutageMovesService, ExtendedFromMovedDay, OutageBeforeAddedDays, HoursFromEndOfDay, FridayIsOpen, DoubtfulIsOpen}
+use Rattle.reason_notes.specs.Readings.ByReading.{DaysByReadingView}
 use Rattle.reason_notes.specs.Readings.Others.{all_readings, other_by, other_end}
 
 abbrev pub reading_words : Reading → List ℕ
@@ -35,13 +35,13 @@ abbrev pub line_of : ClockView → Reading → Option Shown → List ℕ
 line_of clock reading None = []
 line_of clock reading (Some other) = note_line (end_day clock other) (reading_text clock reading other) (codes "ours")
 
-abbrev pub reading_line : DaysView → ClockView → (doubtful : List ℤ) → DeadlineRowView → Reading → List ℕ
-reading_line c clock doubtful row reading = line_of clock reading (other_by c clock doubtful row reading)
+abbrev pub reading_line : DaysByReadingView → ClockView → DeadlineRowView → Reading → List ℕ
+reading_line c clock row reading = line_of clock reading (other_by c clock row reading)
 
 -- the lines of all readings
-unfoldable pub reading_lines : DaysView → ClockView → (doubtful : List ℤ) → DeadlineRowView → List ℕ
-reading_lines c clock doubtful row = flat_map (reading_line c clock doubtful row) all_readings
+unfoldable pub reading_lines : DaysByReadingView → ClockView → DeadlineRowView → List ℕ
+reading_lines c clock row = flat_map (reading_line c clock row) all_readings
 
 -- A deadline has no other end exactly where it has no line of another reading.
 abbrev pub NoOtherEndHasNoLine : Type 0
-NoOtherEndHasNoLine = (c : DaysView) (clock : ClockView) (doubtful : List ℤ) (row : DeadlineRowView) → (other_end c clock doubtful row ≡ None) ↔ (reading_lines c clock doubtful row ≡ [])
+NoOtherEndHasNoLine = (c : DaysByReadingView) (clock : ClockView) (row : DeadlineRowView) → (other_end c clock row ≡ None) ↔ (reading_lines c clock row ≡ [])

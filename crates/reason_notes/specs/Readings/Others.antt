@@ -1,14 +1,14 @@
 -- Which other readings give a deadline another end than the one that is shown.
-use Rattle.std.specs.Prelude.{◌≡◌, ℤ, Bool, true, false, not, List, [], ◌∷◌, map, Option, Some, None, if◌then◌else◌}
+use Rattle.std.specs.Prelude.{◌≡◌, Bool, true, false, not, List, [], ◌∷◌, map, Option, Some, None, if◌then◌else◌}
 use Rattle.std.specs.List.{fold}
 use Rattle.std.specs.Ordering.{int_eq}
 use Rattle.court_clock.specs.Words.{ClockView}
-use Rattle.court_days.specs.Words.{DaysView}
 use Rattle.rule6.specs.declared.timeliness.Shown.{Shown}
 use Rattle.rule6.specs.declared.timeliness.Shown.TheVariants.{Last, Until, Beyond}
 use Rattle.rule_periods.specs.Words.{DeadlineRowView, shown_of}
 use Rattle.reason_notes.specs.declared.readings.reading.Reading.{Reading}
 use Rattle.reason_notes.specs.declared.readings.reading.Reading.TheVariants.{OutageMovesNothing, OutageMovesService, ExtendedFromMovedDay, OutageBeforeAddedDays, HoursFromEndOfDay, FridayIsOpen, DoubtfulIsOpen}
+use Rattle.reason_notes.specs.Readings.ByReading.{DaysByReadingView}
 use Rattle.reason_notes.specs.Readings.Earlier.{earlier_of, is_earlier}
 use Rattle.reason_notes.specs.Readings.Readings.{shown_by}
 
@@ -35,22 +35,22 @@ if_differs shown (Some other) = if differs shown other then Some other else None
 if_differs shown None = None
 
 -- what a reading gives in place of the end that is shown, where it gives another
-abbrev pub other_by : DaysView → ClockView → (doubtful : List ℤ) → DeadlineRowView → Reading → Option Shown
-other_by c clock doubtful row reading = if_differs (shown_of c clock row) (shown_by c clock doubtful row reading)
+abbrev pub other_by : DaysByReadingView → ClockView → DeadlineRowView → Reading → Option Shown
+other_by c clock row reading = if_differs (shown_of c.here clock row) (shown_by c clock row reading)
 
 -- the earliest of some ends, if there is one, and of those that come at once the first
 abbrev pub earliest_of : ClockView → List (Option Shown) → Option Shown
 earliest_of clock ends = fold (earlier_of clock) None ends
 
 -- the earliest other end, if a reading gives one, and of those that come at once the first in the order of the lines
-unfoldable pub other_end : DaysView → ClockView → (doubtful : List ℤ) → DeadlineRowView → Option Shown
-other_end c clock doubtful row = earliest_of clock (map (other_by c clock doubtful row) all_readings)
+unfoldable pub other_end : DaysByReadingView → ClockView → DeadlineRowView → Option Shown
+other_end c clock row = earliest_of clock (map (other_by c clock row) all_readings)
 
 -- The end is one that a reading gives in place of the end that is shown, and no reading gives one that comes before it.
-pub record IsEarliest (c : DaysView) (clock : ClockView) (doubtful : List ℤ) (row : DeadlineRowView) (end : Shown) : Type 0 where
-  pub given : (reading : Reading) × (other_by c clock doubtful row reading ≡ Some end)
-  pub least : (reading : Reading) (other : Shown) → other_by c clock doubtful row reading ≡ Some other → is_earlier clock other end ≡ false
+pub record IsEarliest (c : DaysByReadingView) (clock : ClockView) (row : DeadlineRowView) (end : Shown) : Type 0 where
+  pub given : (reading : Reading) × (other_by c clock row reading ≡ Some end)
+  pub least : (reading : Reading) (other : Shown) → other_by c clock row reading ≡ Some other → is_earlier clock other end ≡ false
 
 -- the other end is the earliest
 abbrev pub OtherEndIsEarliest : Type 0
-OtherEndIsEarliest = (c : DaysView) (clock : ClockView) (doubtful : List ℤ) (row : DeadlineRowView) (end : Shown) → other_end c clock doubtful row ≡ Some end → IsEarliest c clock doubtful row end
+OtherEndIsEarliest = (c : DaysByReadingView) (clock : ClockView) (row : DeadlineRowView) (end : Shown) → other_end c clock row ≡ Some end → IsEarliest c clock row end

@@ -1,7 +1,7 @@
 -- Other readings of what the Rules leave open. What is shown by one is `shown_of` with one clause changed: of the deadline as
--- it is docketed, and of the same deadline with another act, another event, or its days counted in two steps; or it is a day
--- to which the last count leads, or over which it passes.
-use Rattle.std.specs.Prelude.{ℕ, ◌==◌, ℤ, Bool, true, false, ◌&&◌, List, [], option_map, Option, Some, None, if◌then◌else◌}
+-- it is docketed, and of the same deadline with another act, another event, or its days counted in two steps; or with some days
+-- that aren't legal holidays.
+use Rattle.std.specs.Prelude.{ℕ, ◌==◌, Bool, true, false, ◌&&◌, List, [], option_map, Option, Some, None, if◌then◌else◌}
 use Rattle.court_clock.specs.Words.{ClockView}
 use Rattle.court_days.specs.Words.{DaysView}
 use Rattle.rule6.specs.declared.timeliness.Act.{Act}
@@ -14,8 +14,7 @@ use Rattle.rule_periods.specs.Words.{DeadlineRowView, act_due, is_days, is_in_ho
 use Rattle.reason_notes.specs.declared.readings.reading.Reading.{Reading}
 use Rattle.reason_notes.specs.declared.readings.reading.Reading.TheVariants.{OutageMovesNothing, OutageMovesService, ExtendedFromMovedDay, OutageBeforeAddedDays, HoursFromEndOfDay, FridayIsOpen, DoubtfulIsOpen}
 use Rattle.reason_notes.specs.Readings.Changed.{adds_days, before_last, counted_again, day_after, last_grant, started_on, with_act, without_added}
-use Rattle.reason_notes.specs.Readings.Friday.{friday_is_open}
-use Rattle.reason_notes.specs.Readings.Doubtful.{doubtful_is_open}
+use Rattle.reason_notes.specs.Readings.ByReading.{DaysByReadingView}
 
 -- what is shown where this number of days, if it is a length of a period, is counted from a day that is shown, to file; from an
 -- end beyond the days covered nothing but beyond
@@ -56,11 +55,11 @@ hours_from_end c clock row true = option_map (λ next. shown_of c clock (started
 hours_from_end c clock row false = None
 
 -- what is shown of a deadline by another reading, where it bears on the deadline
-abbrev pub shown_by : DaysView → ClockView → (doubtful : List ℤ) → DeadlineRowView → Reading → Option Shown
-shown_by c clock doubtful row OutageMovesNothing = outage_moves_nothing c clock row (act_due row)
-shown_by c clock doubtful row OutageMovesService = outage_moves_service c clock row (act_due row)
-shown_by c clock doubtful row ExtendedFromMovedDay = extended_from_moved c clock row (last_grant row) (act_due row)
-shown_by c clock doubtful row OutageBeforeAddedDays = outage_before_added c clock row (act_due row) row.grants (adds_days row)
-shown_by c clock doubtful row HoursFromEndOfDay = hours_from_end c clock row (is_in_hours row.period && (row.event.minute == 0))
-shown_by c clock doubtful row FridayIsOpen = friday_is_open c clock row
-shown_by c clock doubtful row DoubtfulIsOpen = doubtful_is_open c clock doubtful row
+abbrev pub shown_by : DaysByReadingView → ClockView → DeadlineRowView → Reading → Option Shown
+shown_by c clock row OutageMovesNothing = outage_moves_nothing c.here clock row (act_due row)
+shown_by c clock row OutageMovesService = outage_moves_service c.here clock row (act_due row)
+shown_by c clock row ExtendedFromMovedDay = extended_from_moved c.here clock row (last_grant row) (act_due row)
+shown_by c clock row OutageBeforeAddedDays = outage_before_added c.here clock row (act_due row) row.grants (adds_days row)
+shown_by c clock row HoursFromEndOfDay = hours_from_end c.here clock row (is_in_hours row.period && (row.event.minute == 0))
+shown_by c clock row FridayIsOpen = Some (shown_of c.fridays_open clock row)
+shown_by c clock row DoubtfulIsOpen = Some (shown_of c.doubtful_open clock row)

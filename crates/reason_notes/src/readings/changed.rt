@@ -3,7 +3,7 @@
 ghost use Rattle.std.specs.Prelude.{◌≡◌, None, true, false, IfOk};
 ghost use Rattle.rule_periods.specs.Words.{is_days, is_length, runs_from, suits};
 ghost use Rattle.rule_periods.specs.declared.period.Period.TheVariants.{Entered as EnteredPeriod};
-ghost use Rattle.reason_notes.specs.Readings.Changed.{adds_days, as_entered, before_last, counted_again, day_after, kind_kept, last_grant, started_on, with_terms};
+ghost use Rattle.reason_notes.specs.Readings.Changed.{adds_days, as_entered, before_last, counted_again, day_after, kind_kept, last_grant, started_on, with_terms, without_added};
 
 use court_clock::{Day, Direction};
 use rule_periods::{
@@ -14,7 +14,7 @@ use rule6::{Act, ServiceKind};
 use std::alloc::{AllocError, Global};
 
 /// The period as one that is entered.
-pub(crate) fn as_entered(row: &DeadlineRow) -> Entered
+fn as_entered(row: &DeadlineRow) -> Entered
     ensures value { result ≡ as_entered row.now row.now.period }
     ensures suits { suits (EnteredPeriod result) None (kind_kept result.served row.now.service) ≡ true }
     ensures length { is_length result.length ≡ true }
@@ -51,16 +51,12 @@ pub(crate) fn with_act(
     remade(alloc, row, Entered { act, ..entered }, kind)
 }
 
-/// The same deadline with this act, without the days of Rule 6(d).
-pub(crate) fn without_added(
-    alloc: Global,
-    row: &DeadlineRow,
-    act: Act,
-) -> Result<DeadlineRow, AllocError>
-    ensures { IfOk result (λ other. other ≡ with_terms act false row.now) }
+/// The same deadline, to file, without the days of Rule 6(d).
+pub(crate) fn without_added(alloc: Global, row: &DeadlineRow) -> Result<DeadlineRow, AllocError>
+    ensures { IfOk result (λ other. other ≡ without_added row.now) }
 {
     let entered = Entered {
-        act,
+        act: Act::Filing,
         served: false,
         ..as_entered(row)
     };

@@ -5,45 +5,43 @@ ghost use Rattle.std.specs.List.{flat_map};
 ghost use Rattle.reason_notes.specs.Readings.Lines.{given_text, line_of, reading_line, reading_lines, reading_text, reading_words};
 
 use crate::margins::{end_day, push_end_time};
+use crate::readings::by_reading::DaysByReading;
 use crate::readings::others::other_by;
 use crate::readings::reading::{ALL, Reading};
-use court_clock::{Clock, Day};
-use court_days::Days;
+use court_clock::Clock;
 use reason_texts::push_note;
 use rule_periods::DeadlineRow;
 use rule6::Shown;
 use std::alloc::{AllocError, Global};
 
-/// Adds a line for each other reading that gives another end than the one that is shown of the deadline, where these days are
-/// doubtful. `Err` says that memory ran out.
+/// Adds a line for each other reading that gives another end than the one that is shown of the deadline.
+/// `Err` says that memory ran out.
 #[tactic(auto, unfolding(crate::specs::Readings::Lines::reading_lines))]
 pub fn push_readings(
     alloc: Global,
     text: &mut String,
-    days: &Days,
+    days: &DaysByReading,
     clock: &Clock,
-    doubtful: &[Day],
     row: &DeadlineRow,
 ) -> Result<(), AllocError>
-    ensures { OnOk result (string_bytes text.new ≡ string_bytes text.old ++ reading_lines days.now clock.now doubtful.now row.now) }
+    ensures { OnOk result (string_bytes text.new ≡ string_bytes text.old ++ reading_lines days.now clock.now row.now) }
 {
-    push_each(alloc, text, days, clock, doubtful, row, &ALL[..])
+    push_each(alloc, text, days, clock, row, &ALL[..])
 }
 
 /// Adds a line for each of these readings that gives another end.
 fn push_each(
     alloc: Global,
     text: &mut String,
-    days: &Days,
+    days: &DaysByReading,
     clock: &Clock,
-    doubtful: &[Day],
     row: &DeadlineRow,
     readings: &[Reading],
 ) -> Result<(), AllocError>
-    ensures { OnOk result (string_bytes text.new ≡ string_bytes text.old ++ flat_map (reading_line days.now clock.now doubtful.now row.now) readings.now) }
+    ensures { OnOk result (string_bytes text.new ≡ string_bytes text.old ++ flat_map (reading_line days.now clock.now row.now) readings.now) }
 {
     for reading in readings {
-        let other = other_by(alloc, days, clock, doubtful, row, *reading)?;
+        let other = other_by(alloc, days, clock, row, *reading)?;
         push_line(alloc, text, clock, *reading, other)?;
     }
     Ok(())

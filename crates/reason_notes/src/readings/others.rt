@@ -3,45 +3,43 @@
 ghost use Rattle.std.specs.Prelude.{◌≡◌, map, IfOk};
 ghost use Rattle.reason_notes.specs.Readings.Others.{differs, earliest_of, if_differs, other_by, other_end};
 
+use crate::readings::by_reading::DaysByReading;
 use crate::readings::earlier::earlier_of;
 use crate::readings::reading::{ALL, Reading, shown_by};
-use court_clock::{Clock, Day};
-use court_days::Days;
+use court_clock::Clock;
 use rule_periods::{DeadlineRow, shown};
 use rule6::Shown;
 use std::alloc::{AllocError, Global};
 
-/// The earliest of the ends that other readings give the deadline in place of the one that is shown, where these days are doubtful:
+/// The earliest of the ends that other readings give the deadline in place of the one that is shown:
 /// by its day on the court's clock, and on one day by its instant, which comes before the end of that day. An end beyond the days
 /// covered comes last. None where no reading gives another end, which is where the deadline has no line of another reading. `Err`
 /// says that memory ran out.
 #[tactic(auto, unfolding(crate::specs::Readings::Others::other_end))]
 pub fn other_end(
     alloc: Global,
-    days: &Days,
+    days: &DaysByReading,
     clock: &Clock,
-    doubtful: &[Day],
     row: &DeadlineRow,
 ) -> Result<Option<Shown>, AllocError>
-    ensures { IfOk result (λ other. other ≡ other_end days.now clock.now doubtful.now row.now) }
+    ensures { IfOk result (λ other. other ≡ other_end days.now clock.now row.now) }
 {
-    earliest_other(alloc, days, clock, doubtful, row, &ALL[..])
+    earliest_other(alloc, days, clock, row, &ALL[..])
 }
 
 /// The earliest of the ends that these readings give in place of the one that is shown.
 fn earliest_other(
     alloc: Global,
-    days: &Days,
+    days: &DaysByReading,
     clock: &Clock,
-    doubtful: &[Day],
     row: &DeadlineRow,
     readings: &[Reading],
 ) -> Result<Option<Shown>, AllocError>
-    ensures { IfOk result (λ other. other ≡ earliest_of clock.now (map (other_by days.now clock.now doubtful.now row.now) readings.now)) }
+    ensures { IfOk result (λ other. other ≡ earliest_of clock.now (map (other_by days.now clock.now row.now) readings.now)) }
 {
     let mut earliest = None;
     for reading in readings {
-        let other = other_by(alloc, days, clock, doubtful, row, *reading)?;
+        let other = other_by(alloc, days, clock, row, *reading)?;
         earliest = earlier_of(clock, earliest, other);
     }
     Ok(earliest)
@@ -51,16 +49,15 @@ fn earliest_other(
 /// deadline. `Err` says that memory ran out.
 pub(crate) fn other_by(
     alloc: Global,
-    days: &Days,
+    days: &DaysByReading,
     clock: &Clock,
-    doubtful: &[Day],
     row: &DeadlineRow,
     reading: Reading,
 ) -> Result<Option<Shown>, AllocError>
-    ensures { IfOk result (λ other. other ≡ other_by days.now clock.now doubtful.now row.now reading) }
+    ensures { IfOk result (λ other. other ≡ other_by days.now clock.now row.now reading) }
 {
-    let other = shown_by(alloc, days, clock, doubtful, row, reading)?;
-    Ok(if_differs(&shown(days, clock, row), other))
+    let other = shown_by(alloc, days, clock, row, reading)?;
+    Ok(if_differs(&shown(days.here(), clock, row), other))
 }
 
 /// The end, if there is one and it isn't the one that is shown.

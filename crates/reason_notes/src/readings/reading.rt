@@ -5,12 +5,11 @@ ghost use Rattle.rule_periods.specs.Words.{act_due, is_in_hours};
 ghost use Rattle.reason_notes.specs.Readings.Changed.{adds_days, last_grant};
 ghost use Rattle.reason_notes.specs.Readings.Readings.{extended_from_moved, hours_from_end, outage_before_added, outage_moves_nothing, outage_moves_service, shown_again, shown_by};
 
+use crate::readings::by_reading::DaysByReading;
 use crate::readings::changed::{
     adds_days, before_last, counted_again, day_after, last_grant, started_on, with_act,
     without_added,
 };
-use crate::readings::doubtful::doubtful_is_open;
-use crate::readings::friday::friday_is_open;
 use court_clock::{Clock, Day};
 use court_days::Days;
 use rule_periods::{DeadlineRow, Grant, act_due, shown};
@@ -47,26 +46,25 @@ pub(crate) const ALL: [Reading; 7] = [
     Reading::DoubtfulIsOpen,
 ];
 
-/// What is shown of the deadline by another reading. `doubtful` has the days of which it is in doubt whether the state
-/// declares them holidays, in their order. None where the reading doesn't bear on the deadline. `Err` says that memory ran out.
+/// What is shown of the deadline by another reading. None where the reading doesn't bear on the deadline. `Err` says that memory
+/// ran out.
 pub fn shown_by(
     alloc: Global,
-    days: &Days,
+    days: &DaysByReading,
     clock: &Clock,
-    doubtful: &[Day],
     row: &DeadlineRow,
     reading: Reading,
 ) -> Result<Option<Shown>, AllocError>
-    ensures { IfOk result (λ other. other ≡ shown_by days.now clock.now doubtful.now row.now reading) }
+    ensures { IfOk result (λ other. other ≡ shown_by days.now clock.now row.now reading) }
 {
     match reading {
-        Reading::OutageMovesNothing => outage_moves_nothing(alloc, days, clock, row),
-        Reading::OutageMovesService => outage_moves_service(alloc, days, clock, row),
-        Reading::ExtendedFromMovedDay => extended_from_moved(alloc, days, clock, row),
-        Reading::OutageBeforeAddedDays => outage_before_added(alloc, days, clock, row),
-        Reading::HoursFromEndOfDay => hours_from_end(alloc, days, clock, row),
-        Reading::FridayIsOpen => friday_is_open(alloc, days, clock, row),
-        Reading::DoubtfulIsOpen => doubtful_is_open(alloc, days, clock, doubtful, row),
+        Reading::OutageMovesNothing => outage_moves_nothing(alloc, days.here(), clock, row),
+        Reading::OutageMovesService => outage_moves_service(alloc, days.here(), clock, row),
+        Reading::ExtendedFromMovedDay => extended_from_moved(alloc, days.here(), clock, row),
+        Reading::OutageBeforeAddedDays => outage_before_added(alloc, days.here(), clock, row),
+        Reading::HoursFromEndOfDay => hours_from_end(alloc, days.here(), clock, row),
+        Reading::FridayIsOpen => Ok(Some(shown(days.fridays_open(), clock, row))),
+        Reading::DoubtfulIsOpen => Ok(Some(shown(days.doubtful_open(), clock, row))),
     }
 }
 
@@ -135,7 +133,7 @@ fn outage_before_added(
 {
     match act_due(row) {
         Act::Filing if row.grants().is_empty() && adds_days(row) => {
-            let before = without_added(alloc, row, Act::Filing)?;
+            let before = without_added(alloc, row)?;
             Ok(shown_again(alloc, days, clock, 3, shown(days, clock, &before)))
         }
         _ => Ok(None),

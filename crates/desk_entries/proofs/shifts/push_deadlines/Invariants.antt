@@ -5,4 +5,4 @@ use Rattle.desk_entries.proofs.shifts.push_deadlines.Given as goal
 
 -- the lines so far, and those of the deadlines that are left, are all the lines
 abbrev pub invariant-loop-deadline : goal.invariant-loop-deadline
-invariant-loop-deadline l = string_bytes l.text ++ flat_map (deadline_shift l.court.clock l.before l.cases.named l.case) (drop l.deadline-index l.deadlines) ≡ string_bytes l.fn.text ++ flat_map (deadline_shift l.court.clock l.before l.cases.named l.case) l.deadlines
+invariant-loop-deadline l = string_bytes l.text ++ flat_map (deadline_shift l.court l.before l.cases.named l.case) (drop l.deadline-index l.deadlines) ≡ string_bytes l.fn.text ++ flat_map (deadline_shift l.court l.before l.cases.named l.case) l.deadlines

@@ -11,20 +11,21 @@ pub loop-case-preserved : goal.loop-case-preserved
 loop-case-preserved c = record {
   within = omega (arith, c.loop-case-test.true);
   so_far = λ docketed holds.
-      let setup = setup_of c.args.court.now in
+      let court = c.args.court.now in
+      let setup = setup_of court in
       let moved = c.args.moved.now in
       let named = c.args.cases.now.named in
       let case = c.loop-case.case in
       let end = c.args.first + c.args.count in
       let before = string_bytes c.loop-case.text in
-      let sheet = λ (v : View). sheet_shifts setup.clock c.args.before.now named v in
+      let sheet = λ (v : View). sheet_shifts court c.args.before.now named v in
       let shown = numbered_view moved (view_of setup docketed (query.Sheet case)) in
-      let later = shifts_from setup docketed moved named c.args.before.now (case + 1) (end - (case + 1)) in
+      let later = shifts_from court docketed moved named c.args.before.now (case + 1) (end - (case + 1)) in
       let seen : c.number_view-view.result ≡ shown =
       c.number_view-view.ensures ∙ ap (numbered_view moved) (c.in_ok-seen.ensures.rows docketed holds.stands ∙ ap (λ (s : CourtSetup). view_of s docketed (query.Sheet case)) holds.setup_is) in
       ap (λ (l : List ℕ). l ++ later) (c.in_ok-push_sheet.ensures ∙ ap (λ (v : View). before ++ sheet v) seen)
       ∙ append_assoc before (sheet shown) later
-      ∙ ap (λ (l : List ℕ). before ++ l) (sym (shifts_more setup docketed moved named c.args.before.now case end c.loop-case-test.true))
+      ∙ ap (λ (l : List ℕ). before ++ l) (sym (shifts_more court docketed moved named c.args.before.now case end c.loop-case-test.true))
       ∙ c.loop-case.invariant.so_far docketed holds;
 }
 

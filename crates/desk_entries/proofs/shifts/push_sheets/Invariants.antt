@@ -8,5 +8,5 @@ use Rattle.desk_entries.proofs.shifts.push_sheets.Given as goal
 abbrev pub invariant-loop-case : goal.invariant-loop-case
 invariant-loop-case l = record {
   within : l.case ≤ l.fn.first + l.fn.count;
-  so_far : (docketed : Rows) → Holds (setup_of l.court) l.docket docketed → string_bytes l.text ++ shifts_from (setup_of l.court) docketed l.moved l.cases.named l.before l.case (l.fn.first + l.fn.count - l.case) ≡ string_bytes l.fn.text ++ shifts_from (setup_of l.court) docketed l.moved l.cases.named l.before l.fn.first l.fn.count;
+  so_far : (docketed : Rows) → Holds (setup_of l.court) l.docket docketed → string_bytes l.text ++ shifts_from l.court docketed l.moved l.cases.named l.before l.case (l.fn.first + l.fn.count - l.case) ≡ string_bytes l.fn.text ++ shifts_from l.court docketed l.moved l.cases.named l.before l.fn.first l.fn.count;
 }

@@ -15,5 +15,5 @@ returns c = λ docketed stands.
     let setup = setup_of c.args.court.now in
     let days : c.days.result.now ≡ docketed.days = c.days.ensures ∙ (hold_same (parts_held c.args.docket.now) (parts_of docketed) stands).days in
     let sheets : c.deref.result.now ≡ open_sheets setup docketed = c.deref.ensures.value ∙ c.in_ok-sheets.ensures docketed stands ∙ ap (λ s. open_sheets s docketed) c.requires.court in
-    let all : c.in_ok-items.items.items ≡ all_due setup docketed c.args.doubtful.now choice = rw (days, c.clock.ensures, sheets) at c.in_ok-items.ensures in
+    let all : c.in_ok-items.items.items ≡ all_due setup docketed c.args.doubtful.now choice = rw (c.in_ok-days.ensures, days, c.clock.ensures, sheets) at c.in_ok-items.ensures in
     subst (λ (items : List DueItem). IfOk c.in_order.result (λ list. AreInOrder items list.items)) all c.in_order.ensures

@@ -1,27 +1,24 @@
 use Rattle.std.proofs.Common.{◌≡◌, ◌∙◌, ◌++◌, Some, None, codes, string_bytes, ap, sym}
-use Rattle.docket_rows.specs.Words.{setup_of}
 use Rattle.desk_numbers.specs.Words.{numbered}
 use Rattle.office_texts.specs.Run.Words.{row_numbers}
 use Rattle.office_texts.specs.Named.Words.{named_line_of}
 use Rattle.report_memo.specs.declared.detail.Detail.TheVariants.{Reasons}
 use Rattle.report_texts.specs.Words.{LabelsView}
+use Rattle.report_memo.specs.Reasons.{days_docketed}
 use Rattle.report_memo.specs.Replies.{IsTold, sheet_replied}
 use Rattle.report_memo.specs.Sheets.{IsSheet}
 use Rattle.report_memo.specs.Texts.{Is}
-use Rattle.report_memo.proofs.DocketLemmas.{days_held}
 use Rattle.report_memo.proofs.TextLemmas.{adds_text, adds_then, on_ok}
 use Rattle.report_memo.proofs.replies.push_explained.Goals as goal
 
 pub returns-in_ok-push_sheet_front-in-Some : goal.returns-in_ok-push_sheet_front-in-Some
 returns-in_ok-push_sheet_front-in-Some c docketed answered =
-    let setup = setup_of c.args.court.now in
     let labels = c.args.labels.now in
     let n = c.args.row.now in
     let moved : c.labels.inside.moved.now ≡ labels.moved = ap (λ (l : LabelsView). l.moved) c.labels.view_is in
     let found : sheet_replied (numbered labels.moved n.row.work c.args.reply) ≡ Some c.in-Some.sheet.now = sym (ap sheet_replied (rw moved at c.number_reply-numbered.ensures)) ∙ sym c.in-Some.ensures in
-    let days : c.days.result.now ≡ docketed.days = c.days.ensures ∙ days_held setup c.args.docket.now docketed answered.holds in
     let front = row_numbers n.number n.row.clerk ++ codes "sheet\n" in
-    rw found (on_ok c.push_sheet.result (λ added. adds_then (Is front) (IsSheet c.args.court.now labels docketed.days Reasons c.in-Some.sheet.now) (string_bytes c.args.text.now) _ (string_bytes c.push_sheet.new.text) (adds_text front _ _ c.in_ok-push_sheet_front-in-Some.ensures) added) (rw days at c.push_sheet.ensures))
+    rw found (on_ok c.push_sheet.result (λ added. adds_then (Is front) (IsSheet c.args.court.now labels (days_docketed labels docketed) Reasons c.in-Some.sheet.now) (string_bytes c.args.text.now) _ (string_bytes c.push_sheet.new.text) (adds_text front _ _ c.in_ok-push_sheet_front-in-Some.ensures) added) (rw answered.read at c.push_sheet.ensures))
 
 pub returns-in_ok-push_named_line-in-None : goal.returns-in_ok-push_named_line-in-None
 returns-in_ok-push_named_line-in-None c docketed answered =

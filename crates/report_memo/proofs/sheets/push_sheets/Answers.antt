@@ -5,7 +5,7 @@ use Rattle.desk_numbers.specs.Words.{numbered_view}
 use Rattle.report_texts.specs.Words.{LabelsView}
 use Rattle.report_memo.specs.Memo.{IsSheetOf}
 use Rattle.report_memo.specs.Texts.{Adds}
-use Rattle.report_memo.proofs.DocketLemmas.{days_held}
+use Rattle.report_memo.proofs.DocketLemmas.{days_read}
 use Rattle.report_memo.proofs.TextLemmas.{adds_range, adds_range_end}
 use Rattle.report_memo.proofs.sheets.push_sheets.Goals as goal
 
@@ -18,7 +18,8 @@ loop-case-preserved c =
     record {
       within = omega (arith, c.loop-case-test.true);
       leads = λ docketed new holds rest.
-          let days = c.days.ensures ∙ days_held setup c.args.docket.now docketed holds in
+          let marked : c.labels.inside.doubtful.now ≡ c.args.labels.now.doubtful = ap (λ (l : LabelsView). l.doubtful) c.labels.view_is in
+          let days = days_read setup c.args.docket.now docketed holds c.args.labels.now _ _ _ c.in_ok-days.ensures c.days.ensures marked in
           let moved : c.labels.inside.moved.now ≡ c.args.labels.now.moved = ap (λ (l : LabelsView). l.moved) c.labels.view_is in
           let view = rw moved at c.number_view-numbered.ensures ∙ ap (numbered_view c.args.labels.now.moved) (c.in_ok-view.ensures.rows docketed holds.stands ∙ ap (λ b. view_of b docketed (query.Sheet case)) holds.setup_is) in
           let shown : Adds (IsSheetOf court c.args.labels.now docketed case) (string_bytes c.loop-case.text) _ = rw view at (rw days at c.in_ok-push_sheet_shown.ensures) in

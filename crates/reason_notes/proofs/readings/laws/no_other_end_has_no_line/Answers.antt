@@ -5,4 +5,4 @@ use Rattle.reason_notes.proofs.readings.laws.no_other_end_has_no_line.Goals as g
 
 pub returns : goal.returns
 unfolding other_end reading_lines
-returns c days clock doubtful row = none_lined clock (other_by days clock doubtful row) all_readings
+returns c days clock row = none_lined clock (other_by days clock row) all_readings

@@ -4,6 +4,6 @@ use Rattle.reason_notes.proofs.readings.laws.other_end_is_earliest.Goals as goal
 
 pub returns : goal.returns
 unfolding other_end
-returns c days clock doubtful row end is =
-    let gives = other_by days clock doubtful row in
+returns c days clock row end is =
+    let gives = other_by days clock row in
     record { given = given_by clock gives end is; least = none_before clock gives end is }
