@@ -1,5 +1,5 @@
 -- The cases that entries opened, after one more; and how lines are read.
-use Rattle.std.proofs.Common.{◌≡◌, ◌∙◌, ◌<◌, ℕ, Bool, true, false, cond, List, [], ◌∷◌, ◌++◌, Option, Some, None, length, refl, sym, ap, arith}
+use Rattle.std.proofs.Common.{◌≡◌, ◌∙◌, ◌<◌, ℕ, Bool, true, false, cond, List, [], ◌∷◌, ◌++◌, Option, Some, None, length, refl, ap}
 use Rattle.std.specs.Prelude.{◌&&◌, IsSome, codes, is_none, option_map}
 use Rattle.std.specs.Str.{bytes_eq}
 use Rattle.case_numbers.specs.Words.{AreApart, CasesView, NameView, after_name, fresh, name_before, no_cases, number_of}

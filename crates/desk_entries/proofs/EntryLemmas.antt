@@ -32,8 +32,8 @@ use Rattle.case_numbers.specs.Words.{CasesView, NameView, after_name, case_read,
 use Rattle.case_numbers.proofs.CallerLemmas.{name_of_line, no_name_line, no_name_past, rest_of_line}
 use Rattle.desk_entries.specs.Cases.{cases_of}
 use Rattle.desk_entries.specs.CaseLines.{case_in, fresh_for, lacks_field, most_name, named, named_if, newly, reading_of}
-use Rattle.desk_entries.specs.Entries.{court_mark, later_file, most_clerks, most_rows, note_in}
-use Rattle.desk_entries.specs.Rows.{answer_to, entry_of, follows, kept_leaves, leaves, left_of, plain_leaves, reading_at, with_name, within}
+use Rattle.desk_entries.specs.Entries.{court_mark, later_file, most_clerks, note_in}
+use Rattle.desk_entries.specs.Rows.{answer_to, asks, entry_of, follows, has_room, kept_leaves, leaves, left_of, plain_leaves, reading_at, row_in, with_name, within}
 use Rattle.desk_entries.specs.Laws.{WhatIsLeftFollows}
 use Rattle.desk_entries.proofs.ListLemmas.{no_note}
 
@@ -256,15 +256,46 @@ reading_read names cases line = by (lacks_field 3 (line_read most_clerks names l
     by true = named_if_read cases line (fields_read line) (case_in (fields_read line)) (case_in_read (fields_read line))
     by false = tt
 
--- a line that says a row within the limit says that row, and there is room for it
-pub within_row : (kept : List (List ℕ)) (said : Line) (row : Row) → within kept said ≡ line.Row row → (said ≡ line.Row row) × (ltb (length kept) most_rows ≡ true)
+-- a line that isn't one too many says the row that it says
+pub within_row : (kept : List (List ℕ)) (said : Line) (row : Row) → within kept said ≡ line.Row row → said ≡ line.Row row
 within_row kept line.Blank row h = cc h
 within_row kept (line.Fault cause) row h = cc h
-within_row kept (line.Row r) row h = by (ltb (length kept) most_rows) refl h
+within_row kept (line.Row r) row h = by (has_room kept || asks r.work) h
   where
-    by : (room : Bool) → ltb (length kept) most_rows ≡ room → cond room (line.Row r) (line.Fault TooManyRows) ≡ line.Row row → (line.Row r ≡ line.Row row) × (ltb (length kept) most_rows ≡ true)
-    by true e h = (h, e)
-    by false e h = cc h
+    by : (answered : Bool) → cond answered (line.Row r) (line.Fault TooManyRows) ≡ line.Row row → line.Row r ≡ line.Row row
+    by true h = h
+    by false h = cc h
+
+-- what a plain line leaves
+module _ (under : Standing) (kept : List (List ℕ)) (plain : List ℕ) where
+  none_left : (said : Line) → row_in said ≡ [] → left_of under kept (fields_read plain) said ≡ []
+  none_left line.Blank none = refl
+  none_left (line.Fault cause) none = refl
+  none_left (line.Row row) none = cc none
+
+  -- one that says no row leaves nothing
+  pub plain_none : (said : Line) → within kept (line_read most_clerks (names_of under.court) plain) ≡ said → row_in said ≡ [] → plain_leaves under kept plain ≡ []
+  unfolding plain_leaves
+  plain_none said is none = by (has_room kept)
+    where
+      left : left_of under kept (fields_read plain) (within kept (line_read most_clerks (names_of under.court) plain)) ≡ []
+      left = ap (left_of under kept (fields_read plain)) is ∙ none_left said none
+
+      by : (room : Bool) → cond room (left_of under kept (fields_read plain) (within kept (line_read most_clerks (names_of under.court) plain))) [] ≡ []
+      by true = left
+      by false = refl
+
+  -- none leaves anything where there is no room
+  pub plain_full : has_room kept ≡ false → plain_leaves under kept plain ≡ []
+  unfolding plain_leaves
+  plain_full full = ap (λ (room : Bool). cond room (left_of under kept (fields_read plain) (within kept (line_read most_clerks (names_of under.court) plain))) []) full
+
+  -- one that says a row leaves its entry where there is room
+  pub plain_one : (row : Row) → within kept (line_read most_clerks (names_of under.court) plain) ≡ line.Row row → has_room kept ≡ true → plain_leaves under kept plain ≡ entry_of under kept (fields_read plain) row ∷ []
+  unfolding plain_leaves
+  plain_one row is room =
+      ap (λ (r : Bool). cond r (left_of under kept (fields_read plain) (within kept (line_read most_clerks (names_of under.court) plain))) []) room
+      ∙ ap (left_of under kept (fields_read plain)) is
 
 -- what is made of a row leaves itself
 pub leaves_itself : (under : Standing) (kept : List (List ℕ)) (fields : List (List ℕ)) (row : Row) → row_of most_clerks (names_of under.court) fields ≡ Ok row
@@ -286,16 +317,17 @@ follows_named under kept fields row name was spelled =
 -- the law
 pub left_follows : WhatIsLeftFollows
 unfolding leaves plain_leaves
-left_follows under kept bytes entry h = by (within kept (line_read most_clerks (names_of under.court) (reading_at under kept bytes).text)) refl h
+left_follows under kept bytes entry h = by (has_room kept) (within kept (line_read most_clerks (names_of under.court) (reading_at under kept bytes).text)) refl h
   where
-    by : (l : Line) → within kept (line_read most_clerks (names_of under.court) (reading_at under kept bytes).text) ≡ l
-        → with_name (reading_at under kept bytes).name (left_of under kept (fields_read (reading_at under kept bytes).text) l) ≡ entry ∷ [] → (note_in entry ≡ None) × follows under kept entry
-    by line.Blank same h = cc h
-    by (line.Fault cause) same h = cc h
-    by (line.Row row) same h =
+    by : (room : Bool) (l : Line) → within kept (line_read most_clerks (names_of under.court) (reading_at under kept bytes).text) ≡ l
+        → with_name (reading_at under kept bytes).name (cond room (left_of under kept (fields_read (reading_at under kept bytes).text) l) []) ≡ entry ∷ [] → (note_in entry ≡ None) × follows under kept entry
+    by false l same h = cc h
+    by true line.Blank same h = cc h
+    by true (line.Fault cause) same h = cc h
+    by true (line.Row row) same h =
         let text = (reading_at under kept bytes).text in
         let name = (reading_at under kept bytes).name in
-        let (said, _) = within_row kept (line_read most_clerks (names_of under.court) text) row same in
+        let said = within_row kept (line_read most_clerks (names_of under.court) text) row same in
         let is_entry : name_line name ++ entry_of under kept (fields_read text) row ≡ entry = cc h in
         let spelled = says_row most_clerks (names_of under.court) text row said in (
           ap note_in (sym is_entry) ∙ is_no_note_named (names_of under.court) (fields_read text) row (answer_to under kept row) spelled name,

@@ -1,5 +1,5 @@
 -- Histories, after one entry more and after what lines leave.
-use Rattle.std.proofs.Common.{◌≡◌, ◌∙◌, ◌<◌, ◌&&◌, ℕ, Bool, true, false, not, List, [], ◌∷◌, ◌++◌, Option, Some, None, length, length-append, refl, sym, ap, subst, append_assoc, append-nil, arith}
+use Rattle.std.proofs.Common.{◌≡◌, ◌∙◌, ◌<◌, ◌&&◌, ℕ, Bool, true, false, cond, not, List, [], ◌∷◌, ◌++◌, Option, Some, None, length, length-append, refl, sym, ap, subst, append_assoc, append-nil, arith}
 use Rattle.std.specs.Prelude.{IsSome, is_some, nat_lt}
 use Rattle.std.specs.List.{list_all}
 use Rattle.court_days.specs.Words.{CourtView}
@@ -20,7 +20,7 @@ use Rattle.desk_entries.specs.History.{AllFollow, CanBe, FollowsAs, IsHistory, M
 use Rattle.desk_entries.specs.Laws.{WhatIsLeftIsHistory}
 use Rattle.desk_entries.specs.Register.{IsReadyAt, StandsAt}
 use Rattle.case_numbers.specs.Words.{NameView, after_name, name_before}
-use Rattle.desk_entries.specs.Rows.{follows, kept_leaves, leaves, left_again, left_of, plain_leaves, reading_at, with_name, within}
+use Rattle.desk_entries.specs.Rows.{follows, has_room, kept_leaves, leaves, left_again, left_of, plain_leaves, reading_at, with_name, within}
 use Rattle.desk_entries.specs.Run.{corrections_then}
 use Rattle.desk_entries.proofs.EntryLemmas.{left_follows}
 use Rattle.desk_entries.proofs.ListLemmas.{before-note, before-row, before_strike, none_struck, standing_file-more, struck_in-more}
@@ -81,8 +81,14 @@ one_of under kept name fields (line.Row row) entry other more h = cc h
 
 one_at_most : (under : Standing) (kept : List (List ℕ)) (bytes entry other : List ℕ) (more : List (List ℕ)) → leaves under kept bytes ≡ entry ∷ other ∷ more → ⊥
 unfolding leaves plain_leaves
-one_at_most under kept bytes entry other more h =
-    one_of under kept (reading_at under kept bytes).name (fields_read (reading_at under kept bytes).text) (within kept (line_read most_clerks (names_of under.court) (reading_at under kept bytes).text)) entry other more h
+one_at_most under kept bytes entry other more h = by (has_room kept) h
+  where
+    said : Line
+    said = within kept (line_read most_clerks (names_of under.court) (reading_at under kept bytes).text)
+
+    by : (room : Bool) → with_name (reading_at under kept bytes).name (cond room (left_of under kept (fields_read (reading_at under kept bytes).text) said) []) ≡ entry ∷ other ∷ more → ⊥
+    by true h = one_of under kept (reading_at under kept bytes).name (fields_read (reading_at under kept bytes).text) said entry other more h
+    by false h = cc h
 
 -- and so does an entry whose row is entered again
 pub one_again : (under : Standing) (kept : List (List ℕ)) (entry made other : List ℕ) (more : List (List ℕ)) → left_again under kept entry ≡ made ∷ other ∷ more → ⊥

@@ -16,11 +16,10 @@ use Rattle.desk_entries.specs.Subjects.{named_in, one_text, read_apart}
 use Rattle.desk_entries.specs.declared.subject.Named.{Named}
 use Rattle.desk_entries.specs.Cases.{cases_of, opened_as, opened_in, with_opened}
 use Rattle.desk_entries.specs.Entries.{most_clerks}
-use Rattle.desk_entries.specs.Rows.{answer_to, cased_at, entry_of, found_text, left_of, plain_leaves, row_in, too_many_at, with_name, within}
+use Rattle.desk_entries.specs.Rows.{answer_to, cased_at, entry_of, found_text, has_room, plain_leaves, too_many_at, with_name, within}
 use Rattle.desk_entries.proofs.CaseLemmas.{cases_of-row}
-use Rattle.desk_entries.proofs.EntryLemmas.{WasRead, is_no_note_named, its_name, past_its_name, reading_read, says_its_row, within_row}
+use Rattle.desk_entries.proofs.EntryLemmas.{WasRead, is_no_note_named, its_name, past_its_name, plain_one, reading_read, says_its_row, within_row}
 use Rattle.desk_entries.proofs.ListLemmas.{before-row}
-use Rattle.desk_entries.proofs.RegisterLemmas.{none_left}
 use Rattle.row_forms.proofs.LineLemmas.CallerLemmas.{says_row}
 use Rattle.row_forms.specs.declared.row.Row.{Row}
 
@@ -29,30 +28,26 @@ pub said_at : (under : Standing) (kept : List (List ℕ)) (bytes : List ℕ) (ca
     → within kept said ≡ within kept (line_read most_clerks (names_of under.court) (read_before under kept bytes).text)
 said_at under kept bytes cases said cases_are is = ap (within kept) (is ∙ ap (λ (k : CasesView). line_read most_clerks (names_of under.court) (read_apart (names_of under.court) k bytes).text) cases_are)
 
--- the entries that there are after a line that says no row
-pub counts_same : (under : Standing) (kept : List (List ℕ)) (bytes : List ℕ) (said : Line) (count : ℕ) (cases : CasesView) → within kept (line_read most_clerks (names_of under.court) (read_before under kept bytes).text) ≡ said → row_in said ≡ []
+-- the entries that there are after a line that leaves nothing
+pub counts_same : (under : Standing) (kept : List (List ℕ)) (bytes : List ℕ) (count : ℕ) (cases : CasesView) → plain_leaves under kept (read_before under kept bytes).text ≡ []
     → CountsAs under kept count cases → CountsAs under (kept ++ left_before under kept bytes) count cases
-unfolding plain_leaves
-counts_same under kept bytes said count cases is none counts =
-    let plain = (read_before under kept bytes).text in
-    let name = (read_before under kept bytes).name in
-    let left : left_before under kept bytes ≡ [] = ap (λ (l : Line). with_name name (left_of under kept (fields_read plain) l)) is ∙ ap (with_name name) (none_left under kept (fields_read plain) said none) in
+counts_same under kept bytes count cases none counts =
+    let left : left_before under kept bytes ≡ [] = ap (with_name (read_before under kept bytes).name) none in
     subst (λ (k : List (List ℕ)). CountsAs under k count cases) (sym (ap (λ (l : List (List ℕ)). kept ++ l) left ∙ append-nil kept)) counts
 
--- and after one that says a row
-pub counts_more : (under : Standing) (kept : List (List ℕ)) (bytes : List ℕ) (row : Row) (before after : ℕ) (cases then : CasesView) → within kept (line_read most_clerks (names_of under.court) (read_before under kept bytes).text) ≡ line.Row row
+-- and after one that says a row for which there is room
+pub counts_more : (under : Standing) (kept : List (List ℕ)) (bytes : List ℕ) (row : Row) (before after : ℕ) (cases then : CasesView) → within kept (line_read most_clerks (names_of under.court) (read_before under kept bytes).text) ≡ line.Row row → has_room kept ≡ true
     → CountsAs under kept before cases → after ≡ before + 1 → (name : Option NameView) → name ≡ (read_before under kept bytes).name → then ≡ with_opened cases (opened_as row.work) name
     → CountsAs under (kept ++ left_before under kept bytes) after then
-unfolding plain_leaves
-counts_more under kept bytes row before after cases then is counts one name name_is opened =
+counts_more under kept bytes row before after cases then is room counts one name name_is opened =
     let plain = (read_before under kept bytes).text in
-    let (said, room) = within_row kept (line_read most_clerks (names_of under.court) plain) row is in
+    let said = within_row kept (line_read most_clerks (names_of under.court) plain) row is in
     let spelled = says_row most_clerks (names_of under.court) plain row said in
     let answer = answer_to under kept row in
     let was : WasRead name = subst WasRead (sym name_is) (reading_read (names_of under.court) (cases_of under kept) bytes) in
     let entry = name_line name ++ entry_of under kept (fields_read plain) row in
     let left : left_before under kept bytes ≡ entry ∷ [] =
-    ap (λ (l : Line). with_name (read_before under kept bytes).name (left_of under kept (fields_read plain) l)) is ∙ ap (λ (n : Option NameView). with_name n (entry_of under kept (fields_read plain) row ∷ [])) (sym name_is) in
+    ap (with_name (read_before under kept bytes).name) (plain_one under kept plain row is room) ∙ ap (λ (n : Option NameView). with_name n (entry_of under kept (fields_read plain) row ∷ [])) (sym name_is) in
     let none = is_no_note_named (names_of under.court) (fields_read plain) row answer spelled name in
     let reads : line_read most_clerks (names_of under.court) (after_name entry) ≡ line.Row row =
     ap (line_read most_clerks (names_of under.court)) (past_its_name (names_of under.court) (fields_read plain) row answer spelled name was) ∙ says_its_row (names_of under.court) (fields_read plain) row answer spelled in

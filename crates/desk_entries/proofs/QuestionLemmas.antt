@@ -1,5 +1,5 @@
 -- A line that is answered, and leaves nothing.
-use Rattle.std.proofs.Common.{◌≡◌, ◌≢◌, ◌∙◌, refl, ℕ, Option, false, List, [], ◌++◌, append-nil, sym, ap, subst}
+use Rattle.std.proofs.Common.{◌≡◌, ◌∙◌, refl, ℕ, Option, true, false, List, [], ◌++◌, append-nil, sym, ap, subst}
 use Rattle.desk_entries.specs.declared.standing.Standing.{Standing}
 use Rattle.desk_session.specs.Words.{TakesLine}
 use Rattle.row_forms.specs.Words.{names_of}
@@ -11,13 +11,16 @@ use Rattle.desk_entries.specs.Register.{StandsAt}
 use Rattle.desk_entries.specs.declared.cause.LineCause.{LineCause}
 use Rattle.desk_entries.specs.CaseLines.{lacks_field}
 use Rattle.desk_entries.specs.Entries.{most_clerks}
-use Rattle.desk_entries.specs.Rows.{reading_at, special_at, told_or}
+use Rattle.desk_entries.specs.Rows.{asks, outcome_by, reading_at, special_at, told_or}
 use Rattle.desk_entries.proofs.RegisterLemmas.{read_whole}
-use Rattle.docket_rows.specs.declared.command.Command.{Command as CommandOf}
-use Rattle.desk_numbers.specs.Words.{given_by, numbers_after}
+use Rattle.docket_rows.specs.Words.{Rows, setup_of}
+use Rattle.office_texts.specs.Run.Words.{Holds}
+use Rattle.desk_session.specs.declared.outcome.Outcome.TheVariants.{Taken}
+use Rattle.desk_numbers.specs.Words.{NumbersView, given_by, numbers_after, placed}
+use Rattle.desk_entries.specs.declared.register.DocketRegister.{DocketRegister}
 use Rattle.row_forms.specs.declared.row.Work.{Work}
 use Rattle.row_forms.specs.declared.row.Work.TheVariants.{Command, Query}
-use Rattle.desk_entries.specs.Run.{Run, numbers_with}
+use Rattle.desk_entries.specs.Run.{Run, docketed_with, numbers_with, reply_by_places, run_by}
 
 -- what a line is shown that says this, where this is wrong beside
 abbrev pub shown_with : Standing → (kept : List (List ℕ)) → (special : Option LineCause) → Line → List ℕ
@@ -39,7 +42,32 @@ pub shown_plain : (under : Standing) (kept : List (List ℕ)) (bytes text : List
 shown_plain under kept bytes text said is third fourth = ap (λ (special : Option LineCause). text ++ shown_with under kept special said) (sym (read_whole under kept bytes said is third fourth))
 
 -- a question gives no number
-pub question_moves_nothing : (under : Standing) (run : Run) (number : ℕ) (asked : Work) → ((command : CommandOf) → asked ≢ Command command) → (numbers_with under run number asked).moved ≡ run.numbers.moved
+pub question_moves_nothing : (under : Standing) (run : Run) (number : ℕ) (asked : Work) → asks asked ≡ true → (numbers_with under run number asked).moved ≡ run.numbers.moved
 unfolding given_by numbers_after
-question_moves_nothing under run number (Command command) none = absurd (none command refl)
-question_moves_nothing under run number (Query query) none = refl
+question_moves_nothing under run number (Command command) question = cc question
+question_moves_nothing under run number (Query query) question = refl
+
+-- and dockets nothing
+question_dockets_nothing : (under : Standing) (run : Run) (asked : Work) → asks asked ≡ true → docketed_with under run asked ≡ run.docketed
+unfolding placed
+question_dockets_nothing under run (Command command) question = cc question
+question_dockets_nothing under run (Query query) question = refl
+
+-- so the register after it is as it was
+pub stands_asked : (under : Standing) (before register : DocketRegister) (kept : List (List ℕ)) (asked : Work) → StandsAt under before kept → asks asked ≡ true → Holds (setup_of under.court) register.docket (docketed_with under (run_by under kept) asked)
+    → register.numbers ≡ before.numbers → register.cases ≡ before.cases → register.number ≡ before.number → register.count ≡ before.count → StandsAt under register kept
+stands_asked under before register kept asked stands question holds numbers cases number count = record {
+  docket = subst (Holds (setup_of under.court) register.docket) (question_dockets_nothing under (run_by under kept) asked question) holds;
+  numbers = numbers ∙ stands.numbers;
+  cases = cases ∙ stands.cases;
+  number = number ∙ stands.number;
+  count = count ∙ stands.count;
+  begun = stands.begun;
+  few = stands.few;
+}
+
+-- it is taken, whatever it is answered
+pub question_taken : (under : Standing) (docketed : Rows) (numbers : NumbersView) (asked : Work) → asks asked ≡ true → outcome_by (reply_by_places under docketed numbers asked) ≡ Taken
+unfolding placed
+question_taken under docketed numbers (Command command) question = cc question
+question_taken under docketed numbers (Query query) question = refl

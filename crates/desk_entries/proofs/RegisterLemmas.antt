@@ -32,16 +32,16 @@ use Rattle.desk_entries.specs.CaseLines.{is_field, lacks_field}
 use Rattle.desk_entries.specs.LineCauses.{cause_or, fault_told, unfound_as}
 use Rattle.desk_entries.specs.Cases.{cases_of, opened_as, opened_in, with_opened}
 use Rattle.desk_entries.specs.Entries.{most_clerks, most_entries, next_number, note_in}
-use Rattle.desk_entries.specs.Rows.{answer_to, answers, cased_at, entry_of, follows, found_at, found_text, kept_answers, kept_leaves, leaves, left_again, left_of, plain_answers, plain_leaves, reading_at, row_in, special_at, told_of, told_or, too_many_at, unfound_at, unfound_of, with_name, within}
+use Rattle.desk_entries.specs.Rows.{answer_to, answers, asks, cased_at, entry_of, follows, found_at, found_text, has_room, kept_answers, kept_leaves, leaves, left_again, left_of, plain_answers, plain_leaves, reading_at, row_in, special_at, told_of, told_or, too_many_at, unfound_at, unfound_of, with_name, within}
 use Rattle.desk_entries.specs.Run.{Run, docketed_by, docketed_with, numbers_with, reply_by_places, run_by, run_past}
 use Rattle.desk_entries.specs.Register.{IsDone, IsReadyAt, StandsAt}
 use Rattle.desk_entries.specs.Shifts.{shifts_by, shifts_said, told}
 use Rattle.desk_entries.specs.declared.register.Done.{Done}
 use Rattle.desk_entries.specs.declared.register.DocketRegister.{DocketRegister}
 use Rattle.desk_entries.proofs.CaseLemmas.{cases_of-note, cases_of-row, names_nothing, none_opened, too_many_lacks}
-use Rattle.desk_entries.proofs.EntryLemmas.{WasRead, is_no_note_named, its_name, past_its_name, reading_read, says_its_row, within_row}
+use Rattle.desk_entries.proofs.EntryLemmas.{WasRead, is_no_note_named, its_name, past_its_name, plain_full, plain_none, plain_one, reading_read, says_its_row, within_row}
 use Rattle.desk_entries.proofs.DecidedLemmas.{run_by-more, run_by-none, run_by-note, run_by-struck}
-use Rattle.desk_entries.proofs.ShiftLemmas.{just_answered, none_said}
+use Rattle.desk_entries.proofs.ShiftLemmas.{just_answered, none_said, question_shifts_nothing}
 use Rattle.desk_entries.proofs.ListLemmas.{before-row, next_number-note, next_number-row, not_struck}
 
 -- the numbers after a row, by what they are made of
@@ -150,12 +150,6 @@ as_it_was under before register kept stands docket numbers cases number count =
       few = stands.few;
     }
 
--- what says no row leaves nothing
-pub none_left : (under : Standing) (kept : List (List ℕ)) (fields : List (List ℕ)) (said : Line) → row_in said ≡ [] → left_of under kept fields said ≡ []
-none_left under kept fields line.Blank none = refl
-none_left under kept fields (line.Fault cause) none = refl
-none_left under kept fields (line.Row row) none = cc none
-
 -- what a line is answered that says this, where this is wrong beside
 abbrev pub told_with : Standing → (kept : List (List ℕ)) → (special : Option LineCause) → Line → List ℕ
 told_with under kept special said = told_or under kept special (told_of under kept said)
@@ -229,35 +223,45 @@ cause_told under kept (Some special) cause = refl
 
 -- what lines leave and are answered, by what they say
 module _ (under : Standing) (register : DocketRegister) (kept : List (List ℕ)) (bytes : List ℕ) (batch : List (List ℕ)) (text : List ℕ) where
-  -- a line that leaves nothing
-  pub nothing_left : (said : Line) → within kept (line_read most_clerks (names_of under.court) (reading_at under kept bytes).text) ≡ said → row_in said ≡ [] → IsReadyAt under register kept → (text_after : List ℕ)
-      → text_after ≡ text ++ told_with under kept (special_at under kept bytes) said → TakesLine (leaves under) (told under) (IsReadyAt under register) kept bytes batch batch text text_after
-  unfolding leaves answers plain_leaves plain_answers told
-  nothing_left said is none stands text_after added =
-      let plain = (reading_at under kept bytes).text in
-      let name = (reading_at under kept bytes).name in
-      let left : leaves under kept bytes ≡ [] = ap (λ (l : Line). with_name name (left_of under kept (fields_read plain) l)) is ∙ ap (with_name name) (none_left under kept (fields_read plain) said none) in
+  -- a line that leaves nothing and moves nothing
+  just_told : (said : Line) → within kept (line_read most_clerks (names_of under.court) (reading_at under kept bytes).text) ≡ said → plain_leaves under kept (reading_at under kept bytes).text ≡ [] → shifts_said under kept said ≡ []
+      → IsReadyAt under register kept → (text_after : List ℕ) → text_after ≡ text ++ told_with under kept (special_at under kept bytes) said → TakesLine (leaves under) (told under) (IsReadyAt under register) kept bytes batch batch text text_after
+  unfolding leaves answers plain_answers told
+  just_told said is none unmoved stands text_after added =
+      let left : leaves under kept bytes ≡ [] = ap (with_name (reading_at under kept bytes).name) none in
       record {
         stands = subst (IsReadyAt under register) (sym (ap (λ (l : List (List ℕ)). kept ++ l) left ∙ append-nil kept)) stands;
         left = sym (append-nil batch) ∙ ap (λ (l : List (List ℕ)). batch ++ l) (sym left);
         told = added ∙ ap (λ l. text ++ told_with under kept (special_at under kept bytes) l) (sym is)
-            ∙ ap (λ (l : List ℕ). text ++ l) (sym (just_answered under kept bytes _ (ap (shifts_said under kept) is ∙ none_said under kept said none)));
+            ∙ ap (λ (l : List ℕ). text ++ l) (sym (just_answered under kept bytes _ (ap (shifts_said under kept) is ∙ unmoved)));
       }
 
+  -- a line that says no row
+  pub nothing_left : (said : Line) → within kept (line_read most_clerks (names_of under.court) (reading_at under kept bytes).text) ≡ said → row_in said ≡ [] → IsReadyAt under register kept → (text_after : List ℕ)
+      → text_after ≡ text ++ told_with under kept (special_at under kept bytes) said → TakesLine (leaves under) (told under) (IsReadyAt under register) kept bytes batch batch text text_after
+  nothing_left said is none = just_told said is (plain_none under kept (reading_at under kept bytes).text said is none) (none_said under kept said none)
+
+  -- a question for which there is no room
+  pub question_left : (row : Row) → within kept (line_read most_clerks (names_of under.court) (reading_at under kept bytes).text) ≡ line.Row row → asks row.work ≡ true → has_room kept ≡ false → IsReadyAt under register kept
+      → (text_after : List ℕ) → text_after ≡ text ++ answer_to under kept row → TakesLine (leaves under) (told under) (IsReadyAt under register) kept bytes batch batch text text_after
+  question_left row is question full stands text_after added =
+      just_told (line.Row row) is (plain_full under kept (reading_at under kept bytes).text full) (question_shifts_nothing under kept row question) stands text_after
+      (added ∙ ap (λ (special : Option LineCause). text ++ told_or under kept special (answer_to under kept row)) (sym (not_special under kept bytes (line.Row row) is refl refl)))
+
   -- a line that says a row, which is done
-  pub row_left : (row : Row) → within kept (line_read most_clerks (names_of under.court) (reading_at under kept bytes).text) ≡ line.Row row → 0 < length kept → all_before under.corrections (next_number kept) ≡ true → (fields : List (List ℕ)) → fields ≡ fields_read (reading_at under kept bytes).text
+  pub row_left : (row : Row) → within kept (line_read most_clerks (names_of under.court) (reading_at under kept bytes).text) ≡ line.Row row → has_room kept ≡ true → 0 < length kept → all_before under.corrections (next_number kept) ≡ true → (fields : List (List ℕ)) → fields ≡ fields_read (reading_at under kept bytes).text
       → (name : Option NameView) → name ≡ (reading_at under kept bytes).name → (made : Done)
       → IsDone under kept fields row name register made → (batch_after : List (List ℕ)) (text_after : List ℕ) → batch_after ≡ batch ++ made.entry.items ∷ [] → text_after ≡ text ++ (answer_to under kept row ++ shifts_by under kept row)
       → TakesLine (leaves under) (told under) (IsReadyAt under register) kept bytes batch batch_after text text_after
-  unfolding leaves answers plain_leaves plain_answers told
-  row_left row is begun before fields fields_are name name_is made done batch_after text_after batch_is text_is =
+  unfolding leaves answers plain_answers told
+  row_left row is room begun before fields fields_are name name_is made done batch_after text_after batch_is text_is =
       let plain = (reading_at under kept bytes).text in
-      let (said, room) = within_row kept (line_read most_clerks (names_of under.court) plain) row is in
+      let said = within_row kept (line_read most_clerks (names_of under.court) plain) row is in
       let below : length kept < most_entries = grind (arith, nat_tests) in
       let spelled = says_row most_clerks (names_of under.court) plain row said in
       let entry = name_line name ++ entry_of under kept (fields_read plain) row in
       let left : leaves under kept bytes ≡ entry ∷ [] =
-      ap (λ (l : Line). with_name (reading_at under kept bytes).name (left_of under kept (fields_read plain) l)) is ∙ ap (λ (n : Option NameView). with_name n (entry_of under kept (fields_read plain) row ∷ [])) (sym name_is) in
+      ap (with_name (reading_at under kept bytes).name) (plain_one under kept plain row is room) ∙ ap (λ (n : Option NameView). with_name n (entry_of under kept (fields_read plain) row ∷ [])) (sym name_is) in
       let made_is : made.entry.items ≡ entry = done.entry ∙ ap (λ (f : List (List ℕ)). name_line name ++ entry_of under kept f row) fields_are in
       let was : WasRead name = subst WasRead (sym name_is) (reading_read (names_of under.court) (cases_of under kept) bytes) in
       record {

@@ -30,10 +30,10 @@ use Rattle.desk_entries.specs.CaseLines.{Reading, as_it_is, lacks_field}
 use Rattle.desk_entries.specs.Cases.{cases_after, cases_of, opened_in, with_opened}
 use Rattle.desk_entries.specs.Entries.{most_clerks, most_rows, next_number, row_entries, rows_among}
 use Rattle.desk_entries.specs.Laws.{AnswersAreTheRuns, HasNoFault, plain}
-use Rattle.desk_entries.specs.Rows.{answer_to, answers, entry_of, leaves, left_of, plain_answers, plain_leaves, reading_at, row_in, rows_in, told_of, told_or, with_name, within}
+use Rattle.desk_entries.specs.Rows.{answer_to, answers, entry_of, leaves, plain_answers, plain_leaves, reading_at, row_in, rows_in, told_of, told_or, with_name, within}
 use Rattle.desk_entries.specs.Run.{Run, docketed_by, docketed_with, numbers_with, opening_run, reply_by_places, reply_under, run_after, run_by, run_entry, run_said}
 use Rattle.desk_entries.proofs.CaseLemmas.{cases_of-row, nothing_special, other_lines}
-use Rattle.desk_entries.proofs.EntryLemmas.{is_no_note, its_name, past_its_name, says_its_row}
+use Rattle.desk_entries.proofs.EntryLemmas.{is_no_note, its_name, past_its_name, plain_none, plain_one, says_its_row}
 use Rattle.desk_entries.proofs.ListLemmas.{next_number-row}
 use Rattle.desk_entries.proofs.DecidedLemmas.{first_run, run_by-more}
 
@@ -59,11 +59,11 @@ answered_plain under kept bytes said is third fourth =
 
 -- a line that says nothing
 blank_run : (court : CourtView) (kept lines : List (List ℕ)) (bytes : List ℕ) → line_read most_clerks (names_of court) bytes ≡ line.Blank → IsRun court kept lines → IsRun court kept (bytes ∷ lines)
-unfolding told_to left_by rows_in leaves answers plain_leaves plain_answers
+unfolding told_to left_by rows_in leaves answers plain_answers
 blank_run court kept lines bytes blank run =
     let as_is = reads_plain court kept bytes line.Blank blank refl refl in
     let left : leaves (plain court) kept bytes ≡ [] =
-    ap (λ (r : Reading). with_name r.name (plain_leaves (plain court) kept r.text)) as_is ∙ ap (λ (l : Line). with_name None (left_of (plain court) kept (fields_read bytes) (within kept l))) blank in
+    ap (λ (r : Reading). with_name r.name (plain_leaves (plain court) kept r.text)) as_is ∙ ap (with_name None) (plain_none (plain court) kept bytes line.Blank (ap (within kept) blank) refl) in
     let told : answers (plain court) kept bytes ≡ [] = answered_plain (plain court) kept bytes line.Blank blank refl refl ∙ ap (λ (r : Reading). plain_answers (plain court) kept r.text) as_is ∙ ap (λ (l : Line). told_of (plain court) kept (within kept l)) blank in
     let rows : rows_in (names_of court) (bytes ∷ lines) ≡ rows_in (names_of court) lines = ap (λ (l : Line). row_in l ++ rows_in (names_of court) lines) blank in
     let same : kept ++ leaves (plain court) kept bytes ≡ kept = ap (λ (l : List (List ℕ)). kept ++ l) left ∙ append-nil kept in
@@ -125,7 +125,7 @@ still_no_names cases (Some number) none = none
 -- a line that says a row
 row_run : (court : CourtView) (kept lines : List (List ℕ)) (bytes : List ℕ) (row : Row) → 0 < length kept → ltb (length kept) most_rows ≡ true → line_read most_clerks (names_of court) bytes ≡ line.Row row → (cases_of (plain court) kept).named ≡ []
     → IsRun court (kept ++ entry_of (plain court) kept (fields_read bytes) row ∷ []) lines → IsRun court kept (bytes ∷ lines)
-unfolding told_to left_by rows_in leaves answers plain_leaves plain_answers lines_from docketed_after
+unfolding told_to left_by rows_in leaves answers plain_answers lines_from docketed_after
 row_run court kept lines bytes row begun room said names run =
     let as_is = reads_plain court kept bytes (line.Row row) said refl refl in
     let entry = entry_of (plain court) kept (fields_read bytes) row in
@@ -136,7 +136,7 @@ row_run court kept lines bytes row begun room said names run =
     let after = ap (λ (r : Run). r.docketed) (run_by-more (plain court) kept entry row begun none refl reads) ∙ then_plain court (run_by (plain court) kept) row.work (all_plain court kept) in
     let number = next_number-row kept entry begun none in
     let is : within kept (line_read most_clerks (names_of court) bytes) ≡ line.Row row = ap (within kept) said ∙ rw room refl in
-    let left : leaves (plain court) kept bytes ≡ entry ∷ [] = ap (λ (r : Reading). with_name r.name (plain_leaves (plain court) kept r.text)) as_is ∙ ap (λ (l : Line). with_name None (left_of (plain court) kept (fields_read bytes) l)) is in
+    let left : leaves (plain court) kept bytes ≡ entry ∷ [] = ap (λ (r : Reading). with_name r.name (plain_leaves (plain court) kept r.text)) as_is ∙ ap (with_name None) (plain_one (plain court) kept bytes row is room) in
     let told : answers (plain court) kept bytes ≡ line_of court (next_number kept) row.clerk (reply_to (setup_of court) (docketed_by (plain court) kept) row.work) =
     answered_plain (plain court) kept bytes (line.Row row) said refl refl ∙ ap (λ (r : Reading). plain_answers (plain court) kept r.text) as_is ∙ ap (told_of (plain court) kept) is ∙ no_names_answer court kept row names in
     let rows : rows_in (names_of court) (bytes ∷ lines) ≡ row ∷ rows_in (names_of court) lines = ap (λ (l : Line). row_in l ++ rows_in (names_of court) lines) said in

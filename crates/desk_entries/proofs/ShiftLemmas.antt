@@ -33,7 +33,7 @@ use Rattle.desk_numbers.specs.Words.{number_in, numbered_view, placed, placed_co
 use Rattle.desk_entries.specs.declared.standing.Standing.{Standing}
 use Rattle.desk_entries.specs.Cases.{cases_of, opened_as, with_opened}
 use Rattle.desk_entries.specs.Entries.{next_number}
-use Rattle.desk_entries.specs.Rows.{answers, came_of, outcome, outcome_by, outcome_of, row_in}
+use Rattle.desk_entries.specs.Rows.{answers, asks, came_of, outcome, outcome_by, outcome_of, row_in}
 use Rattle.desk_entries.specs.Run.{Run, docketed_by, docketed_with, reply_by_places, run_by, run_with}
 use Rattle.desk_entries.specs.Shifts.{OthersAreToldTheirAnswers, RefusedAreToldTheirAnswers, changes_days, days_before, deadline_shift, hearing_shift, motion_shift, sheet_shifts, shifts, shifts_from, shifts_said, shifts_since, told}
 use Rattle.docket_shifts.specs.Words.{shift_line}
@@ -153,6 +153,14 @@ pub none_said : (under : Standing) (kept : List (List ℕ)) (said : Line) → ro
 none_said under kept line.Blank none = refl
 none_said under kept (line.Fault cause) none = refl
 none_said under kept (line.Row row) none = cc none
+
+-- nor does a question
+enters_no_day : (asked : Work) → asks asked ≡ true → changes_days asked ≡ false
+enters_no_day (Query query) question = refl
+enters_no_day (Command command) question = cc question
+
+pub question_shifts_nothing : (under : Standing) (kept : List (List ℕ)) (row : Row) → asks row.work ≡ true → shifts_said under kept (line.Row row) ≡ []
+question_shifts_nothing under kept row question = rw (enters_no_day row.work question) refl
 
 -- a line that is told just its answer
 pub just_answered : (under : Standing) (kept : List (List ℕ)) (bytes : List ℕ) (said : List ℕ) → said ≡ [] → answers under kept bytes ++ said ≡ answers under kept bytes

@@ -12,7 +12,7 @@ use Rattle.desk_numbers.specs.Strikes.Words.{is_among, remark_in, restore_in, sa
 abbrev pub most_entries : ℕ
 most_entries = 1_000_000
 
--- After how many entries no row is taken any more: 1,000 are left for later court's files, strikes and restores.
+-- After how many entries no row is kept any more: 1,000 are left for later court's files, strikes and restores.
 abbrev pub most_rows : ℕ
 most_rows = 999_000
 

@@ -1,5 +1,5 @@
 -- What rows leave in a journal and what they are answered, under what stands.
-use Rattle.std.specs.Prelude.{◌≡◌, ℕ, Bool, List, [], ◌∷◌, ◌++◌, Option, Some, None, length, map, nat_lt, option_map, if◌then◌else◌}
+use Rattle.std.specs.Prelude.{◌≡◌, ℕ, ◌||◌, Bool, true, false, List, [], ◌∷◌, ◌++◌, Option, Some, None, length, map, nat_lt, option_map, if◌then◌else◌}
 use Rattle.csv.specs.Writing.{default_writer, row_text}
 use Rattle.case_numbers.specs.Words.{NameView, after_name, name_before, name_line}
 use Rattle.docket_rows.specs.declared.answer.Answer.{Answer}
@@ -14,6 +14,8 @@ use Rattle.office_texts.specs.declared.run.reply.Reply.TheVariants.{Made, Viewed
 use Rattle.row_forms.specs.declared.line.line.Line.{Line}
 use Rattle.row_forms.specs.declared.line.line.Line.TheVariants as line
 use Rattle.row_forms.specs.declared.row.Row.{Row}
+use Rattle.row_forms.specs.declared.row.Work.{Work}
+use Rattle.row_forms.specs.declared.row.Work.TheVariants.{Command, Query}
 use Rattle.row_forms.specs.Words.{CourtNames, names_of}
 use Rattle.row_forms.specs.Line.Words.{fields_read, line_read}
 use Rattle.office_texts.specs.Named.Words.{named_line_of}
@@ -42,11 +44,20 @@ unfoldable pub rows_in : CourtNames → List (List ℕ) → List Row
 rows_in names [] = []
 rows_in names (entry ∷ entries) = row_in (line_read most_clerks names entry) ++ rows_in names entries
 
--- What a line says after entries: where there are as many as leave room for corrections alone, a row is one too many.
+-- there is room for a row after entries, beside the room that is left for corrections
+abbrev pub has_room : (kept : List (List ℕ)) → Bool
+has_room kept = nat_lt (length kept) most_rows
+
+-- a row asks a question, which changes nothing
+abbrev pub asks : Work → Bool
+asks (Command command) = false
+asks (Query query) = true
+
+-- What a line says after entries: where there is no room for rows a command is one too many, and a question is answered all the same.
 abbrev pub within : (kept : List (List ℕ)) → Line → Line
 within kept line.Blank = line.Blank
 within kept (line.Fault cause) = line.Fault cause
-within kept (line.Row row) = if nat_lt (length kept) most_rows then line.Row row else line.Fault TooManyRows
+within kept (line.Row row) = if has_room kept || asks row.work then line.Row row else line.Fault TooManyRows
 
 -- what a row is answered, with the names that cases have by then
 unfoldable pub answer_to : Standing → (kept : List (List ℕ)) → Row → List ℕ
@@ -68,10 +79,12 @@ told_of under kept line.Blank = []
 told_of under kept (line.Fault cause) = told_line (RowFault (next_number kept) cause)
 told_of under kept (line.Row row) = answer_to under kept row
 
--- what a plain line leaves, and what it is answered
+-- what a plain line leaves: nothing where there is no room for rows
 unfoldable pub plain_leaves : Standing → (kept : List (List ℕ)) → (line : List ℕ) → List (List ℕ)
-plain_leaves under kept line = left_of under kept (fields_read line) (within kept (line_read most_clerks (names_of under.court) line))
+plain_leaves under kept line =
+    if has_room kept then left_of under kept (fields_read line) (within kept (line_read most_clerks (names_of under.court) line)) else []
 
+-- what it is answered
 unfoldable pub plain_answers : Standing → (kept : List (List ℕ)) → (line : List ℕ) → List ℕ
 plain_answers under kept line = told_of under kept (within kept (line_read most_clerks (names_of under.court) line))
 

@@ -2,7 +2,7 @@
 pub use Rattle.desk_entries.specs.Entries.{Note, can_restore, can_strike, court_file, court_mark, file_with, kept_in, most_clerks, later_file, most_entries, most_rows, next_number, note_in, note_of, row_entries, row_only, row_restored, row_struck, standing_file, struck_by, struck_in}
 pub use Rattle.desk_entries.specs.Run.{Run, corrections_then, docketed_by, docketed_with, numbers_with, reply_under, unsaid_by}
 unfoldable pub use Rattle.desk_entries.specs.Run.{run_by}
-pub use Rattle.desk_entries.specs.Rows.{IsReadAt, came_of, entry_of, follows, outcome_by, outcome_of, reading_at, too_many_at, with_name, within}
+pub use Rattle.desk_entries.specs.Rows.{IsReadAt, asks, came_of, entry_of, follows, has_room, outcome_by, outcome_of, reading_at, too_many_at, with_name, within}
 unfoldable pub use Rattle.desk_entries.specs.Rows.{answer_to, answers, kept_answers, leaves, outcome, plain_answers, plain_leaves, rows_in}
 unfoldable pub use Rattle.desk_entries.specs.Cases.{cases_of}
 pub use Rattle.desk_entries.specs.Shifts.{OthersAreToldTheirAnswers, RefusedAreToldTheirAnswers, changes_days, shifts, shifts_by, shifts_said, shifts_since}

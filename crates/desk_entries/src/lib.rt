@@ -10,6 +10,7 @@ mod export;
 mod fault;
 mod laws;
 mod line_faults;
+mod next_entry;
 mod next_line;
 mod outcome;
 mod past;

@@ -10,7 +10,7 @@ ghost use Rattle.desk_entries.specs.Rows.{too_many_at, within};
 use crate::case_line::{note_case, opens_too_many};
 use crate::cause::{LineCause, cause_as};
 use crate::next_line::read_apart;
-use crate::outcome::within;
+use crate::outcome::{has_room, within};
 use crate::register::{DocketRegister, RowTypes};
 use crate::standing::Standing;
 use case_numbers::Cases;
@@ -86,6 +86,9 @@ impl Reading {
                 self.note(alloc, number, cause_as(too_many, cause), line)
             }
             Line::Row(row) => {
+                if !has_room(self.count) {
+                    return Ok(());
+                }
                 self.count += 1;
                 note_case(alloc, &mut self.cases, &row.work, name)
             }

@@ -62,8 +62,7 @@ impl Register for Questions {
                     Ok(Outcome::Taken)
                 }
                 Work::Query(_) => {
-                    let answer = self.register.shown(alloc, under, &row)?;
-                    text.extend_from_slice(answer.as_bytes())?;
+                    self.register.show(alloc, under, &row, text)?;
                     Ok(Outcome::Taken)
                 }
             },

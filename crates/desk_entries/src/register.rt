@@ -1,34 +1,25 @@
 //! The register of rows.
-ghost use Rattle.std.specs.Prelude.{◌≡◌, ◌<◌, ◌≤◌, ◌+◌, ◌++◌, ◌∷◌, ◌≢◌, [], ℕ, false, List, length, None, All, IfOk, IsSome, MatchOption, OnOk, nat_lt, string_bytes};
+ghost use Rattle.std.specs.Prelude.{◌≡◌, ◌<◌, ◌≤◌, ◌+◌, ◌++◌, ◌∷◌, [], ℕ, List, true, All, IfOk, OnOk, string_bytes};
 ghost use Rattle.csv.specs.Records.{fields_of};
-ghost use Rattle.row_forms.specs.Words.{names_of};
-ghost use Rattle.row_forms.specs.declared.row.Row.{Row as RowOf};
-ghost use Rattle.row_forms.specs.Line.Words.{fields_read, line_read};
-ghost use Rattle.row_forms.specs.declared.line.line.Line.TheVariants as says;
-ghost use Rattle.desk_entries.specs.Differences.{IsOtherwise};
-ghost use Rattle.desk_entries.specs.Entries.{most_clerks, most_entries, most_rows, next_number, note_in};
-ghost use Rattle.desk_numbers.specs.Strikes.Words.{is_struck};
-ghost use Rattle.case_numbers.specs.Words.{after_name, name_before};
-ghost use Rattle.desk_entries.specs.Cases.{cases_of, opened_in, with_opened};
-ghost use Rattle.desk_entries.specs.declared.standing.Standing.{Standing as StandingOf};
 ghost use Rattle.docket_rows.specs.Words.{setup_of};
-ghost use Rattle.office_texts.specs.Run.Words.{Holds};
-ghost use Rattle.desk_entries.specs.LineCauses.{cause_or};
-ghost use Rattle.desk_entries.specs.Rows.{IsReadAt, answer_to, follows, outcome_by, special_at};
-ghost use Rattle.desk_entries.specs.Run.{corrections_then, docketed_by, docketed_with, numbers_with, reply_by_places, run_by, unsaid_by};
-ghost use Rattle.docket_rows.specs.declared.command.Command.{Command as CommandOf};
-ghost use Rattle.row_forms.specs.declared.row.Work.TheVariants as work;
-ghost use Rattle.desk_numbers.specs.Words.{numbered, passed};
-ghost use Rattle.desk_numbers.specs.Strikes.Words.{Fits};
 ghost use Rattle.office_texts.specs.Named.Words.{named_line_of};
+ghost use Rattle.office_texts.specs.Run.Words.{Holds};
+ghost use Rattle.desk_numbers.specs.Strikes.Words.{Fits};
+ghost use Rattle.desk_numbers.specs.Words.{numbered};
+ghost use Rattle.desk_entries.specs.declared.standing.Standing.{Standing as StandingOf};
+ghost use Rattle.desk_entries.specs.Cases.{cases_of};
+ghost use Rattle.desk_entries.specs.Entries.{most_entries, next_number};
+ghost use Rattle.desk_entries.specs.LineCauses.{cause_or};
+ghost use Rattle.desk_entries.specs.Rows.{IsReadAt, answer_to, asks, has_room, outcome_by, special_at};
+ghost use Rattle.desk_entries.specs.Run.{corrections_then, docketed_by, docketed_with, numbers_with, reply_by_places, run_by, unsaid_by};
 
 use crate::case_line::{note_case, opens_too_many};
-use crate::cause::{LineCause, push_cause, push_fault};
+use crate::cause::{LineCause, push_cause};
 use crate::entry::{answer_of, entry_of};
 use crate::next_line::{read_next, unfound_in};
-use crate::outcome::{outcome_of, within};
+use crate::outcome::{has_room, outcome_of, within};
 use crate::standing::Standing;
-use case_numbers::{CaseName, Cases, after_name, name_before};
+use case_numbers::{CaseName, Cases};
 use court_clock::Day;
 use csv::StringRecord;
 use desk_numbers::{Corrections, RowNumbers, Said, given_by};
@@ -36,7 +27,7 @@ use desk_session::{Outcome, Register};
 use docket_core::Docket;
 use docket_rows::{Command, Query};
 use office_texts::{Reply, reply_to};
-use row_forms::{Line, Row, RowCause, Work, read_line};
+use row_forms::{Line, Row, RowCause, Work};
 use rule_periods::{Grant, Request};
 use std::alloc::{AllocError, Global};
 
@@ -46,7 +37,7 @@ pub const MOST_CLERKS: u8 = 64;
 /// How many entries a journal has at most, and the court's file is the first of them.
 pub const MOST_ENTRIES: u32 = 1_000_000;
 
-/// After how many entries no row is taken any more: 1,000 are left for later court's files, strikes and restores.
+/// After how many entries no row is kept any more: 1,000 are left for later court's files, strikes and restores.
 pub const MOST_ROWS: u32 = 999_000;
 
 // A row that is done.
@@ -97,19 +88,6 @@ impl DocketRegister {
             numbers: RowNumbers::new(alloc),
             fields: StringRecord::new(alloc),
         })
-    }
-
-    // What a plain line says, whose fields are kept where it says a row.
-    fn said(&mut self, alloc: Global, under: &Standing, line: &[u8]) -> Result<Line, AllocError>
-        ensures said { IfOk result (λ said. said ≡ line_read most_clerks (names_of under.now.court) line.now) }
-        ensures fields { IfOk result (λ said. (row : RowOf) → said ≡ says.Row row → fields_of self.new.fields ≡ fields_read line.now) }
-        ensures cases { self.new.cases ≡ self.old.cases }
-        ensures docket { self.new.docket ≡ self.old.docket }
-        ensures numbers { self.new.numbers ≡ self.old.numbers }
-        ensures count { self.new.count ≡ self.old.count }
-        ensures number { self.new.number ≡ self.old.number }
-    {
-        read_line(alloc, line, MOST_CLERKS, &under.court, &mut self.fields)
     }
 
     // What a line says, and the name in it that no case has yet. The fields of its plain line are kept where it says a row.
@@ -197,24 +175,23 @@ impl DocketRegister {
         )
     }
 
-    // Answers a row that asks a question, as it would be answered if it came next.
+    // Answers a row that asks a question, as it would be answered if it came next. It leaves no entry, and the docket is as it was.
     #[tactic(auto, unfolding(crate::specs::Rows::answer_to))]
-    pub(crate) fn shown(
+    pub(crate) fn show(
         &mut self,
         alloc: Global,
         under: &Standing,
         row: &Row,
-    ) -> Result<String, AllocError>
-        requires { (command : CommandOf) → row.now.work ≢ work.Command command }
-        ensures answer { (kept : List (List ℕ)) → StandsAt under.now self.old kept → IfOk result (λ answer. string_bytes answer ≡ answer_to under.now kept row.now) }
-        ensures docket { (kept : List (List ℕ)) → StandsAt under.now self.old kept → OnOk result (Holds (setup_of under.now.court) self.new.docket (docketed_with under.now (run_by under.now kept) row.now.work)) }
-        ensures numbers { self.new.numbers ≡ self.old.numbers }
-        ensures count { self.new.count ≡ self.old.count }
-        ensures number { self.new.number ≡ self.old.number }
-        ensures cases { self.new.cases ≡ self.old.cases }
+        text: &mut Vec<u8>,
+    ) -> Result<(), AllocError>
+        requires { asks row.now.work ≡ true }
+        ensures told { (kept : List (List ℕ)) → StandsAt under.now self.old kept → OnOk result (text.new.items ≡ text.old.items ++ answer_to under.now kept row.now) }
+        ensures stands { (kept : List (List ℕ)) → StandsAt under.now self.old kept → OnOk result (StandsAt under.now self.new kept) }
     {
         let reply = self.replied(alloc, under, &row.work)?;
-        self.answer(alloc, under, row, reply)
+        let answer = self.answer(alloc, under, row, reply)?;
+        text.extend_from_slice(answer.as_bytes())?;
+        Ok(())
     }
 
     // Decides a row, and gives its answer and what came of it.
@@ -328,96 +305,9 @@ impl DocketRegister {
 
     /// Whether there is room for another row.
     pub fn has_room(&self) -> bool
-        ensures { (under : StandingOf) (kept : List (List ℕ)) → StandsAt under self.now kept → result ≡ nat_lt (length kept) most_rows }
+        ensures { (under : StandingOf) (kept : List (List ℕ)) → StandsAt under self.now kept → result ≡ has_room kept }
     {
-        self.count < MOST_ROWS
-    }
-
-    /// Passes over an entry that is no row.
-    pub fn pass_note(&mut self)
-        ensures { (under : StandingOf) (kept : List (List ℕ)) (entry : List ℕ) → StandsAt under self.old kept → length kept < most_entries → IsSome (note_in entry) → StandsAt under self.new (kept ++ entry ∷ []) }
-    {
-        self.count = self.count.saturating_add(1);
-    }
-
-    // Passes over an entry that says no row of this court: the row keeps its number.
-    pub(crate) fn pass_row(&mut self, under: &Standing) -> Result<(), AllocError>
-        requires { self.old.count < most_entries }
-        ensures docket { self.new.docket ≡ self.old.docket }
-        ensures numbers { OnOk result (self.new.numbers ≡ passed under.now.corrections.kept self.old.numbers self.old.number) }
-        ensures cases { self.new.cases ≡ self.old.cases }
-        ensures count { OnOk result (self.new.count ≡ self.old.count + 1) }
-        ensures number { OnOk result (self.new.number ≡ self.old.number + 1) }
-    {
-        self.numbers.pass(under.corrections.kept(), self.number)?;
-        self.count += 1;
-        self.number += 1;
-        Ok(())
-    }
-
-    // Passes over an entry whose row is struck: the row keeps its number, and the case that it opened its number and its name.
-    pub(crate) fn pass_struck(
-        &mut self,
-        alloc: Global,
-        under: &Standing,
-        entry: &[u8],
-    ) -> Result<(), AllocError>
-        requires { self.old.count < most_entries }
-        ensures docket { self.new.docket ≡ self.old.docket }
-        ensures numbers { OnOk result (self.new.numbers ≡ passed under.now.corrections.kept self.old.numbers self.old.number) }
-        ensures cases { OnOk result (self.new.cases ≡ with_opened self.old.cases (opened_in (line_read most_clerks (names_of under.now.court) (after_name entry.now))) (name_before entry.now)) }
-        ensures count { OnOk result (self.new.count ≡ self.old.count + 1) }
-        ensures number { OnOk result (self.new.number ≡ self.old.number + 1) }
-    {
-        let _types: RowTypes = None;
-        let name = name_before(alloc, entry)?;
-        match self.said(alloc, under, after_name(entry))? {
-            Line::Row(row) => note_case(alloc, &mut self.cases, &row.work, name)?,
-            Line::Fault(_) | Line::Blank => {}
-        }
-        self.pass_row(under)
-    }
-
-    /// Decides the row of an entry again. `None` says that it has the answer that it gets; else this is the one that it gets.
-    pub(crate) fn review(
-        &mut self,
-        alloc: Global,
-        under: &Standing,
-        entry: &[u8],
-    ) -> Result<Option<Vec<u8>>, AllocError>
-        requires room { self.old.count < most_entries }
-        requires stays { is_struck under.now.corrections self.old.number ≡ false }
-        ensures other { (kept : List (List ℕ)) → StandsAt under.now self.old kept → IfOk result (λ other.
-            MatchOption other (follows under.now kept entry.now) (λ answer. IsOtherwise under.now kept entry.now answer.items)) }
-        ensures stands { (kept : List (List ℕ)) → StandsAt under.now self.old kept → note_in entry.now ≡ None → OnOk result (StandsAt under.now self.new (kept ++ entry.now ∷ [])) }
-        ensures count { OnOk result (self.new.count ≡ self.old.count + 1) }
-    {
-        let _types: RowTypes = None;
-        let name = name_before(alloc, entry)?;
-        match self.said(alloc, under, after_name(entry))? {
-            Line::Row(row) => {
-                let Done {
-                    answer,
-                    entry: again,
-                    ..
-                } = self.done(alloc, under, &row, name)?;
-                if again.as_slice() == entry {
-                    Ok(None)
-                } else {
-                    Ok(Some(answer.into_bytes()))
-                }
-            }
-            Line::Fault(cause) => {
-                let mut answer = Vec::new(alloc);
-                push_fault(alloc, &mut answer, self.number, cause)?;
-                self.pass_row(under)?;
-                Ok(Some(answer))
-            }
-            Line::Blank => {
-                self.pass_row(under)?;
-                Ok(Some(Vec::new(alloc)))
-            }
-        }
+        has_room(self.count)
     }
 }
 
@@ -454,6 +344,10 @@ impl Register for DocketRegister {
                 Ok(Outcome::Fault)
             }
             Line::Row(row) => {
+                if !has_room(self.count) {
+                    self.show(alloc, under, &row, text)?;
+                    return Ok(Outcome::Taken);
+                }
                 let Done { entry, outcome, .. } = self.tell(alloc, under, &row, name, text)?;
                 batch.push(entry)?;
                 Ok(outcome)

@@ -1,8 +1,9 @@
 -- What a journal keeps once a batch is appended.
 use Rattle.std.proofs.Common.{◌≡◌, ◌⊎◌, inl, inr, ℕ, ◌+◌, ◌<◌, ◌≤◌, List, [], ◌∷◌, ◌++◌, length, drop, Vec, refl, sym, ◌∙◌, ap, subst, arith, length-append}
-use Rattle.std.specs.Prelude.{All, Bool, IsTrue}
+use Rattle.std.specs.Prelude.{All, IsTrue}
 use Rattle.std.specs.declared.alloc.Global.{Global}
 use Rattle.std.proofs.lemmas.List.{length-map, map-append, append-nil}
+use Rattle.sqlite_disk.specs.declared.Disk as disk
 use Rattle.desk_journal.specs.Frames.{Frame, IsFrame, StandsFor, frame_of, framed, first_checksum, last_checksum, frames, entries_of}
 use Rattle.desk_journal.specs.Batches.{batch_of, frames_of}
 use Rattle.desk_journal.specs.Stamps.{StampView, IsStamp, entry_in}
@@ -64,31 +65,31 @@ pub either_stands : (c : List ℕ) (fs : List Frame) (n : ℕ) (stamp : StampVie
 either_stands c fs n stamp batch entries same (inl before) = inl (subst (StandsFor c) (sym same) before)
 either_stands c fs n stamp batch entries same (inr after) = inr (subst (StandsFor c) (entries_more fs n stamp batch entries same) after)
 
-module _ {D : Type 0} (seen : D → List ℕ) (may_leave : D → List ℕ → Type 0) (is_usable : D → Bool) (journal : Journal D) where
+-- the journal once its file was looked at
+abbrev pub looked : {D : Type 0} → Journal D → D → Journal D
+looked journal disk = record { disk = disk; end = journal.end; count = journal.count; last = journal.last; stamp = journal.stamp; front = journal.front; buffer = journal.buffer }
+
+module _ {D : Type 0} (g : disk.Ghosts D) (journal : Journal D) where
   -- between two calls a crash leaves what is kept
-  pub rest_stands : (fs : List Frame) → KeepsFrames seen may_leave is_usable fs journal → (c : List ℕ) → may_leave journal.disk c → StandsFor c (entries_of fs)
+  pub rest_stands : (fs : List Frame) → KeepsFrames g fs journal → (c : List ℕ) → g.may_leave journal.disk c → StandsFor c (entries_of fs)
   rest_stands fs kept c left = stands c fs (45 ∷ 45 ∷ []) kept.whole (kept.file.only c left) (refl, refl)
 
-  pub rest_kept : (entries : List (List ℕ)) → IsKept seen may_leave is_usable entries journal → (c : List ℕ) → may_leave journal.disk c → StandsFor c entries
+  pub rest_kept : (entries : List (List ℕ)) → IsKept g entries journal → (c : List ℕ) → g.may_leave journal.disk c → StandsFor c entries
   rest_kept entries kept c left = subst (StandsFor c) (sym kept.same) (rest_stands kept.fs kept.kept c left)
 
   pub kept_more : (fs : List Frame) (n : ℕ) (stamp : StampView) (batch : List (Vec ℕ Global)) (entries : List (List ℕ)) → entries ≡ entries_of fs
-      → KeepsFrames seen may_leave is_usable (fs ++ frames_of n stamp batch) journal → IsKept seen may_leave is_usable (entries ++ batch_of batch) journal
+      → KeepsFrames g (fs ++ frames_of n stamp batch) journal → IsKept g (entries ++ batch_of batch) journal
   kept_more fs n stamp batch entries same kept = record { fs = fs ++ frames_of n stamp batch; kept = kept; same = sym (entries_more fs n stamp batch entries same) }
 
   -- nothing is appended
-  pub none_kept : (entries more : List (List ℕ)) → more ≡ [] → IsKept seen may_leave is_usable entries journal → IsKept seen may_leave is_usable (entries ++ more) journal
+  pub none_kept : (entries more : List (List ℕ)) → more ≡ [] → IsKept g entries journal → IsKept g (entries ++ more) journal
   none_kept entries more none kept = record { fs = kept.fs; kept = kept.kept; same = ap (λ (l : List (List ℕ)). entries ++ l) none ∙ append-nil entries ∙ kept.same }
 
   -- what is kept is unchanged
-  pub kept_unchanged : (fs : List Frame) → KeepsFrames seen may_leave is_usable fs journal → IsUnchanged (seen journal.disk) journal.end
+  pub kept_unchanged : (fs : List Frame) → KeepsFrames g fs journal → IsUnchanged (g.seen journal.disk) journal.end
   kept_unchanged fs kept = (frames first_checksum fs, kept.end, kept.file.read)
 
-  -- the journal once its file was looked at
-  abbrev pub looked : D → Journal D
-  looked disk = record { disk = disk; end = journal.end; count = journal.count; last = journal.last; stamp = journal.stamp; front = journal.front; buffer = journal.buffer }
-
-  pub still_keeps : (disk : D) → IsUntouched seen may_leave journal.disk disk → IsTrue (is_usable disk) → (fs : List Frame) → KeepsFrames seen may_leave is_usable fs journal → KeepsFrames seen may_leave is_usable fs (looked disk)
+  pub still_keeps : (disk : D) → IsUntouched g journal.disk disk → IsTrue (g.is_usable disk) → (fs : List Frame) → KeepsFrames g fs journal → KeepsFrames g fs (looked journal disk)
   still_keeps disk untouched usable fs kept = record {
     whole = kept.whole;
     file = record { read = untouched.same ∙ kept.file.read; only = λ c left. kept.file.only c (untouched.no_more c left); usable = usable };

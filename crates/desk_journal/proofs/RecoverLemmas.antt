@@ -1,10 +1,11 @@
 -- What recovery reads, and what it leaves.
 use Rattle.std.proofs.Common.{◌≡◌, inl, inr, ℕ, drop, ◌+◌, ◌<◌, ◌≤◌, List, [], ◌∷◌, ◌++◌, length, get_or, refl, sym, ◌∙◌, ap, subst, arith, zero-add}
-use Rattle.std.specs.Prelude.{Vec, Bool, Result, Ok, Err, OnOk}
+use Rattle.std.specs.Prelude.{Vec, Result, Ok, Err, OnOk}
 use Rattle.std.specs.declared.alloc.Global.{Global}
 use Rattle.std.proofs.lemmas.List.{ext_get_or, length-map}
 use Rattle.std.proofs.lemmas.List.Elements.{All-nil}
 use Rattle.sqlite_disk.specs.Disk.{Holds}
+use Rattle.sqlite_disk.specs.declared.Disk as disk
 use Rattle.desk_journal.specs.Frames.{Frame, IsFrame, IsShut, StandsFor, StandsStamped, first_checksum, last_checksum, frames, entries_of}
 use Rattle.desk_journal.specs.Batches.{batch_of}
 use Rattle.desk_journal.specs.Stamps.{StampView, entry_in, stamp_in, time_after}
@@ -50,9 +51,9 @@ module _ (file : List ℕ) (entries : List (Vec ℕ Global)) (stamps : List Stam
   shut_here = found.read.parts ∙ ap (λ (l : List ℕ). frames first_checksum found.read.fs ++ l) (shut_rest found.rest found.shut)
 
   -- the disk of such a file
-  pub found_durable : {D : Type 0} (seen : D → List ℕ) (may_leave : D → List ℕ → Type 0) (is_usable : D → Bool) (disk : D) → IsDurable seen may_leave is_usable file disk
-      → IsDurable seen may_leave is_usable (frames first_checksum found.read.fs ++ 45 ∷ 45 ∷ drop 2 found.rest) disk
-  found_durable seen may_leave is_usable disk durable = subst (λ (f : List ℕ). IsDurable seen may_leave is_usable f disk) shut_here durable
+  pub found_durable : {D : Type 0} (g : disk.Ghosts D) (disk : D) → IsDurable g file disk
+      → IsDurable g (frames first_checksum found.read.fs ++ 45 ∷ 45 ∷ drop 2 found.rest) disk
+  found_durable g disk durable = subst (λ (f : List ℕ). IsDurable g f disk) shut_here durable
 
   -- whatever is left after the shut latch, the file stands for the same entries
   pub found_left : (c : List ℕ) (stood : List (List ℕ)) → StandsFor file stood → IsLonger (frames first_checksum found.read.fs ++ 45 ∷ 45 ∷ []) c → StandsFor c stood
@@ -100,10 +101,10 @@ module _ (file : List ℕ) (begun : 2 < length file) (count : ℕ) (last rest : 
   pub counted_tail : 0 < count → (tail : List ℕ) → tail ≡ drop 2 rest → IsTail file tail
   counted_tail some tail tail_is = inl (read.fs, read.whole, omega (arith, some, read.count_is), read.parts ∙ ap (λ (l : List ℕ). frames first_checksum read.fs ++ l) (shut_rest rest shut ∙ ap (λ (l : List ℕ). 45 ∷ 45 ∷ l) (sym tail_is)))
 
-module _ {D : Type 0} (seen : D → List ℕ) (may_leave : D → List ℕ → Type 0) (is_usable : D → Bool) (journal : Journal D) where
+module _ {D : Type 0} (g : disk.Ghosts D) (journal : Journal D) where
   -- what recovery leaves is kept
-  pub opened_kept : (file : List ℕ) (entries : List (Vec ℕ Global)) (stamps : List StampView) (last : List ℕ) (end : ℕ) → IsRepaired seen may_leave is_usable file entries stamps last end journal.disk
-      → journal.end ≡ end → journal.count ≡ length entries → journal.last ≡ last → time_after 0 stamps ≤ journal.stamp.time → IsKept seen may_leave is_usable (batch_of entries) journal
+  pub opened_kept : (file : List ℕ) (entries : List (Vec ℕ Global)) (stamps : List StampView) (last : List ℕ) (end : ℕ) → IsRepaired g file entries stamps last end journal.disk
+      → journal.end ≡ end → journal.count ≡ length entries → journal.last ≡ last → time_after 0 stamps ≤ journal.stamp.time → IsKept g (batch_of entries) journal
   opened_kept file entries stamps last end repaired end_is count_is last_is time_is = record {
     fs = repaired.fs;
     kept = record {
@@ -130,9 +131,9 @@ pub short_stands_for_none : (file : List ℕ) → length file ≤ 2 → StandsFo
 short_stands_for_none file short = inr (short, refl)
 
 -- what is kept of a journal without entries
-pub begun_kept : {D : Type 0} (seen : D → List ℕ) (may_leave : D → List ℕ → Type 0) (is_usable : D → Bool) (journal : Journal D) → IsDurable seen may_leave is_usable (45 ∷ 45 ∷ []) journal.disk
-    → journal.end ≡ 0 → journal.count ≡ 0 → journal.last ≡ first_checksum → IsKept seen may_leave is_usable [] journal
-begun_kept seen may_leave is_usable journal durable end_is count_is last_is = record {
+pub begun_kept : {D : Type 0} (g : disk.Ghosts D) (journal : Journal D) → IsDurable g (45 ∷ 45 ∷ []) journal.disk
+    → journal.end ≡ 0 → journal.count ≡ 0 → journal.last ≡ first_checksum → IsKept g [] journal
+begun_kept g journal durable end_is count_is last_is = record {
   fs = [];
   kept = record { whole = All-nil IsFrame; file = durable; end = sym end_is; count = count_is; last = last_is; time = omega arith };
   same = refl;

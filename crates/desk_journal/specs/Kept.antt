@@ -1,5 +1,6 @@
 -- What a journal keeps on its disk.
-use Rattle.std.specs.Prelude.{◌≡◌, ◌≤◌, ℕ, List, [], ◌∷◌, ◌++◌, length, Bool, All}
+use Rattle.std.specs.Prelude.{◌≡◌, ◌≤◌, ℕ, List, [], ◌∷◌, ◌++◌, length, All}
+use Rattle.sqlite_disk.specs.declared.Disk as disk
 use Rattle.desk_journal.specs.Frames.{Frame, IsFrame, first_checksum, last_checksum, frames, entries_of, last_time, stamps_of}
 use Rattle.desk_journal.specs.Stamps.{StampView}
 use Rattle.desk_journal.specs.Disks.{IsDurable}
@@ -27,20 +28,20 @@ IsUnchanged file end = (front : List ℕ) × (length front ≡ end) × (file ≡
 
 -- These frames and a shut latch are all of the file, and all of it is on the disk. The time that the journal gives to what is appended
 -- isn't before theirs.
-pub record KeepsFrames {D : Type 0} (seen : D → List ℕ) (may_leave : D → List ℕ → Type 0) (is_usable : D → Bool) (fs : List Frame) (journal : Journal D) : Type 0 where
+pub record KeepsFrames {D : Type 0} (g : disk.Ghosts D) (fs : List Frame) (journal : Journal D) : Type 0 where
   pub whole : All IsFrame fs
-  pub file : IsDurable seen may_leave is_usable (frames first_checksum fs ++ 45 ∷ 45 ∷ []) journal.disk
+  pub file : IsDurable g (frames first_checksum fs ++ 45 ∷ 45 ∷ []) journal.disk
   pub end : length (frames first_checksum fs) ≡ journal.end
   pub count : journal.count ≡ length fs
   pub last : journal.last ≡ last_checksum first_checksum fs
   pub time : last_time fs ≤ journal.stamp.time
 
 -- the entries are kept: a read gives their frames and a shut latch, and so does each read after a crash
-pub record IsKept {D : Type 0} (seen : D → List ℕ) (may_leave : D → List ℕ → Type 0) (is_usable : D → Bool) (entries : List (List ℕ)) (journal : Journal D) : Type 0 where
+pub record IsKept {D : Type 0} (g : disk.Ghosts D) (entries : List (List ℕ)) (journal : Journal D) : Type 0 where
   pub fs : List Frame
-  pub kept : KeepsFrames seen may_leave is_usable fs journal
+  pub kept : KeepsFrames g fs journal
   pub same : entries ≡ entries_of fs
 
 -- the entries that are kept have these stamps
-abbrev pub KeepsStamps : {D : Type 0} → (seen : D → List ℕ) → (may_leave : D → List ℕ → Type 0) → (is_usable : D → Bool) → List StampView → Journal D → Type 0
-KeepsStamps seen may_leave is_usable stamps journal = (fs : List Frame) × KeepsFrames seen may_leave is_usable fs journal × (stamps ≡ stamps_of fs)
+abbrev pub KeepsStamps : {D : Type 0} → disk.Ghosts D → List StampView → Journal D → Type 0
+KeepsStamps g stamps journal = (fs : List Frame) × KeepsFrames g fs journal × (stamps ≡ stamps_of fs)

@@ -1,6 +1,7 @@
 -- What recovery finds and leaves.
-use Rattle.std.specs.Prelude.{◌≡◌, ◌≤◌, ℕ, List, [], ◌∷◌, ◌++◌, All, Bool, Option, MatchOption, Vec, length}
+use Rattle.std.specs.Prelude.{◌≡◌, ◌≤◌, ℕ, List, [], ◌∷◌, ◌++◌, All, Option, MatchOption, Vec, length}
 use Rattle.std.specs.declared.alloc.Global.{Global}
+use Rattle.sqlite_disk.specs.declared.Disk as disk
 use Rattle.desk_journal.specs.Batches.{batch_of}
 use Rattle.desk_journal.specs.Frames.{Frame, IsFrame, StandsFor, StandsStamped, entries_of, first_checksum, frames, last_checksum, stamps_of}
 use Rattle.desk_journal.specs.Stamps.{StampView}
@@ -18,7 +19,7 @@ Finds file found = MatchOption found (length file ≤ 2) (λ r. IsFound file r.e
 
 -- the file stands for these entries, none of which is damaged, these are their stamps, and their frames and a shut latch are all that is
 -- on the disk
-pub record IsRepaired {D : Type 0} (seen : D → List ℕ) (may_leave : D → List ℕ → Type 0) (is_usable : D → Bool) (file : List ℕ) (entries : List (Vec ℕ Global)) (stamps : List StampView) (last : List ℕ) (end : ℕ) (disk : D) : Type 0 where
+pub record IsRepaired {D : Type 0} (g : disk.Ghosts D) (file : List ℕ) (entries : List (Vec ℕ Global)) (stamps : List StampView) (last : List ℕ) (end : ℕ) (disk : D) : Type 0 where
   pub stands : StandsFor file (batch_of entries)
   pub stands_stamped : StandsStamped file (batch_of entries) stamps
   pub undamaged : IsWhole file
@@ -28,4 +29,4 @@ pub record IsRepaired {D : Type 0} (seen : D → List ℕ) (may_leave : D → Li
   pub stamped : stamps ≡ stamps_of fs
   pub last_is : last ≡ last_checksum first_checksum fs
   pub end_is : length (frames first_checksum fs) ≡ end
-  pub durable : IsDurable seen may_leave is_usable (frames first_checksum fs ++ 45 ∷ 45 ∷ []) disk
+  pub durable : IsDurable g (frames first_checksum fs ++ 45 ∷ 45 ∷ []) disk

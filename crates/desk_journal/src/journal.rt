@@ -74,17 +74,17 @@ impl<D: Disk> Journal<D> {
         requires usable { IsTrue (D.Disk.is_usable self.old.disk) }
         requires some { 0 < length batch.now }
         requires room { self.old.count + length batch.now ≤ 1000000 }
-        ensures kept { (fs : List Frame) → KeepsFrames D.Disk.seen D.Disk.may_leave D.Disk.is_usable fs self.old
-            → OnOk result (KeepsFrames D.Disk.seen D.Disk.may_leave D.Disk.is_usable (fs ++ frames_of (length fs) self.old.stamp batch.now) self.new) }
-        ensures crash { (fs : List Frame) → KeepsFrames D.Disk.seen D.Disk.may_leave D.Disk.is_usable fs self.old → (c : List ℕ) → D.Disk.may_leave self.new.disk c
+        ensures kept { (fs : List Frame) → KeepsFrames D.Disk fs self.old
+            → OnOk result (KeepsFrames D.Disk (fs ++ frames_of (length fs) self.old.stamp batch.now) self.new) }
+        ensures crash { (fs : List Frame) → KeepsFrames D.Disk fs self.old → (c : List ℕ) → D.Disk.may_leave self.new.disk c
             → StandsFor c (entries_of fs) ⊎ StandsFor c (entries_of (fs ++ frames_of (length fs) self.old.stamp batch.now)) }
-        ensures refused { (fs : List Frame) → KeepsFrames D.Disk.seen D.Disk.may_leave D.Disk.is_usable fs self.old
-            → IsErrOf result JournalFault.Full → KeepsFrames D.Disk.seen D.Disk.may_leave D.Disk.is_usable fs self.new }
+        ensures refused { (fs : List Frame) → KeepsFrames D.Disk fs self.old
+            → IsErrOf result JournalFault.Full → KeepsFrames D.Disk fs self.new }
         ensures stamp { self.new.stamp ≡ self.old.stamp }
         ensures clean { D.Disk.is_clean self.new.disk ≡ D.Disk.is_clean self.old.disk }
         ensures never { IsErrOf result JournalFault.Changed → ⊥ }
         ensures is_stamp { IsStamp self.old.stamp }
-        ensures cause { (fs : List Frame) → KeepsFrames D.Disk.seen D.Disk.may_leave D.Disk.is_usable fs self.old
+        ensures cause { (fs : List Frame) → KeepsFrames D.Disk fs self.old
             → IfErr result (HasAppendFault (D.Disk.faults self.old.disk) (D.Disk.faults self.new.disk) (entries_of fs) batch.now) }
     {
         let last = pack_whole(
@@ -114,28 +114,28 @@ impl<D: Disk> Journal<D> {
     /// At `Full` the journal is as it was: there would be more than 1,000,000 entries, or an entry has more than
     /// 16,777,216 bytes. At another `Err` open it anew.
     pub fn append(&mut self, batch: &[Vec<u8>]) -> Result<(), JournalFault>
-        ensures kept { (entries : List (List ℕ)) → IsKept D.Disk.seen D.Disk.may_leave D.Disk.is_usable entries self.old
-            → OnOk result (IsKept D.Disk.seen D.Disk.may_leave D.Disk.is_usable (entries ++ batch_of batch.now) self.new) }
-        ensures crash { (entries : List (List ℕ)) → IsKept D.Disk.seen D.Disk.may_leave D.Disk.is_usable entries self.old → (c : List ℕ) → D.Disk.may_leave (disk_of self.new) c
+        ensures kept { (entries : List (List ℕ)) → IsKept D.Disk entries self.old
+            → OnOk result (IsKept D.Disk (entries ++ batch_of batch.now) self.new) }
+        ensures crash { (entries : List (List ℕ)) → IsKept D.Disk entries self.old → (c : List ℕ) → D.Disk.may_leave (disk_of self.new) c
             → StandsFor c entries ⊎ StandsFor c (entries ++ batch_of batch.now) }
-        ensures refused { (entries : List (List ℕ)) → IsKept D.Disk.seen D.Disk.may_leave D.Disk.is_usable entries self.old
-            → IsErrOf result JournalFault.Full → IsKept D.Disk.seen D.Disk.may_leave D.Disk.is_usable entries self.new }
+        ensures refused { (entries : List (List ℕ)) → IsKept D.Disk entries self.old
+            → IsErrOf result JournalFault.Full → IsKept D.Disk entries self.new }
         ensures stamp { stamp_of self.new ≡ stamp_of self.old }
         ensures clean { IsTrue (D.Disk.is_clean (disk_of self.new)) → IsTrue (D.Disk.is_clean (disk_of self.old)) }
         // A batch is written only after the end as the journal left it.
         ensures unchanged { 0 < length batch.now → OnOk result (IsTrue (D.Disk.is_clean (disk_of self.new)) → IsUnchanged (D.Disk.seen (disk_of self.old)) (end_of self.old)) }
         // Where nothing but the journal has written to its file, it isn't called changed.
-        ensures changed { (entries : List (List ℕ)) → IsKept D.Disk.seen D.Disk.may_leave D.Disk.is_usable entries self.old
+        ensures changed { (entries : List (List ℕ)) → IsKept D.Disk entries self.old
             → IsErrOf result JournalFault.Changed → IsTrue (D.Disk.is_clean (disk_of self.new)) → ⊥ }
-        ensures untouched { IsErrOf result JournalFault.Changed → IsUntouched D.Disk.seen D.Disk.may_leave (disk_of self.old) (disk_of self.new) }
-        ensures cause { (entries : List (List ℕ)) → IsKept D.Disk.seen D.Disk.may_leave D.Disk.is_usable entries self.old
+        ensures untouched { IsErrOf result JournalFault.Changed → IsUntouched D.Disk (disk_of self.old) (disk_of self.new) }
+        ensures cause { (entries : List (List ℕ)) → IsKept D.Disk entries self.old
             → IfErr result (HasAppendFault (D.Disk.faults (disk_of self.old)) (D.Disk.faults (disk_of self.new)) entries batch.now) }
         // Each frame says how many entries were durable before its batch, and has the journal's stamp.
-        ensures numbered { (fs : List Frame) → KeepsFrames D.Disk.seen D.Disk.may_leave D.Disk.is_usable fs self.old
-            → OnOk result (KeepsFrames D.Disk.seen D.Disk.may_leave D.Disk.is_usable (fs ++ frames_of (length fs) (stamp_of self.old) batch.now) self.new) }
+        ensures numbered { (fs : List Frame) → KeepsFrames D.Disk fs self.old
+            → OnOk result (KeepsFrames D.Disk (fs ++ frames_of (length fs) (stamp_of self.old) batch.now) self.new) }
         // So the entries have the journal's account, and none has a time before that of the entry before it.
-        ensures stamped { (stamps : List StampView) → KeepsStamps D.Disk.seen D.Disk.may_leave D.Disk.is_usable stamps self.old
-            → OnOk result ((after : List StampView) × AddsStamps (stamp_of self.old).account stamps after × KeepsStamps D.Disk.seen D.Disk.may_leave D.Disk.is_usable after self.new) }
+        ensures stamped { (stamps : List StampView) → KeepsStamps D.Disk stamps self.old
+            → OnOk result ((after : List StampView) × AddsStamps (stamp_of self.old).account stamps after × KeepsStamps D.Disk after self.new) }
     {
         if batch.is_empty() {
             return Ok(());
@@ -154,12 +154,9 @@ impl<D: Disk> Journal<D> {
 
     /// What is appended from here on is of this second of UTC, or of the journal's time where that is later. So times never go back.
     pub fn at(&mut self, time: u64)
-        ensures kept { (entries : List (List ℕ)) → IsKept D.Disk.seen D.Disk.may_leave D.Disk.is_usable entries self.old
-            → IsKept D.Disk.seen D.Disk.may_leave D.Disk.is_usable entries self.new }
-        ensures frames { (fs : List Frame) → KeepsFrames D.Disk.seen D.Disk.may_leave D.Disk.is_usable fs self.old
-            → KeepsFrames D.Disk.seen D.Disk.may_leave D.Disk.is_usable fs self.new }
-        ensures stamped { (stamps : List StampView) → KeepsStamps D.Disk.seen D.Disk.may_leave D.Disk.is_usable stamps self.old
-            → KeepsStamps D.Disk.seen D.Disk.may_leave D.Disk.is_usable stamps self.new }
+        ensures kept { (entries : List (List ℕ)) → IsKept D.Disk entries self.old → IsKept D.Disk entries self.new }
+        ensures frames { (fs : List Frame) → KeepsFrames D.Disk fs self.old → KeepsFrames D.Disk fs self.new }
+        ensures stamped { (stamps : List StampView) → KeepsStamps D.Disk stamps self.old → KeepsStamps D.Disk stamps self.new }
         ensures disk { disk_of self.new ≡ disk_of self.old }
         ensures stamp { stamp_of self.new ≡ record { time = max (stamp_of self.old).time time; account = (stamp_of self.old).account } }
     {
@@ -174,22 +171,22 @@ impl<D: Disk> Journal<D> {
         mut disk: D,
         mut stamp: Stamp,
     ) -> Result<(Journal<D>, Vec<Vec<u8>>), (JournalFault, D)>
-        ensures kept { (file : List ℕ) → IsDurable D.Disk.seen D.Disk.may_leave D.Disk.is_usable file disk → IfOk result (λ opened. IsTrue (D.Disk.is_clean (disk_of opened.0))
-            → StandsFor file (batch_of opened.1.items) × IsWhole file × IsKept D.Disk.seen D.Disk.may_leave D.Disk.is_usable (batch_of opened.1.items) opened.0) }
-        ensures crash { (file : List ℕ) (entries : List (List ℕ)) → IsDurable D.Disk.seen D.Disk.may_leave D.Disk.is_usable file disk → StandsFor file entries
+        ensures kept { (file : List ℕ) → IsDurable D.Disk file disk → IfOk result (λ opened. IsTrue (D.Disk.is_clean (disk_of opened.0))
+            → StandsFor file (batch_of opened.1.items) × IsWhole file × IsKept D.Disk (batch_of opened.1.items) opened.0) }
+        ensures crash { (file : List ℕ) (entries : List (List ℕ)) → IsDurable D.Disk file disk → StandsFor file entries
             → IfErr result (λ e. IsTrue (D.Disk.is_clean e.1) → (c : List ℕ) → D.Disk.may_leave e.1 c → StandsFor c entries) }
-        ensures cause { (file : List ℕ) → IsDurable D.Disk.seen D.Disk.may_leave D.Disk.is_usable file disk
+        ensures cause { (file : List ℕ) → IsDurable D.Disk file disk
             → IfErr result (λ e. IsTrue (D.Disk.is_clean e.1) → HasOpenFault (D.Disk.faults disk) (D.Disk.faults e.1) file e.0) }
         ensures stamp { IfOk result (λ opened. ((stamp_of opened.0).account ≡ stamp.account) × (stamp.time ≤ (stamp_of opened.0).time)) }
         // The journal's time is the later of that of the stamp and that of the last entry.
-        ensures time { (file : List ℕ) (stamps : List StampView) → IsDurable D.Disk.seen D.Disk.may_leave D.Disk.is_usable file disk → HasStamps file stamps
+        ensures time { (file : List ℕ) (stamps : List StampView) → IsDurable D.Disk file disk → HasStamps file stamps
             → IfOk result (λ opened. IsTrue (D.Disk.is_clean (disk_of opened.0))
             → (stamp_of opened.0).time ≡ max stamp.time (time_after 0 stamps)) }
         ensures some { IfOk result (λ opened. 0 < length opened.1.items) }
         ensures few { IfOk result (λ opened. length opened.1.items ≤ 1000000) }
         // Unless a write or a sync has failed, nothing is written.
-        ensures untouched { (file : List ℕ) → IsDurable D.Disk.seen D.Disk.may_leave D.Disk.is_usable file disk
-            → IfErr result (λ e. IsDurable D.Disk.seen D.Disk.may_leave D.Disk.is_usable file e.1 ⊎ HasWriteFault e.0) }
+        ensures untouched { (file : List ℕ) → IsDurable D.Disk file disk
+            → IfErr result (λ e. IsDurable D.Disk file e.1 ⊎ HasWriteFault e.0) }
     {
         match recover(alloc, &mut disk) {
             Err(fault) => Err((fault, disk)),
@@ -212,16 +209,16 @@ impl<D: Disk> Journal<D> {
     /// Begins a journal in a file that has no entries, as a crash may have left it. What is appended gets this stamp. A crash within the
     /// call leaves a file that has none either. An `Err` gives the disk back.
     pub fn begin(alloc: Global, mut disk: D, stamp: Stamp) -> Result<Journal<D>, (JournalFault, D)>
-        ensures kept { (file : List ℕ) → IsDurable D.Disk.seen D.Disk.may_leave D.Disk.is_usable file disk → IfOk result (λ journal. IsTrue (D.Disk.is_clean (disk_of journal))
-            → StandsFor file [] × IsWhole file × IsKept D.Disk.seen D.Disk.may_leave D.Disk.is_usable [] journal) }
-        ensures crash { (file : List ℕ) (entries : List (List ℕ)) → IsDurable D.Disk.seen D.Disk.may_leave D.Disk.is_usable file disk → StandsFor file entries
+        ensures kept { (file : List ℕ) → IsDurable D.Disk file disk → IfOk result (λ journal. IsTrue (D.Disk.is_clean (disk_of journal))
+            → StandsFor file [] × IsWhole file × IsKept D.Disk [] journal) }
+        ensures crash { (file : List ℕ) (entries : List (List ℕ)) → IsDurable D.Disk file disk → StandsFor file entries
             → IfErr result (λ e. IsTrue (D.Disk.is_clean e.1) → (c : List ℕ) → D.Disk.may_leave e.1 c → StandsFor c entries) }
-        ensures cause { (file : List ℕ) → IsDurable D.Disk.seen D.Disk.may_leave D.Disk.is_usable file disk
+        ensures cause { (file : List ℕ) → IsDurable D.Disk file disk
             → IfErr result (λ e. IsTrue (D.Disk.is_clean e.1) → HasBeginFault (D.Disk.faults disk) (D.Disk.faults e.1) file e.0) }
         ensures stamp { IfOk result (λ journal. stamp_of journal ≡ stamp) }
         // Unless a write or a sync has failed, nothing is written.
-        ensures untouched { (file : List ℕ) → IsDurable D.Disk.seen D.Disk.may_leave D.Disk.is_usable file disk
-            → IfErr result (λ e. IsDurable D.Disk.seen D.Disk.may_leave D.Disk.is_usable file e.1 ⊎ HasWriteFault e.0) }
+        ensures untouched { (file : List ℕ) → IsDurable D.Disk file disk
+            → IfErr result (λ e. IsDurable D.Disk file e.1 ⊎ HasWriteFault e.0) }
     {
         match begin(alloc, &mut disk) {
             Err(fault) => Err((fault, disk)),

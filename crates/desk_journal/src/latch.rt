@@ -10,7 +10,7 @@ use sqlite_disk::Disk;
 // After it, a crash leaves what a read returns.
 fn sync<D: Disk>(disk: &mut D) -> Result<(), JournalFault>
     requires { IsTrue (D.Disk.is_usable disk.old) }
-    ensures durable { OnOk result (IsDurable D.Disk.seen D.Disk.may_leave D.Disk.is_usable (D.Disk.seen disk.old) disk.new) }
+    ensures durable { OnOk result (IsDurable D.Disk (D.Disk.seen disk.old) disk.new) }
     ensures crash { (c : List ℕ) → D.Disk.may_leave disk.new c → D.Disk.may_leave disk.old c }
     ensures clean { D.Disk.is_clean disk.new ≡ D.Disk.is_clean disk.old }
     ensures faults { CountsFault result (D.Disk.faults disk.old) (D.Disk.faults disk.new) }
@@ -26,9 +26,9 @@ fn sync<D: Disk>(disk: &mut D) -> Result<(), JournalFault>
 pub fn write_end<D: Disk>(disk: &mut D, end: usize, bytes: &[u8]) -> Result<(), JournalFault>
     requires usable { IsTrue (D.Disk.is_usable disk.old) }
     requires some { 0 < length bytes.now }
-    ensures durable { (file : List ℕ) → length file ≡ end → IsDurable D.Disk.seen D.Disk.may_leave D.Disk.is_usable file disk.old
-        → OnOk result (IsDurable D.Disk.seen D.Disk.may_leave D.Disk.is_usable (file ++ bytes.now) disk.new) }
-    ensures crash { (file : List ℕ) → length file ≡ end → IsDurable D.Disk.seen D.Disk.may_leave D.Disk.is_usable file disk.old
+    ensures durable { (file : List ℕ) → length file ≡ end → IsDurable D.Disk file disk.old
+        → OnOk result (IsDurable D.Disk (file ++ bytes.now) disk.new) }
+    ensures crash { (file : List ℕ) → length file ≡ end → IsDurable D.Disk file disk.old
         → (c : List ℕ) → D.Disk.may_leave disk.new c → IsLonger file c }
     ensures usable { OnOk result (IsTrue (D.Disk.is_usable disk.new)) }
     ensures clean { D.Disk.is_clean disk.new ≡ D.Disk.is_clean disk.old }
@@ -44,9 +44,9 @@ pub fn write_end<D: Disk>(disk: &mut D, end: usize, bytes: &[u8]) -> Result<(), 
 /// Writes an open latch over two bytes.
 pub fn open_latch<D: Disk>(disk: &mut D, at: usize) -> Result<(), JournalFault>
     requires { IsTrue (D.Disk.is_usable disk.old) }
-    ensures durable { (front tail : List ℕ) (latch second : ℕ) → length front ≡ at → IsDurable D.Disk.seen D.Disk.may_leave D.Disk.is_usable (front ++ latch ∷ second ∷ tail) disk.old
-        → OnOk result (IsDurable D.Disk.seen D.Disk.may_leave D.Disk.is_usable (front ++ 43 ∷ 43 ∷ tail) disk.new) }
-    ensures crash { (front tail : List ℕ) (latch second : ℕ) → length front ≡ at → IsDurable D.Disk.seen D.Disk.may_leave D.Disk.is_usable (front ++ latch ∷ second ∷ tail) disk.old
+    ensures durable { (front tail : List ℕ) (latch second : ℕ) → length front ≡ at → IsDurable D.Disk (front ++ latch ∷ second ∷ tail) disk.old
+        → OnOk result (IsDurable D.Disk (front ++ 43 ∷ 43 ∷ tail) disk.new) }
+    ensures crash { (front tail : List ℕ) (latch second : ℕ) → length front ≡ at → IsDurable D.Disk (front ++ latch ∷ second ∷ tail) disk.old
         → (c : List ℕ) → D.Disk.may_leave disk.new c → IsAround front tail c }
     ensures usable { OnOk result (IsTrue (D.Disk.is_usable disk.new)) }
     ensures clean { D.Disk.is_clean disk.new ≡ D.Disk.is_clean disk.old }
@@ -62,9 +62,9 @@ pub fn open_latch<D: Disk>(disk: &mut D, at: usize) -> Result<(), JournalFault>
 /// Writes a shut latch into a file of at most two bytes.
 pub fn write_shut<D: Disk>(disk: &mut D) -> Result<(), JournalFault>
     requires { IsTrue (D.Disk.is_usable disk.old) }
-    ensures durable { (file : List ℕ) → length file ≤ 2 → IsDurable D.Disk.seen D.Disk.may_leave D.Disk.is_usable file disk.old
-        → OnOk result (IsDurable D.Disk.seen D.Disk.may_leave D.Disk.is_usable (45 ∷ 45 ∷ []) disk.new) }
-    ensures crash { (file : List ℕ) → length file ≤ 2 → IsDurable D.Disk.seen D.Disk.may_leave D.Disk.is_usable file disk.old
+    ensures durable { (file : List ℕ) → length file ≤ 2 → IsDurable D.Disk file disk.old
+        → OnOk result (IsDurable D.Disk (45 ∷ 45 ∷ []) disk.new) }
+    ensures crash { (file : List ℕ) → length file ≤ 2 → IsDurable D.Disk file disk.old
         → (c : List ℕ) → D.Disk.may_leave disk.new c → length c ≤ 2 }
     ensures clean { D.Disk.is_clean disk.new ≡ D.Disk.is_clean disk.old }
     ensures faults { CountsFault result (D.Disk.faults disk.old) (D.Disk.faults disk.new) }
@@ -80,9 +80,9 @@ pub fn write_shut<D: Disk>(disk: &mut D) -> Result<(), JournalFault>
 pub fn cut_behind<D: Disk>(disk: &mut D, at: usize) -> Result<(), JournalFault>
     requires usable { IsTrue (D.Disk.is_usable disk.old) }
     requires fits { at + 2 < 2 ^ 64 }
-    ensures durable { (front tail : List ℕ) → length front ≡ at → IsDurable D.Disk.seen D.Disk.may_leave D.Disk.is_usable (front ++ 45 ∷ 45 ∷ tail) disk.old
-        → OnOk result (IsDurable D.Disk.seen D.Disk.may_leave D.Disk.is_usable (front ++ 45 ∷ 45 ∷ []) disk.new) }
-    ensures crash { (front tail : List ℕ) → length front ≡ at → IsDurable D.Disk.seen D.Disk.may_leave D.Disk.is_usable (front ++ 45 ∷ 45 ∷ tail) disk.old
+    ensures durable { (front tail : List ℕ) → length front ≡ at → IsDurable D.Disk (front ++ 45 ∷ 45 ∷ tail) disk.old
+        → OnOk result (IsDurable D.Disk (front ++ 45 ∷ 45 ∷ []) disk.new) }
+    ensures crash { (front tail : List ℕ) → length front ≡ at → IsDurable D.Disk (front ++ 45 ∷ 45 ∷ tail) disk.old
         → (c : List ℕ) → D.Disk.may_leave disk.new c → IsLonger (front ++ 45 ∷ 45 ∷ []) c }
     ensures usable { OnOk result (IsTrue (D.Disk.is_usable disk.new)) }
     ensures clean { D.Disk.is_clean disk.new ≡ D.Disk.is_clean disk.old }

@@ -13,9 +13,9 @@ pub fn publish<D: Disk>(disk: &mut D, end: usize, behind: &[u8]) -> Result<(), J
     requires usable { IsTrue (D.Disk.is_usable disk.old) }
     requires some { 0 < length behind.now }
     requires fits { end + 2 < 2 ^ 64 }
-    ensures durable { (front : List ℕ) → length front ≡ end → IsDurable D.Disk.seen D.Disk.may_leave D.Disk.is_usable (front ++ 45 ∷ 45 ∷ []) disk.old
-        → OnOk result (IsDurable D.Disk.seen D.Disk.may_leave D.Disk.is_usable (front ++ 43 ∷ 43 ∷ behind.now) disk.new) }
-    ensures crash { (front : List ℕ) → length front ≡ end → IsDurable D.Disk.seen D.Disk.may_leave D.Disk.is_usable (front ++ 45 ∷ 45 ∷ []) disk.old
+    ensures durable { (front : List ℕ) → length front ≡ end → IsDurable D.Disk (front ++ 45 ∷ 45 ∷ []) disk.old
+        → OnOk result (IsDurable D.Disk (front ++ 43 ∷ 43 ∷ behind.now) disk.new) }
+    ensures crash { (front : List ℕ) → length front ≡ end → IsDurable D.Disk (front ++ 45 ∷ 45 ∷ []) disk.old
         → (c : List ℕ) → D.Disk.may_leave disk.new c → IsLonger (front ++ 45 ∷ 45 ∷ []) c ⊎ IsAround front behind.now c }
     ensures clean { D.Disk.is_clean disk.new ≡ D.Disk.is_clean disk.old }
     ensures faults { CountsFault result (D.Disk.faults disk.old) (D.Disk.faults disk.new) }

@@ -120,14 +120,14 @@ pub fn tail_in(bytes: &[u8]) -> Result<&[u8], JournalFault>
 
 // The entries of a disk's file, and where they end: none of a file of at most two bytes. Nothing is written.
 fn read_disk<D: Disk>(alloc: Global, disk: &mut D) -> Result<Option<Recovered>, JournalFault>
-    ensures found { (file : List ℕ) → IsDurable D.Disk.seen D.Disk.may_leave D.Disk.is_usable file disk.old → IfOk result (λ found. IsTrue (D.Disk.is_clean disk.new)
+    ensures found { (file : List ℕ) → IsDurable D.Disk file disk.old → IfOk result (λ found. IsTrue (D.Disk.is_clean disk.new)
         → Finds file found) }
-    ensures durable { (file : List ℕ) → IsDurable D.Disk.seen D.Disk.may_leave D.Disk.is_usable file disk.old → IsDurable D.Disk.seen D.Disk.may_leave D.Disk.is_usable file disk.new }
+    ensures durable { (file : List ℕ) → IsDurable D.Disk file disk.old → IsDurable D.Disk file disk.new }
     ensures usable { OnOk result (IsTrue (D.Disk.is_usable disk.new)) }
     ensures few { IfOk result (λ found. IfSome found (λ r. (length r.entries.items ≤ 1000000) × (r.end + 2 < 2 ^ 64))) }
     ensures clean { IsTrue (D.Disk.is_clean disk.new) → IsTrue (D.Disk.is_clean disk.old) }
     ensures faults { OnOk result (D.Disk.faults disk.new ≡ D.Disk.faults disk.old) }
-    ensures cause { (file : List ℕ) → IsDurable D.Disk.seen D.Disk.may_leave D.Disk.is_usable file disk.old
+    ensures cause { (file : List ℕ) → IsDurable D.Disk file disk.old
         → IfErr result (λ e. IsTrue (D.Disk.is_clean disk.new) → HasDiskFault (D.Disk.faults disk.old) (D.Disk.faults disk.new) file e) }
 {
     if !disk.may_be_used() {
@@ -144,16 +144,16 @@ fn read_disk<D: Disk>(alloc: Global, disk: &mut D) -> Result<Option<Recovered>, 
 /// Reads the entries of a file that a crash may have left, and cuts what comes after its shut latch. A crash within it leaves a file
 /// that stands for the same entries. Where an entry is damaged, or there is none, nothing is written.
 pub fn recover<D: Disk>(alloc: Global, disk: &mut D) -> Result<Recovered, JournalFault>
-    ensures entries { (file : List ℕ) → IsDurable D.Disk.seen D.Disk.may_leave D.Disk.is_usable file disk.old
-        → IfOk result (λ r. IsTrue (D.Disk.is_clean disk.new) → IsRepaired D.Disk.seen D.Disk.may_leave D.Disk.is_usable file r.entries.items r.stamps.items r.last r.end disk.new) }
+    ensures entries { (file : List ℕ) → IsDurable D.Disk file disk.old
+        → IfOk result (λ r. IsTrue (D.Disk.is_clean disk.new) → IsRepaired D.Disk file r.entries.items r.stamps.items r.last r.end disk.new) }
     ensures some { IfOk result (λ r. 0 < length r.entries.items) }
     ensures few { IfOk result (λ r. length r.entries.items ≤ 1000000) }
-    ensures crash { (file : List ℕ) (entries : List (List ℕ)) → IsDurable D.Disk.seen D.Disk.may_leave D.Disk.is_usable file disk.old → StandsFor file entries
+    ensures crash { (file : List ℕ) (entries : List (List ℕ)) → IsDurable D.Disk file disk.old → StandsFor file entries
         → IsTrue (D.Disk.is_clean disk.new) → (c : List ℕ) → D.Disk.may_leave disk.new c → StandsFor c entries }
-    ensures cause { (file : List ℕ) → IsDurable D.Disk.seen D.Disk.may_leave D.Disk.is_usable file disk.old
+    ensures cause { (file : List ℕ) → IsDurable D.Disk file disk.old
         → IfErr result (λ e. IsTrue (D.Disk.is_clean disk.new) → HasOpenFault (D.Disk.faults disk.old) (D.Disk.faults disk.new) file e) }
-    ensures untouched { (file : List ℕ) → IsDurable D.Disk.seen D.Disk.may_leave D.Disk.is_usable file disk.old
-        → IfErr result (λ e. IsDurable D.Disk.seen D.Disk.may_leave D.Disk.is_usable file disk.new ⊎ HasWriteFault e) }
+    ensures untouched { (file : List ℕ) → IsDurable D.Disk file disk.old
+        → IfErr result (λ e. IsDurable D.Disk file disk.new ⊎ HasWriteFault e) }
 {
     match read_disk(alloc, disk)? {
         None => Err(JournalFault::NoEntries),
@@ -170,14 +170,14 @@ pub fn recover<D: Disk>(alloc: Global, disk: &mut D) -> Result<Recovered, Journa
 /// Makes a journal without entries of a file that has none, as a crash may have left it: a shut latch, and nothing after it. A crash within
 /// it leaves a file that has none either. Where an entry is damaged, or there are entries, nothing is written.
 pub fn begin<D: Disk>(alloc: Global, disk: &mut D) -> Result<(), JournalFault>
-    ensures begun { (file : List ℕ) → IsDurable D.Disk.seen D.Disk.may_leave D.Disk.is_usable file disk.old
-        → OnOk result (IsTrue (D.Disk.is_clean disk.new) → StandsFor file [] × IsWhole file × IsDurable D.Disk.seen D.Disk.may_leave D.Disk.is_usable (45 ∷ 45 ∷ []) disk.new) }
-    ensures crash { (file : List ℕ) (entries : List (List ℕ)) → IsDurable D.Disk.seen D.Disk.may_leave D.Disk.is_usable file disk.old → StandsFor file entries
+    ensures begun { (file : List ℕ) → IsDurable D.Disk file disk.old
+        → OnOk result (IsTrue (D.Disk.is_clean disk.new) → StandsFor file [] × IsWhole file × IsDurable D.Disk (45 ∷ 45 ∷ []) disk.new) }
+    ensures crash { (file : List ℕ) (entries : List (List ℕ)) → IsDurable D.Disk file disk.old → StandsFor file entries
         → IsTrue (D.Disk.is_clean disk.new) → (c : List ℕ) → D.Disk.may_leave disk.new c → StandsFor c entries }
-    ensures cause { (file : List ℕ) → IsDurable D.Disk.seen D.Disk.may_leave D.Disk.is_usable file disk.old
+    ensures cause { (file : List ℕ) → IsDurable D.Disk file disk.old
         → IfErr result (λ e. IsTrue (D.Disk.is_clean disk.new) → HasBeginFault (D.Disk.faults disk.old) (D.Disk.faults disk.new) file e) }
-    ensures untouched { (file : List ℕ) → IsDurable D.Disk.seen D.Disk.may_leave D.Disk.is_usable file disk.old
-        → IfErr result (λ e. IsDurable D.Disk.seen D.Disk.may_leave D.Disk.is_usable file disk.new ⊎ HasWriteFault e) }
+    ensures untouched { (file : List ℕ) → IsDurable D.Disk file disk.old
+        → IfErr result (λ e. IsDurable D.Disk file disk.new ⊎ HasWriteFault e) }
 {
     match read_disk(alloc, disk)? {
         None => write_shut(disk),

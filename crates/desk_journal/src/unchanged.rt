@@ -12,7 +12,7 @@ use sqlite_disk::Disk;
 pub fn is_unchanged<D: Disk>(disk: &mut D, end: usize) -> Result<bool, JournalFault>
     requires { IsTrue (D.Disk.is_usable disk.old) }
     ensures unchanged { IfOk result (λ same. IsTrue (D.Disk.is_clean disk.new) → IsTrue same ↔ IsUnchanged (D.Disk.seen disk.old) end) }
-    ensures untouched { IsUntouched D.Disk.seen D.Disk.may_leave disk.old disk.new }
+    ensures untouched { IsUntouched D.Disk disk.old disk.new }
     ensures usable { IsTrue (D.Disk.is_usable disk.new) }
     ensures clean { IsTrue (D.Disk.is_clean disk.new) → IsTrue (D.Disk.is_clean disk.old) }
     ensures faults { OnOk result (D.Disk.faults disk.new ≡ D.Disk.faults disk.old) }

@@ -1,11 +1,13 @@
 -- What a docket's desk keeps and promises.
-use Rattle.std.proofs.Common.{◌≡◌, ◌⊎◌, inl, inr, ℕ, List, [], ◌∷◌, ◌++◌, Bool, IfSome, None, Ok, Option, Some, length, take, refl, sym, arith, subst}
+use Rattle.std.proofs.Common.{◌≡◌, ◌⊎◌, inl, inr, ℕ, List, [], ◌∷◌, ◌++◌, Bool, true, false, IfSome, None, Ok, Option, Some, length, take, refl, sym, arith, subst}
 use Rattle.std.specs.Prelude.{Vec}
 use Rattle.std.specs.declared.alloc.Global.{Global}
+use Rattle.std.proofs.Transfers.{starts_with_of_eq}
+use Rattle.sqlite_disk.specs.declared.Disk as disk
 use Rattle.desk_journal.specs.Words.{IsKept, StandsFor, batch_of}
 use Rattle.desk_journal.proofs.CallerLemmas.{one_list, rest_kept}
-use Rattle.desk_session.proofs.CallerLemmas.{unanswered}
-use Rattle.desk_session.specs.Words.{IsAllOrNone, IsPromised, IsServed, left_by, lines_of, unfinished_of}
+use Rattle.desk_session.proofs.CallerLemmas.{answered, unanswered}
+use Rattle.desk_session.specs.Words.{IsAllOrNone, IsPromised, IsServed, left_by, lines_of, told_to, unfinished_of}
 use Rattle.desk_numbers.specs.declared.said.Said.{Said}
 use Rattle.desk_numbers.specs.declared.strikes.restore.Restore.{Restore}
 use Rattle.desk_numbers.specs.declared.strikes.strike.Strike.{Strike}
@@ -15,13 +17,20 @@ use Rattle.desk_entries.specs.Words.{IsDocketed, IsHistory, IsReadyAt, StandsAft
 use Rattle.desk_entries.proofs.CallerLemmas.{left_docketed}
 use Rattle.desk_warnings.specs.Words.{lines_taken}
 use Rattle.desk_warnings.proofs.CallerLemmas.{careful_history, keep_nothing}
+use Rattle.program_streams.specs.declared.watched.Watched.{Watched}
+use Rattle.program_streams.specs.Words.{AppendsFront, IsGiven, has_failed, watched}
 use Rattle.desk_program.specs.declared.desk.Desk.{Desk}
 use Rattle.desk_program.specs.Desk.{IsPromisedDocket, KeepsDocket, answers_at, disk_under, docketed_at, held_at, leaves_at, standing_at}
 use Rattle.desk_program.specs.Together.{IsDocketAllOrNone, KeepsTogether, faults_in, stop_of}
 
-module _ {D : Type 0} (seen : D → List ℕ) (may_leave : D → List ℕ → Type 0) (is_usable : D → Bool) (before after : Desk D) (kept : List (List ℕ)) where
+-- a writer that was given a text has taken a beginning of it
+given_front : {W : Type 0} (contents : W → Option (List ℕ)) (old new : Watched W) (text : List ℕ) → IsGiven contents old new text → (failed : Bool) → has_failed new ≡ failed → AppendsFront (contents (watched old)) (contents (watched new)) text
+given_front contents old new text given true is = given.front is
+given_front contents old new text given false is = (text, given.whole is, starts_with_of_eq text text refl)
+
+module _ {D : Type 0} (g : disk.Ghosts D) (before after : Desk D) (kept : List (List ℕ)) where
   -- what a docket comes to after lines
-  docketed_after : KeepsDocket seen may_leave is_usable kept before → standing_at after ≡ standing_at before → (lines : List (List ℕ))
+  docketed_after : KeepsDocket g kept before → standing_at after ≡ standing_at before → (lines : List (List ℕ))
       → IsReadyAt (standing_at before) after.careful.register (kept ++ left_by (leaves_at before) kept lines)
       → IsDocketed (docketed_at after) (kept ++ left_by (leaves_at before) kept lines)
   docketed_after keeps same lines stands =
@@ -31,9 +40,9 @@ module _ {D : Type 0} (seen : D → List ℕ) (may_leave : D → List ℕ → Ty
       (subst (λ (l : List (List ℕ)). IsReadyAt (standing_at before) after.careful.register (kept ++ l)) is stands))
 
   -- lines that are served, of a docket
-  pub served_docket : KeepsDocket seen may_leave is_usable kept before → standing_at after ≡ standing_at before → (lines : List (List ℕ)) (old new : Option (List ℕ))
-      → IsServed (leaves_at before) (answers_at before) (λ entries. IsKept seen may_leave is_usable entries after.journal) (IsReadyAt (standing_at before) after.careful.register) kept lines old new
-      → IsServed (leaves_at before) (answers_at before) (λ entries. KeepsDocket seen may_leave is_usable entries after) (λ entries. standing_at after ≡ standing_at before) kept lines old new
+  pub served_docket : KeepsDocket g kept before → standing_at after ≡ standing_at before → (lines : List (List ℕ)) (old new : Option (List ℕ))
+      → IsServed (leaves_at before) (answers_at before) (λ entries. IsKept g entries after.journal) (IsReadyAt (standing_at before) after.careful.register) kept lines old new
+      → IsServed (leaves_at before) (answers_at before) (λ entries. KeepsDocket g entries after) (λ entries. standing_at after ≡ standing_at before) kept lines old new
   served_docket keeps same lines old new served = record {
     keeps = record { kept = served.keeps; docketed = docketed_after keeps same lines served.stands };
     stands = same;
@@ -41,16 +50,16 @@ module _ {D : Type 0} (seen : D → List ℕ) (may_leave : D → List ℕ → Ty
   }
 
   -- the same of an input that is kept together
-  pub kept_together : KeepsDocket seen may_leave is_usable kept before → standing_at after ≡ standing_at before → (keep_refused : Bool) (input : List ℕ) (old new : Option (List ℕ))
+  pub kept_together : KeepsDocket g kept before → standing_at after ≡ standing_at before → (keep_refused : Bool) (input : List ℕ) (old new : Option (List ℕ))
       → faults_in (standing_at before) (held_at before) kept input ≡ [] → unfinished_of input ≡ [] → stop_of (standing_at before) (held_at before) keep_refused kept input ≡ None
-      → IsServed (leaves_at before) (answers_at before) (λ entries. IsKept seen may_leave is_usable entries after.journal) (IsReadyAt (standing_at before) after.careful.register) kept (lines_of input) old new
-      → KeepsTogether (standing_at before) (held_at before) keep_refused kept input old new (λ entries. KeepsDocket seen may_leave is_usable entries after)
+      → IsServed (leaves_at before) (answers_at before) (λ entries. IsKept g entries after.journal) (IsReadyAt (standing_at before) after.careful.register) kept (lines_of input) old new
+      → KeepsTogether (standing_at before) (held_at before) keep_refused kept input old new (λ entries. KeepsDocket g entries after)
   kept_together keeps same keep_refused input old new faultless finished unstopped served =
       let all = served_docket keeps same (lines_of input) old new served in
       record { faultless = faultless; finished = finished; unstopped = unstopped; keeps = all.keeps; told = all.told }
 
   -- lines that are promised, of a docket
-  pub promised_docket : KeepsDocket seen may_leave is_usable kept before → (lines : List (List ℕ)) (old new : Option (List ℕ)) (HasWritten : Type 0) (MayLeave : List ℕ → Type 0)
+  pub promised_docket : KeepsDocket g kept before → (lines : List (List ℕ)) (old new : Option (List ℕ)) (HasWritten : Type 0) (MayLeave : List ℕ → Type 0)
       → IsPromised (leaves_at before) (answers_at before) kept lines old new HasWritten MayLeave
       → IsPromisedDocket (standing_at before) (held_at before) kept lines old new HasWritten MayLeave
   promised_docket keeps lines old new HasWritten MayLeave promised = record {
@@ -62,14 +71,14 @@ module _ {D : Type 0} (seen : D → List ℕ) (may_leave : D → List ℕ → Ty
   }
 
   -- and where nothing was done
-  pub none_promised : KeepsDocket seen may_leave is_usable kept before → (lines : List (List ℕ)) (old : Option (List ℕ)) (HasWritten : Type 0)
-      → IsPromisedDocket (standing_at before) (held_at before) kept lines old old HasWritten (may_leave (disk_under before))
+  pub none_promised : KeepsDocket g kept before → (lines : List (List ℕ)) (old : Option (List ℕ)) (HasWritten : Type 0)
+      → IsPromisedDocket (standing_at before) (held_at before) kept lines old old HasWritten (g.may_leave (disk_under before))
   none_promised keeps lines old HasWritten =
-      promised_docket keeps lines old old HasWritten (may_leave (disk_under before))
-      (unanswered (leaves_at before) (answers_at before) kept lines old HasWritten (may_leave (disk_under before)) (λ file may. inl (rest_kept seen may_leave is_usable before.journal kept keeps.kept file may)))
+      promised_docket keeps lines old old HasWritten (g.may_leave (disk_under before))
+      (unanswered (leaves_at before) (answers_at before) kept lines old HasWritten (g.may_leave (disk_under before)) (λ file may. inl (rest_kept g before.journal kept keeps.kept file may)))
 
   -- lines that are kept together, of a docket
-  pub all_or_none_docket : KeepsDocket seen may_leave is_usable kept before → (lines : List (List ℕ)) (MayLeave : List ℕ → Type 0)
+  pub all_or_none_docket : KeepsDocket g kept before → (lines : List (List ℕ)) (MayLeave : List ℕ → Type 0)
       → IsAllOrNone (leaves_at before) kept lines MayLeave → IsDocketAllOrNone (standing_at before) (held_at before) kept lines MayLeave
   all_or_none_docket keeps lines MayLeave either = record { all_or_none = either; opens = λ file may. by file (either file may) }
     where
@@ -80,9 +89,27 @@ module _ {D : Type 0} (seen : D → List ℕ) (may_leave : D → List ℕ → Ty
           (kept ++ left_by (leaves_at before) kept lines, stands, both.0, both.1)
 
   -- and where nothing was done
-  pub none_docket : KeepsDocket seen may_leave is_usable kept before → (lines : List (List ℕ)) → IsDocketAllOrNone (standing_at before) (held_at before) kept lines (may_leave (disk_under before))
+  pub none_docket : KeepsDocket g kept before → (lines : List (List ℕ)) → IsDocketAllOrNone (standing_at before) (held_at before) kept lines (g.may_leave (disk_under before))
   none_docket keeps lines =
-      all_or_none_docket keeps lines (may_leave (disk_under before)) (λ file may. inl (rest_kept seen may_leave is_usable before.journal kept keeps.kept file may))
+      all_or_none_docket keeps lines (g.may_leave (disk_under before)) (λ file may. inl (rest_kept g before.journal kept keeps.kept file may))
+
+  -- lines that are kept together, of which none is answered
+  pub unanswered_docket : (lines : List (List ℕ)) (old : Option (List ℕ)) (HasWritten : Type 0) (MayLeave : List ℕ → Type 0)
+      → IsDocketAllOrNone (standing_at before) (held_at before) kept lines MayLeave → IsPromisedDocket (standing_at before) (held_at before) kept lines old old HasWritten MayLeave
+  unanswered_docket lines old HasWritten MayLeave either = record {
+    promised = unanswered (leaves_at before) (answers_at before) kept lines old HasWritten MayLeave either.all_or_none;
+    opens = either.opens;
+  }
+
+  -- lines that are kept, where a writer was given their answers
+  pub answered_docket : KeepsDocket g kept before → (lines : List (List ℕ)) → KeepsDocket g (kept ++ left_by (leaves_at before) kept lines) after → {W : Type 0} (contents : W → Option (List ℕ)) (old new : Watched W)
+      → IsGiven contents old new (told_to (leaves_at before) (answers_at before) kept lines)
+      → IsPromisedDocket (standing_at before) (held_at before) kept lines (contents (watched old)) (contents (watched new)) (has_failed new ≡ false) (g.may_leave (disk_under after))
+  answered_docket keeps lines all contents old new given =
+      promised_docket keeps lines (contents (watched old)) (contents (watched new)) (has_failed new ≡ false) (g.may_leave (disk_under after))
+      (answered (leaves_at before) (answers_at before) kept lines (contents (watched old)) (contents (watched new)) (has_failed new ≡ false) (g.may_leave (disk_under after))
+      (given_front contents old new (told_to (leaves_at before) (answers_at before) kept lines) given (has_failed new) refl) given.whole
+      (λ file may. rest_kept g after.journal (kept ++ left_by (leaves_at before) kept lines) all.kept file may))
 
 -- the entries that were found are those for which the file stood
 pub same_entries : (file c : List ℕ) (found entries : List (List ℕ)) → StandsFor file found → StandsFor file entries → StandsFor c found → StandsFor c entries

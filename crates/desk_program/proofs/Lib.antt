@@ -1,10 +1,10 @@
 pub mod AsOfLemmas
+pub mod CallerLemmas
 pub mod ChangedLemmas
 pub mod CorrectionLemmas
 pub mod DeskLemmas
 pub mod FaultLemmas
 pub mod FaultWordLemmas
-pub mod FileLemmas
 pub mod LogJsonLemmas
 pub mod LogLemmas
 pub mod LogReadLemmas

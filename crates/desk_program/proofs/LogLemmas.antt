@@ -1,7 +1,8 @@
 -- The log of entries, one after another.
-use Rattle.std.proofs.Common.{◌≡◌, ◌∙◌, ◌+◌, ◌<◌, ◌≤◌, ℕ, List, [], ◌∷◌, ◌++◌, drop, get_or, length, sym, ap, append_assoc, append-nil, arith}
+use Rattle.std.proofs.Common.{◌≡◌, ◌∙◌, ◌+◌, ◌<◌, ◌≤◌, ℕ, Bool, true, false, ◌||◌, List, [], ◌∷◌, ◌++◌, drop, get_or, length, length-append, ltb, sym, ap, append_assoc, append-nil, arith}
 use Rattle.std.specs.Prelude.{Option, None, Some, Vec}
 use Rattle.std.specs.declared.alloc.Global.{Global}
+use Rattle.std.proofs.lemmas.Bool.{lt-ltb, ltb-false, ltb-true}
 use Rattle.std.proofs.lemmas.List.{drop-drop, drop-map, drop_all, drop_more}
 use Rattle.row_forms.specs.Words.{CourtNames}
 use Rattle.desk_journal.specs.Words.{StampView, batch_of}
@@ -62,6 +63,32 @@ log_more choice named number next entries stamps place entry stamp written text 
     (more ∙ ap (λ (s : StampView). text ++ entry_log choice named (kind_of (note_in entry.items)) number entry.items s) same) halves
     ∙ ap (λ (l : List ℕ). written ++ (text ++ l)) (sym (log_next choice named number entries stamps place entry lt is))
     ∙ so_far
+
+-- something was said so far, and then where a part of what was gathered is written, or all of it
+pub some_first : (some : Bool) (n : ℕ) → some ≡ (false || ltb 0 n) → some ≡ ltb 0 (0 + n)
+some_first some n is = is ∙ ap (ltb 0) (omega arith)
+
+pub some_more : (some then : Bool) (written text after front left : List ℕ) (said : List ℕ) → some ≡ ltb 0 (length written + length text) → then ≡ (some || ltb 0 (length after))
+    → after ≡ text ++ said → after ≡ front ++ left → then ≡ ltb 0 (length (written ++ front) + length left)
+some_more some then written text after front left said is more parts halves =
+    by some is more
+  where
+    long : length after ≡ length text + length said
+    long = ap length parts ∙ length-append text said
+
+    halved : length after ≡ length front + length left
+    halved = ap length halves ∙ length-append front left
+
+    by : (b : Bool) → b ≡ ltb 0 (length written + length text) → then ≡ (b || ltb 0 (length after)) → then ≡ ltb 0 (length (written ++ front) + length left)
+    by true had told =
+        let some : 0 < length written + length text = ltb-true 0 (length written + length text) (sym had) in
+        told ∙ sym (lt-ltb 0 (length (written ++ front) + length left) (omega (arith, some, long, halved, length-append written front)))
+    by false had told =
+        let none : length written + length text ≤ 0 = ltb-false 0 (length written + length text) (sym had) in
+        told ∙ ap (ltb 0) (omega (arith, none, long, halved, length-append written front))
+
+pub some_all : (some : Bool) (written text whole : List ℕ) → some ≡ ltb 0 (length written + length text) → written ++ text ≡ whole → some ≡ ltb 0 (length whole)
+some_all some written text whole is all = is ∙ ap (ltb 0) (sym (length-append written text) ∙ ap length all)
 
 -- after the last
 pub log_all : (choice : LogChoice) (named : List (Option ℕ)) (number : ℕ) (entries : List (Vec ℕ Global)) (stamps : List StampView) (place : ℕ) (written text whole : List ℕ) → length entries ≤ place

@@ -1,5 +1,6 @@
 -- A docket over a disk: what it keeps, and what a session on it promises.
-use Rattle.std.specs.Prelude.{◌≡◌, ◌≢◌, ℕ, List, Bool, Option, Err}
+use Rattle.std.specs.Prelude.{◌≡◌, ◌≢◌, ℕ, List, Option, Err}
+use Rattle.sqlite_disk.specs.declared.Disk as disk
 use Rattle.court_days.specs.Words.{court_in}
 use Rattle.desk_journal.specs.Words.{HasOpenFault, IsKept, StampView, StandsFor, disk_of, stamp_of}
 use Rattle.desk_session.specs.Words.{IsPromised}
@@ -47,8 +48,8 @@ abbrev pub docketed_at : {D : Type 0} → Desk D → Docketed
 docketed_at desk = record { standing = desk.setup.standing; register = desk.careful.register }
 
 -- The entries are kept on the disk, and the docket is the one to which they come.
-pub record KeepsDocket {D : Type 0} (seen : D → List ℕ) (may_leave : D → List ℕ → Type 0) (is_usable : D → Bool) (entries : List (List ℕ)) (desk : Desk D) : Type 0 where
-  pub kept : IsKept seen may_leave is_usable entries desk.journal
+pub record KeepsDocket {D : Type 0} (g : disk.Ghosts D) (entries : List (List ℕ)) (desk : Desk D) : Type 0 where
+  pub kept : IsKept g entries desk.journal
   pub docketed : IsDocketed (docketed_at desk) entries
 
 -- the entries for which a file stands make no docket

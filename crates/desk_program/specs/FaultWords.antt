@@ -10,6 +10,7 @@ use Rattle.desk_entries.specs.declared.cause.LineCause.TheVariants as lines
 use Rattle.desk_entries.specs.Words.{too_many_words, unfound_words}
 use Rattle.row_forms.specs.declared.headings.columns.Column.{Column}
 use Rattle.row_forms.specs.declared.headings.columns.Column.TheVariants.{Case, Deadline, Motion, Date, Notice, SecondOrNone, Time, From, TimeOrNone, Start, To, Period, ServiceOrNone, Means, Grant, ByMotion, Cause, Neglect, Need, Judge, Judges, Slots, Holidays, Clerk, Command, Room}
+use Rattle.desk_program.specs.declared.shown.LineEnds.TheVariants.{Escaped}
 use Rattle.desk_program.specs.Shown.{shown}
 use Rattle.row_forms.specs.Headings.Words.{column_at, columns_of, commands_listed, mark_of}
 
@@ -60,7 +61,7 @@ marks word (column ∷ other ∷ columns) = mark_of word column ++ codes "," ++ 
 -- a text that was found, without control characters
 abbrev pub found : List ℕ → List ℕ
 found [] = codes "found nothing, "
-found (b ∷ field) = codes "found \"" ++ shown (b ∷ field) ++ codes "\", "
+found (b ∷ field) = codes "found \"" ++ shown Escaped (b ∷ field) ++ codes "\", "
 
 -- what was found after this many commas; of a line with quotes nothing is said, since a comma in quotes ends no field
 abbrev pub found_text : (commas : ℕ) → List ℕ → List ℕ
@@ -84,7 +85,7 @@ field_words column line = found_text (column - 1) line ++ codes "expected " ++ e
 
 -- what is said of a line that isn't text
 abbrev pub not_text : List ℕ
-not_text = codes "expected text in UTF-8"
+not_text = codes "expected text in UTF-8, at most 65535 bytes a line"
 
 -- what is said of a line that is text
 abbrev pub line_words : RowCause → List ℕ → List ℕ

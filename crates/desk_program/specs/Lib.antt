@@ -8,7 +8,6 @@ pub mod Desk
 pub mod EntryKind
 pub mod FaultWords
 pub mod Faults
-pub mod File
 pub mod Log
 pub mod LogJson
 pub mod LogText

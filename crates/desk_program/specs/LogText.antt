@@ -1,14 +1,15 @@
 -- An entry as the log's text has it: what it is, when it was kept and by whom, and what it says.
 use Rattle.std.specs.Prelude.{ℕ, ◌-◌, ◌/◌, ◌%◌, ℤ, pos, List, [], ◌∷◌, ◌++◌, Option, Some, None, codes, length, nat_eq, take, if◌then◌else◌}
 use Rattle.std.specs.Fmt.{decimal}
-use Rattle.std.specs.List.{ends_with, flat_map}
+use Rattle.std.specs.List.{ends_with}
 use Rattle.court_clock.specs.Words.{day_text, is_day_number}
 use Rattle.reason_texts.specs.Words.{second_time}
 use Rattle.desk_journal.specs.Words.{StampView}
 use Rattle.desk_numbers.specs.Strikes.Words.{remark_in}
 use Rattle.desk_program.specs.declared.entry_kind.EntryKind.{EntryKind}
 use Rattle.desk_program.specs.declared.entry_kind.EntryKind.TheVariants.{CourtFile, Restore, Row, Strike}
-use Rattle.desk_program.specs.Shown.{shown, shown_byte}
+use Rattle.desk_program.specs.declared.shown.LineEnds.TheVariants.{Escaped, Indented}
+use Rattle.desk_program.specs.Shown.{shown}
 
 -- `row 12`, `court's file`, `strike of row 7`, or `restore of row 7`
 abbrev pub kind_text : EntryKind → (number : ℕ) → List ℕ
@@ -31,18 +32,15 @@ utc_time time = utc_time_on (dated_day time) time
 
 -- the line of an entry: what it is, when it was kept, and by which account
 abbrev pub entry_heading : (kind : List ℕ) → StampView → List ℕ
-entry_heading kind stamp = kind ++ codes "  " ++ utc_time stamp.time ++ codes "  " ++ shown stamp.account ++ codes "\n"
+entry_heading kind stamp = kind ++ codes "  " ++ utc_time stamp.time ++ codes "  " ++ shown Escaped stamp.account ++ codes "\n"
 
 -- a text without the end of its last line
 abbrev pub without_end : List ℕ → List ℕ
 without_end text = if ends_with nat_eq text (10 ∷ []) then take (length text - 1) text else text
 
 -- a text with two blanks before each of its lines
-abbrev pub indented_byte : ℕ → List ℕ
-indented_byte byte = if nat_eq byte 10 then codes "\n  " else shown_byte byte
-
 abbrev pub indented : List ℕ → List ℕ
-indented text = codes "  " ++ flat_map indented_byte (without_end text) ++ codes "\n"
+indented text = codes "  " ++ shown Indented (without_end text) ++ codes "\n"
 
 -- what an entry says: a row with its answer, or the remark of a strike or a restore; the many lines of a court's file aren't written
 abbrev pub said_text : EntryKind → (entry : List ℕ) → List ℕ

@@ -29,10 +29,10 @@ impl<D: Disk> Desk<D> {
         register: DocketRegister,
         file: &[u8],
     ) -> Result<(), DeskFault>
-        ensures kept { (entries : List (List ℕ)) → KeepsDocket D.Disk.seen D.Disk.may_leave D.Disk.is_usable entries self.old → SaysCourt file.now standing.court → standing.corrections ≡ corrections_then (standing_at self.old) entries (standing_at self.old).corrections.struck → StandsAt standing register entries → length entries < most_entries
-            → OnOk result ((entry : List ℕ) × (later_file entry ≡ Some file.now) × SaysNumbers (standing_at self.old) entries entry × KeepsDocket D.Disk.seen D.Disk.may_leave D.Disk.is_usable (entries ++ entry ∷ []) self.new
+        ensures kept { (entries : List (List ℕ)) → KeepsDocket D.Disk entries self.old → SaysCourt file.now standing.court → standing.corrections ≡ corrections_then (standing_at self.old) entries (standing_at self.old).corrections.struck → StandsAt standing register entries → length entries < most_entries
+            → OnOk result ((entry : List ℕ) × (later_file entry ≡ Some file.now) × SaysNumbers (standing_at self.old) entries entry × KeepsDocket D.Disk (entries ++ entry ∷ []) self.new
             × (IsHistory entries → IsHistory (entries ++ entry ∷ []))) }
-        ensures crash { (entries : List (List ℕ)) → KeepsDocket D.Disk.seen D.Disk.may_leave D.Disk.is_usable entries self.old → (c : List ℕ) → D.Disk.may_leave (disk_under self.new) c
+        ensures crash { (entries : List (List ℕ)) → KeepsDocket D.Disk entries self.old → (c : List ℕ) → D.Disk.may_leave (disk_under self.new) c
             → StandsFor c entries ⊎ ((entry : List ℕ) × (later_file entry ≡ Some file.now) × StandsFor c (entries ++ entry ∷ [])) }
         ensures fault { (count : ℕ) → result ≢ Err (DeskFault.Differs count) }
         ensures unstruck { (fault : StrikeFaultOf) → result ≢ Err (DeskFault.Unstruck fault) }
@@ -45,7 +45,7 @@ impl<D: Disk> Desk<D> {
     // What would stand by a court's file.
     pub(crate) fn standing_by(&self, alloc: Global, file: &[u8]) -> Result<Standing, DeskFault>
         ensures court { IfOk result (λ standing. SaysCourt file.now standing.court) }
-        ensures corrections { (entries : List (List ℕ)) → KeepsDocket D.Disk.seen D.Disk.may_leave D.Disk.is_usable entries self.now → IfOk result (λ standing. standing.corrections ≡ corrections_then (standing_at self.now) entries (standing_at self.now).corrections.struck) }
+        ensures corrections { (entries : List (List ℕ)) → KeepsDocket D.Disk entries self.now → IfOk result (λ standing. standing.corrections ≡ corrections_then (standing_at self.now) entries (standing_at self.now).corrections.struck) }
         ensures fault { (count : ℕ) → result ≢ Err (DeskFault.Differs count) }
         ensures unstruck { (fault : StrikeFaultOf) → result ≢ Err (DeskFault.Unstruck fault) }
     {
@@ -72,11 +72,11 @@ impl<D: Disk> Desk<D> {
         requires some { 0 < length entries.now }
         requires few { length entries.now ≤ most_entries }
         requires writer_works { has_failed writer.old ≡ false }
-        ensures taken { KeepsDocket D.Disk.seen D.Disk.may_leave D.Disk.is_usable (batch_of entries.now) self.old → OnOk result
-            (TakesFile (standing_at self.old) (batch_of entries.now) file.now accept (W.contents (watched writer.old)) (W.contents (watched writer.new)) (λ kept. KeepsDocket D.Disk.seen D.Disk.may_leave D.Disk.is_usable kept self.new)) }
-        ensures refused { (count : ℕ) → KeepsDocket D.Disk.seen D.Disk.may_leave D.Disk.is_usable (batch_of entries.now) self.old → result ≡ Err (DeskFault.Differs count)
+        ensures taken { KeepsDocket D.Disk (batch_of entries.now) self.old → OnOk result
+            (TakesFile (standing_at self.old) (batch_of entries.now) file.now accept (W.contents (watched writer.old)) (W.contents (watched writer.new)) (λ kept. KeepsDocket D.Disk kept self.new)) }
+        ensures refused { (count : ℕ) → KeepsDocket D.Disk (batch_of entries.now) self.old → result ≡ Err (DeskFault.Differs count)
             → RefusesFile (standing_at self.old) (batch_of entries.now) file.now count (W.contents (watched writer.old)) (W.contents (watched writer.new)) × (self.new ≡ self.old) }
-        ensures crash { KeepsDocket D.Disk.seen D.Disk.may_leave D.Disk.is_usable (batch_of entries.now) self.old → (c : List ℕ) → D.Disk.may_leave (disk_under self.new) c
+        ensures crash { KeepsDocket D.Disk (batch_of entries.now) self.old → (c : List ℕ) → D.Disk.may_leave (disk_under self.new) c
             → StandsFor c (batch_of entries.now) ⊎ ((entry : List ℕ) × (later_file entry ≡ Some file.now) × StandsFor c (batch_of entries.now ++ entry ∷ [])) }
     {
         if entries.len() >= MOST_ENTRIES as usize {

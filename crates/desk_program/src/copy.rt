@@ -13,7 +13,7 @@ use std::io;
 fn write_copy<D: Disk>(disk: &mut D, file: &[u8]) -> io::Result<()>
     requires usable { IsTrue (D.Disk.is_usable disk.old) }
     requires empty { D.Disk.seen disk.old ≡ [] }
-    ensures { OnOk result (IsDurable D.Disk.seen D.Disk.may_leave D.Disk.is_usable file.now disk.new) }
+    ensures { OnOk result (IsDurable D.Disk file.now disk.new) }
 {
     match disk.write_at(0, file) {
         Ok(()) => disk.sync(),
@@ -30,7 +30,7 @@ impl<D: Disk> Desk<D> {
         requires usable { IsTrue (D.Disk.is_usable disk) }
         requires empty { D.Disk.seen disk ≡ [] }
         ensures opened { IfOk result (λ desk. IsTrue (D.Disk.is_clean (disk_under desk))
-            → (entries : List (List ℕ)) × StandsFor file.now entries × KeepsDocket D.Disk.seen D.Disk.may_leave D.Disk.is_usable entries desk) }
+            → (entries : List (List ℕ)) × StandsFor file.now entries × KeepsDocket D.Disk entries desk) }
         ensures whole { IfOk result (λ desk. IsTrue (D.Disk.is_clean (disk_under desk)) → IsWhole file.now) }
         ensures cause { IfErr result (λ e. IsTrue (D.Disk.is_clean e.1) → (before : ℕ) × IsUnopened before (D.Disk.faults e.1) file.now e.0) }
     {

@@ -50,25 +50,25 @@ impl<D: Disk> Desk<D> {
         disk: D,
         stamp: Stamp,
     ) -> Result<(Desk<D>, Vec<Vec<u8>>), (DeskFault, D)>
-        ensures opened { (file : List ℕ) → IsDurable D.Disk.seen D.Disk.may_leave D.Disk.is_usable file disk → IfOk result (λ opened. IsTrue (D.Disk.is_clean (disk_under opened.0))
-            → StandsFor file (batch_of opened.1.items) × KeepsDocket D.Disk.seen D.Disk.may_leave D.Disk.is_usable (batch_of opened.1.items) opened.0) }
-        ensures whole { (file : List ℕ) → IsDurable D.Disk.seen D.Disk.may_leave D.Disk.is_usable file disk → IfOk result (λ opened. IsTrue (D.Disk.is_clean (disk_under opened.0)) → IsWhole file) }
+        ensures opened { (file : List ℕ) → IsDurable D.Disk file disk → IfOk result (λ opened. IsTrue (D.Disk.is_clean (disk_under opened.0))
+            → StandsFor file (batch_of opened.1.items) × KeepsDocket D.Disk (batch_of opened.1.items) opened.0) }
+        ensures whole { (file : List ℕ) → IsDurable D.Disk file disk → IfOk result (λ opened. IsTrue (D.Disk.is_clean (disk_under opened.0)) → IsWhole file) }
         ensures stamp { IfOk result (λ opened. ((stamp_under opened.0).account ≡ stamp.account) × (stamp.time ≤ (stamp_under opened.0).time)) }
         ensures held { IfOk result (λ opened. held_at opened.0 ≡ Nothing) }
         ensures some { IfOk result (λ opened. 0 < length opened.1.items) }
         ensures few { IfOk result (λ opened. length opened.1.items ≤ 1000000) }
-        ensures crash { (file : List ℕ) (entries : List (List ℕ)) → IsDurable D.Disk.seen D.Disk.may_leave D.Disk.is_usable file disk → StandsFor file entries
+        ensures crash { (file : List ℕ) (entries : List (List ℕ)) → IsDurable D.Disk file disk → StandsFor file entries
             → IfErr result (λ e. IsTrue (D.Disk.is_clean e.1) → (c : List ℕ) → D.Disk.may_leave e.1 c → StandsFor c entries) }
-        ensures cause { (file : List ℕ) → IsDurable D.Disk.seen D.Disk.may_leave D.Disk.is_usable file disk
+        ensures cause { (file : List ℕ) → IsDurable D.Disk file disk
             → IfErr result (λ e. IsTrue (D.Disk.is_clean e.1) → IsUnopened (D.Disk.faults disk) (D.Disk.faults e.1) file e.0) }
         // Where an entry is damaged, or the journal is of an earlier format, nothing is written.
-        ensures untouched { (file : List ℕ) (number : ℕ) → IsDurable D.Disk.seen D.Disk.may_leave D.Disk.is_usable file disk
-            → IfErr result (λ e. e.0 ≡ DeskFault.Journal (JournalFault.Damaged number) → IsDurable D.Disk.seen D.Disk.may_leave D.Disk.is_usable file e.1) }
-        ensures older { (file : List ℕ) → IsDurable D.Disk.seen D.Disk.may_leave D.Disk.is_usable file disk
-            → IfErr result (λ e. e.0 ≡ DeskFault.Journal JournalFault.Older → IsDurable D.Disk.seen D.Disk.may_leave D.Disk.is_usable file e.1) }
+        ensures untouched { (file : List ℕ) (number : ℕ) → IsDurable D.Disk file disk
+            → IfErr result (λ e. e.0 ≡ DeskFault.Journal (JournalFault.Damaged number) → IsDurable D.Disk file e.1) }
+        ensures older { (file : List ℕ) → IsDurable D.Disk file disk
+            → IfErr result (λ e. e.0 ≡ DeskFault.Journal JournalFault.Older → IsDurable D.Disk file e.1) }
         // So it is where the file has no entries.
-        ensures none { (file : List ℕ) → IsDurable D.Disk.seen D.Disk.may_leave D.Disk.is_usable file disk
-            → IfErr result (λ e. e.0 ≡ DeskFault.NoJournal → IsDurable D.Disk.seen D.Disk.may_leave D.Disk.is_usable file e.1) }
+        ensures none { (file : List ℕ) → IsDurable D.Disk file disk
+            → IfErr result (λ e. e.0 ≡ DeskFault.NoJournal → IsDurable D.Disk file e.1) }
     {
         let (journal, entries) = match Journal::open(alloc, disk, stamp) {
             Ok(opened) => opened,
@@ -93,16 +93,16 @@ impl<D: Disk> Desk<D> {
     /// Makes the docket of a court on a disk that has no entries: its file is the first, with this stamp. At an `Err` a crash leaves what
     /// stands for the entries that the disk had or, where it had none, also for the file alone.
     pub fn begin(alloc: Global, disk: D, file: Vec<u8>, stamp: Stamp) -> Result<D, (DeskFault, D)>
-        ensures empty { (was : List ℕ) (entries : List (List ℕ)) → IsDurable D.Disk.seen D.Disk.may_leave D.Disk.is_usable was disk → StandsFor was entries
+        ensures empty { (was : List ℕ) (entries : List (List ℕ)) → IsDurable D.Disk was disk → StandsFor was entries
             → IfOk result (λ d. IsTrue (D.Disk.is_clean d) → entries ≡ []) }
-        ensures begun { (was : List ℕ) → IsDurable D.Disk.seen D.Disk.may_leave D.Disk.is_usable was disk
+        ensures begun { (was : List ℕ) → IsDurable D.Disk was disk
             → IfOk result (λ d. IsTrue (D.Disk.is_clean d) → (c : List ℕ) → D.Disk.may_leave d c → StandsFor c (file.items ∷ [])) }
         ensures history { OnOk result (IsHistory (file.items ∷ [])) }
-        ensures crash { (was : List ℕ) (entries : List (List ℕ)) → IsDurable D.Disk.seen D.Disk.may_leave D.Disk.is_usable was disk → StandsFor was entries
+        ensures crash { (was : List ℕ) (entries : List (List ℕ)) → IsDurable D.Disk was disk → StandsFor was entries
             → IfErr result (λ e. IsTrue (D.Disk.is_clean e.1) → (c : List ℕ) → D.Disk.may_leave e.1 c → StandsFor c entries ⊎ ((entries ≡ []) × StandsFor c (file.items ∷ []))) }
         // It is taken only where it has entries, and then nothing is written.
-        ensures taken { (was : List ℕ) → IsDurable D.Disk.seen D.Disk.may_leave D.Disk.is_usable was disk
-            → IfErr result (λ e. IsTrue (D.Disk.is_clean e.1) → e.0 ≡ DeskFault.Taken → HasEntries was × IsDurable D.Disk.seen D.Disk.may_leave D.Disk.is_usable was e.1) }
+        ensures taken { (was : List ℕ) → IsDurable D.Disk was disk
+            → IfErr result (λ e. IsTrue (D.Disk.is_clean e.1) → e.0 ≡ DeskFault.Taken → HasEntries was × IsDurable D.Disk was e.1) }
     {
         match check_court(alloc, &file) {
             Ok(()) => {}
@@ -144,21 +144,21 @@ impl<D: Disk> Desk<D> {
 
     /// The cases that were opened, with their names.
     pub fn cases(&self) -> &Cases
-        ensures { (kept : List (List ℕ)) → KeepsDocket D.Disk.seen D.Disk.may_leave D.Disk.is_usable kept self.now → result.now ≡ cases_of (standing_at self.now) kept }
+        ensures { (kept : List (List ℕ)) → KeepsDocket D.Disk kept self.now → result.now ≡ cases_of (standing_at self.now) kept }
     {
         self.careful.register.cases()
     }
 
     /// What has another number than its place in its case, by which other programs count it.
     pub fn moved(&self) -> &MovedNumbers
-        ensures { (kept : List (List ℕ)) → KeepsDocket D.Disk.seen D.Disk.may_leave D.Disk.is_usable kept self.now → result.now ≡ (run_by (standing_at self.now) kept).numbers.moved }
+        ensures { (kept : List (List ℕ)) → KeepsDocket D.Disk kept self.now → result.now ≡ (run_by (standing_at self.now) kept).numbers.moved }
     {
         self.careful.register.numbers().moved()
     }
 
     /// How many rows are kept.
     pub fn rows(&self) -> u32
-        ensures { (kept : List (List ℕ)) → KeepsDocket D.Disk.seen D.Disk.may_leave D.Disk.is_usable kept self.now → result ≡ length (row_entries kept) }
+        ensures { (kept : List (List ℕ)) → KeepsDocket D.Disk kept self.now → result ≡ length (row_entries kept) }
     {
         self.careful.register.next_number().saturating_sub(1)
     }
@@ -168,6 +168,7 @@ impl<D: Disk> Desk<D> {
         ensures held { held_at self.new ≡ held_back }
         ensures docketed { docketed_at self.new ≡ docketed_at self.old }
         ensures journal { self.new.journal ≡ self.old.journal }
+        ensures keeps { (kept : List (List ℕ)) → KeepsDocket D.Disk kept self.old → KeepsDocket D.Disk kept self.new }
     {
         self.setup.held_back = held_back;
     }
@@ -185,19 +186,21 @@ impl<D: Disk> Desk<D> {
         writer: &mut Watched<W>,
     ) -> Result<Tally, SessionFault>
         requires writer_works { has_failed writer.old ≡ false }
-        ensures promised { (kept : List (List ℕ)) → KeepsDocket D.Disk.seen D.Disk.may_leave D.Disk.is_usable kept self.old →
+        ensures promised { (kept : List (List ℕ)) → KeepsDocket D.Disk kept self.old →
             AfterBytes (R.remaining (watched reader.old)) (R.remaining (watched reader.new)) (λ bytes.
             IsPromisedDocket (standing_at self.old) (held_at self.old) kept (lines_of bytes) (W.contents (watched writer.old)) (W.contents (watched writer.new)) (has_failed writer.new ≡ false) (D.Disk.may_leave (disk_under self.new))) }
-        ensures served { (kept : List (List ℕ)) → KeepsDocket D.Disk.seen D.Disk.may_leave D.Disk.is_usable kept self.old → OnOk result
+        ensures served { (kept : List (List ℕ)) → KeepsDocket D.Disk kept self.old → OnOk result
             (IfSome (R.remaining (watched reader.old)) (λ input.
-            IsServed (leaves_at self.old) (answers_at self.old) (λ entries. KeepsDocket D.Disk.seen D.Disk.may_leave D.Disk.is_usable entries self.new) (λ entries. standing_at self.new ≡ standing_at self.old) kept (lines_of input) (W.contents (watched writer.old)) (W.contents (watched writer.new)))) }
+            IsServed (leaves_at self.old) (answers_at self.old) (λ entries. KeepsDocket D.Disk entries self.new) (λ entries. standing_at self.new ≡ standing_at self.old) kept (lines_of input) (W.contents (watched writer.old)) (W.contents (watched writer.new)))) }
         ensures finished { OnOk result (IfSome (R.remaining (watched reader.old)) (λ input. unfinished_of input ≡ [])) }
-        ensures tally { (kept : List (List ℕ)) → KeepsDocket D.Disk.seen D.Disk.may_leave D.Disk.is_usable kept self.old → IfOk result (λ tally.
+        ensures tally { (kept : List (List ℕ)) → KeepsDocket D.Disk kept self.old → IfOk result (λ tally.
             IfSome (R.remaining (watched reader.old)) (λ input. tally ≡ tally_of (leaves_at self.old) (outcome_at self.old) kept (lines_of input))) }
         ensures fault { IfErr result (λ fault. AfterBytes (R.remaining (watched reader.old)) (R.remaining (watched reader.new)) (λ bytes. EndsSession reader.new writer.new bytes fault)) }
         // What is kept is of the account of the desk's stamp, and times never go back.
-        ensures stamped { (stamps : List StampView) → KeepsStamps D.Disk.seen D.Disk.may_leave D.Disk.is_usable stamps self.old.journal
-            → OnOk result (IsStampedOn (stamp_under self.old).account (λ after. KeepsStamps D.Disk.seen D.Disk.may_leave D.Disk.is_usable after self.new.journal) stamps) }
+        ensures stamped { (stamps : List StampView) → KeepsStamps D.Disk stamps self.old.journal
+            → OnOk result (IsStampedOn (stamp_under self.old).account (λ after. KeepsStamps D.Disk after self.new.journal) stamps) }
+        // Where no wrong answer of the disk was taken as true at the end, none was at the start.
+        ensures clean { IsTrue (D.Disk.is_clean (disk_under self.new)) → IsTrue (D.Disk.is_clean (disk_under self.old)) }
     {
         serve(
             &self.setup,

@@ -3,7 +3,7 @@ ghost use Rattle.std.specs.Prelude.{◌≡◌, ◌==◌, ◌++◌, List, OnOk, o
 ghost use Rattle.std.specs.List.{after_first, before_first};
 ghost use Rattle.desk_program.specs.FaultWords.{cause_words, expected, expected_at, fault_words, field_words, form_said, form_words, found, found_text, line_words, marks, not_text, part};
 
-use crate::shown::push_shown;
+use crate::shown::{LineEnds, push_shown};
 use desk_entries::{LineCause, push_unfound, too_many_words};
 use row_forms::{Column, RowCause, column_at, columns_of, commands_listed, mark_of};
 use std::alloc::{AllocError, Global};
@@ -78,7 +78,7 @@ fn push_field_found(text: &mut Vec<u8>, field: &[u8]) -> Result<(), AllocError>
         [] => text.extend_from_slice(b"found nothing, "),
         [_, ..] => {
             text.extend_from_slice(b"found \"")?;
-            push_shown(text, field)?;
+            push_shown(text, field, LineEnds::Escaped)?;
             text.extend_from_slice(b"\", ")
         }
     }
@@ -157,7 +157,7 @@ fn push_field(text: &mut Vec<u8>, line: &str, column: u8) -> Result<(), AllocErr
 fn push_not_text(text: &mut Vec<u8>) -> Result<(), AllocError>
     ensures { OnOk result (text.new.items ≡ text.old.items ++ not_text) }
 {
-    text.extend_from_slice(b"expected text in UTF-8")
+    text.extend_from_slice(b"expected text in UTF-8, at most 65535 bytes a line")
 }
 
 // Adds what is said of a line that is text.

@@ -3,10 +3,9 @@ ghost use Rattle.std.specs.Prelude.{◌≡◌, ◌≢◌, ◌⊎◌, IfOk};
 ghost use Rattle.std.specs.IoError.{error_kind};
 ghost use Rattle.desk_journal.specs.Words.{IsDurable};
 ghost use Rattle.desk_program.specs.Faults.{IsNamed};
-ghost use Rattle.desk_program.specs.File.{file_is_usable, file_may_leave, file_seen};
 
 use crate::fault::DeskFault;
-use sqlite_disk::Start;
+use sqlite_disk::{Disk, Start};
 use sqlite_std_file::{FileFrom, OpenError, open};
 use std::alloc::Global;
 use std::io::{self, ErrorKind};
@@ -28,7 +27,7 @@ pub fn file_fault(alloc: Global, name: &str, error: io::Error) -> DeskFault
 /// Opens a journal's file, or makes it. No other program can open it until it is dropped. What it holds is that of `start`,
 /// which stands for what no code can read before: by the model of the disk it is all on the disk, and a read gives it.
 pub fn open_file<S: Start>(rt: &HostRuntime, path: &str, start: S) -> Result<FileFrom<S>, DeskFault>
-    ensures { IfOk result (λ file. IsDurable (file_seen S.Start) (file_may_leave S.Start) (file_is_usable S.Start) S.Start.db file) }
+    ensures { IfOk result (λ file. IsDurable ⟦<FileFrom<S> as Disk>⟧ S.Start.db file) }
 {
     match open(rt, path, start) {
         Ok(files) => Ok(files.db),

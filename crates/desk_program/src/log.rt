@@ -1,5 +1,5 @@
 //! The log of a journal: its entries that are asked for, as text or as JSON.
-ghost use Rattle.std.specs.Prelude.{◌≡◌, ◌+◌, ◌++◌, ◌<◌, ◌^◌, drop, false, length, get_or, IfOk, None, OnOk};
+ghost use Rattle.std.specs.Prelude.{◌≡◌, ◌+◌, ◌++◌, ◌<◌, ◌^◌, ◌||◌, drop, false, length, get_or, IfOk, nat_lt, None, OnOk};
 ghost use Rattle.std.specs.Io.KnownBytes.{Appends};
 ghost use Rattle.program_streams.specs.Words.{has_failed, watched};
 ghost use Rattle.row_forms.specs.Words.{names_of};
@@ -256,8 +256,15 @@ fn cases_looked_up(
     }
 }
 
+// Whether there was something before, or there is in this text.
+fn has_some(some: bool, text: &[u8]) -> bool
+    ensures { result ≡ (some || nat_lt 0 (length text.now)) }
+{
+    some || !text.is_empty()
+}
+
 /// Writes the log of a journal's entries: those that are chosen, each with what it is, when it was kept and by whom, and what it
-/// says. Rows are read for that court. The stamps are those of the entries, in their order.
+/// says. Rows are read for that court. The stamps are those of the entries, in their order. It says whether an entry is chosen.
 pub fn write_log<W: Write>(
     alloc: Global,
     court: &Court,
@@ -265,14 +272,16 @@ pub fn write_log<W: Write>(
     stamps: &[Stamp],
     choice: &LogChoice,
     writer: &mut Watched<W>,
-) -> Result<(), DeskFault>
+) -> Result<bool, DeskFault>
     requires works { has_failed writer.old ≡ false }
     ensures written { OnOk result (Appends (W.contents (watched writer.old)) (W.contents (watched writer.new)) (log_text (names_of court.now) choice.now (batch_of entries.now) stamps.now)) }
+    ensures some { IfOk result (λ some. some ≡ nat_lt 0 (length (log_text (names_of court.now) choice.now (batch_of entries.now) stamps.now))) }
 {
     let named = cases_looked_up(alloc, court, choice, entries)?;
     let mut text = Vec::new(alloc);
     let (time, account) = stamp_at(stamps, 0);
     push_first(alloc, choice, &named, entries, time, account, &mut text)?;
+    let mut some = has_some(false, &text);
     let mut number = 1;
     for place in 1..entries.len() {
         let entry = entries[place].as_slice();
@@ -281,8 +290,10 @@ pub fn write_log<W: Write>(
         push_entry(
             alloc, choice, &named, kind, number, entry, time, account, &mut text,
         )?;
+        some = has_some(some, &text);
         number = row_number_after(number, entry);
         put_if_long(writer, &mut text)?;
     }
-    put(writer, &mut text)
+    put(writer, &mut text)?;
+    Ok(some)
 }

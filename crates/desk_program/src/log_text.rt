@@ -1,34 +1,13 @@
 //! An entry as the log's text has it: what it is, when it was kept and by whom, and what it says.
 ghost use Rattle.std.specs.Prelude.{◌≡◌, ◌++◌, IfOk, OnOk, string_bytes};
-ghost use Rattle.std.specs.List.{flat_map};
-ghost use Rattle.desk_program.specs.LogText.{dated_day, entry_heading, entry_text, indented, indented_byte, kind_text, said_text, utc_time, without_end};
+ghost use Rattle.desk_program.specs.LogText.{dated_day, entry_heading, entry_text, indented, kind_text, said_text, utc_time, without_end};
 
 use crate::entry_kind::EntryKind;
-use crate::shown::{push_shown, push_shown_byte};
+use crate::shown::{LineEnds, push_shown};
 use court_clock::Day;
 use desk_numbers::remark_in;
 use reason_texts::push_second;
 use std::alloc::{AllocError, Global};
-
-// Adds a byte of a text with two blanks before each of its lines.
-fn push_indented_byte(text: &mut Vec<u8>, byte: u8) -> Result<(), AllocError>
-    ensures { OnOk result (text.new.items ≡ text.old.items ++ indented_byte byte) }
-{
-    if byte == b'\n' {
-        return text.extend_from_slice(b"\n  ");
-    }
-    push_shown_byte(text, byte)
-}
-
-// Adds bytes of a text with two blanks before each of its lines.
-fn push_indented_bytes(text: &mut Vec<u8>, bytes: &[u8]) -> Result<(), AllocError>
-    ensures { OnOk result (text.new.items ≡ text.old.items ++ flat_map indented_byte bytes.now) }
-{
-    for byte in bytes {
-        push_indented_byte(text, *byte)?;
-    }
-    Ok(())
-}
 
 /// A text without the end of its last line.
 pub(crate) fn without_end(text: &[u8]) -> &[u8]
@@ -45,7 +24,7 @@ pub(crate) fn push_indented(text: &mut Vec<u8>, said: &[u8]) -> Result<(), Alloc
     ensures { OnOk result (text.new.items ≡ text.old.items ++ indented said.now) }
 {
     text.extend_from_slice(b"  ")?;
-    push_indented_bytes(text, without_end(said))?;
+    push_shown(text, without_end(said), LineEnds::Indented)?;
     text.extend_from_slice(b"\n")
 }
 
@@ -98,7 +77,7 @@ fn push_entry_heading(
     text.extend_from_slice(b"  ")?;
     text.extend_from_slice(utc_time(alloc, time)?.as_bytes())?;
     text.extend_from_slice(b"  ")?;
-    push_shown(text, account)?;
+    push_shown(text, account, LineEnds::Escaped)?;
     text.extend_from_slice(b"\n")
 }
 

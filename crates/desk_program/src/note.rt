@@ -23,10 +23,10 @@ impl<D: Disk> Desk<D> {
         mut register: DocketRegister,
         entry: Vec<u8>,
     ) -> Result<(), DeskFault>
-        ensures kept { (entries : List (List ℕ)) → KeepsDocket D.Disk.seen D.Disk.may_leave D.Disk.is_usable entries self.old → StandsAt standing register entries → length entries < most_entries
+        ensures kept { (entries : List (List ℕ)) → KeepsDocket D.Disk entries self.old → StandsAt standing register entries → length entries < most_entries
             → IsSome (note_in entry.items) → ComesTo standing (entries ++ entry.items ∷ [])
-            → OnOk result (KeepsDocket D.Disk.seen D.Disk.may_leave D.Disk.is_usable (entries ++ entry.items ∷ []) self.new) }
-        ensures crash { (entries : List (List ℕ)) → KeepsDocket D.Disk.seen D.Disk.may_leave D.Disk.is_usable entries self.old → (c : List ℕ) → D.Disk.may_leave (disk_under self.new) c
+            → OnOk result (KeepsDocket D.Disk (entries ++ entry.items ∷ []) self.new) }
+        ensures crash { (entries : List (List ℕ)) → KeepsDocket D.Disk entries self.old → (c : List ℕ) → D.Disk.may_leave (disk_under self.new) c
             → StandsFor c entries ⊎ StandsFor c (entries ++ entry.items ∷ []) }
         ensures fault { (count : ℕ) → result ≢ Err (DeskFault.Differs count) }
         ensures unstruck { (fault : StrikeFaultOf) → result ≢ Err (DeskFault.Unstruck fault) }

@@ -25,9 +25,9 @@ impl<D: Disk> Desk<D> {
 
     // The restore of a row.
     fn restore_of(&self, row: u32) -> Result<Restore, DeskFault>
-        ensures restore { (entries : List (List ℕ)) → KeepsDocket D.Disk.seen D.Disk.may_leave D.Disk.is_usable entries self.now → IfOk result (λ restore. restore_for (standing_at self.now) entries row ≡ Ok restore) }
+        ensures restore { (entries : List (List ℕ)) → KeepsDocket D.Disk entries self.now → IfOk result (λ restore. restore_for (standing_at self.now) entries row ≡ Ok restore) }
         ensures fault { (count : ℕ) → result ≢ Err (DeskFault.Differs count) }
-        ensures unstruck { (entries : List (List ℕ)) (fault : StrikeFaultOf) → KeepsDocket D.Disk.seen D.Disk.may_leave D.Disk.is_usable entries self.now → result ≡ Err (DeskFault.Unstruck fault) → restore_for (standing_at self.now) entries row ≡ Err fault }
+        ensures unstruck { (entries : List (List ℕ)) (fault : StrikeFaultOf) → KeepsDocket D.Disk entries self.now → result ≡ Err (DeskFault.Unstruck fault) → restore_for (standing_at self.now) entries row ≡ Err fault }
     {
         match self.careful.register.restored_by(&self.setup.standing, row) {
             Ok(restore) => Ok(restore),
@@ -43,7 +43,7 @@ impl<D: Disk> Desk<D> {
         restore: Restore,
     ) -> Result<Standing, DeskFault>
         ensures court { IfOk result (λ standing. SaysCourt (standing_file (batch_of entries.now)) standing.court) }
-        ensures corrections { KeepsDocket D.Disk.seen D.Disk.may_leave D.Disk.is_usable (batch_of entries.now) self.now → IfOk result (λ standing. standing.corrections ≡ corrections_then (standing_at self.now) (batch_of entries.now) (struck_without (standing_at self.now).corrections.struck restore.row)) }
+        ensures corrections { KeepsDocket D.Disk (batch_of entries.now) self.now → IfOk result (λ standing. standing.corrections ≡ corrections_then (standing_at self.now) (batch_of entries.now) (struck_without (standing_at self.now).corrections.struck restore.row)) }
         ensures fault { (count : ℕ) → result ≢ Err (DeskFault.Differs count) }
         ensures unstruck { (fault : StrikeFaultOf) → result ≢ Err (DeskFault.Unstruck fault) }
     {
@@ -61,11 +61,11 @@ impl<D: Disk> Desk<D> {
         restore: &Restore,
         remark: &[u8],
     ) -> Result<(), DeskFault>
-        ensures kept { (entries : List (List ℕ)) (row : ℕ) → KeepsDocket D.Disk.seen D.Disk.may_leave D.Disk.is_usable entries self.old → restore_for (standing_at self.old) entries row ≡ Ok restore.now
+        ensures kept { (entries : List (List ℕ)) (row : ℕ) → KeepsDocket D.Disk entries self.old → restore_for (standing_at self.old) entries row ≡ Ok restore.now
             → SaysCourt (standing_file entries) standing.court → standing.corrections ≡ corrections_then (standing_at self.old) entries (struck_without (standing_at self.old).corrections.struck restore.now.row) → StandsAt standing register entries → length entries < most_entries
-            → OnOk result (KeepsDocket D.Disk.seen D.Disk.may_leave D.Disk.is_usable (entries ++ restore_entry restore.now (unsaid_by (standing_at self.old) entries) remark.now ∷ []) self.new
+            → OnOk result (KeepsDocket D.Disk (entries ++ restore_entry restore.now (unsaid_by (standing_at self.old) entries) remark.now ∷ []) self.new
             × (IsHistory entries → IsHistory (entries ++ restore_entry restore.now (unsaid_by (standing_at self.old) entries) remark.now ∷ []))) }
-        ensures crash { (entries : List (List ℕ)) → KeepsDocket D.Disk.seen D.Disk.may_leave D.Disk.is_usable entries self.old → (c : List ℕ) → D.Disk.may_leave (disk_under self.new) c
+        ensures crash { (entries : List (List ℕ)) → KeepsDocket D.Disk entries self.old → (c : List ℕ) → D.Disk.may_leave (disk_under self.new) c
             → StandsFor c entries ⊎ StandsFor c (entries ++ restore_entry restore.now (unsaid_by (standing_at self.old) entries) remark.now ∷ []) }
         ensures fault { (count : ℕ) → result ≢ Err (DeskFault.Differs count) }
         ensures unstruck { (fault : StrikeFaultOf) → result ≢ Err (DeskFault.Unstruck fault) }
@@ -92,12 +92,12 @@ impl<D: Disk> Desk<D> {
         requires some { 0 < length entries.now }
         requires few { length entries.now ≤ most_entries }
         requires writer_works { has_failed writer.old ≡ false }
-        ensures restored { KeepsDocket D.Disk.seen D.Disk.may_leave D.Disk.is_usable (batch_of entries.now) self.old → OnOk result
-            (RestoresRow (standing_at self.old) (batch_of entries.now) row remark.now accept (W.contents (watched writer.old)) (W.contents (watched writer.new)) (λ kept. KeepsDocket D.Disk.seen D.Disk.may_leave D.Disk.is_usable kept self.new)) }
-        ensures refused { (count : ℕ) → KeepsDocket D.Disk.seen D.Disk.may_leave D.Disk.is_usable (batch_of entries.now) self.old → result ≡ Err (DeskFault.Differs count)
+        ensures restored { KeepsDocket D.Disk (batch_of entries.now) self.old → OnOk result
+            (RestoresRow (standing_at self.old) (batch_of entries.now) row remark.now accept (W.contents (watched writer.old)) (W.contents (watched writer.new)) (λ kept. KeepsDocket D.Disk kept self.new)) }
+        ensures refused { (count : ℕ) → KeepsDocket D.Disk (batch_of entries.now) self.old → result ≡ Err (DeskFault.Differs count)
             → RefusesRestore (standing_at self.old) (batch_of entries.now) row count (W.contents (watched writer.old)) (W.contents (watched writer.new)) × (self.new ≡ self.old) }
-        ensures unstruck { (fault : StrikeFaultOf) → KeepsDocket D.Disk.seen D.Disk.may_leave D.Disk.is_usable (batch_of entries.now) self.old → result ≡ Err (DeskFault.Unstruck fault) → restore_for (standing_at self.old) (batch_of entries.now) row ≡ Err fault }
-        ensures crash { KeepsDocket D.Disk.seen D.Disk.may_leave D.Disk.is_usable (batch_of entries.now) self.old → (c : List ℕ) → D.Disk.may_leave (disk_under self.new) c
+        ensures unstruck { (fault : StrikeFaultOf) → KeepsDocket D.Disk (batch_of entries.now) self.old → result ≡ Err (DeskFault.Unstruck fault) → restore_for (standing_at self.old) (batch_of entries.now) row ≡ Err fault }
+        ensures crash { KeepsDocket D.Disk (batch_of entries.now) self.old → (c : List ℕ) → D.Disk.may_leave (disk_under self.new) c
             → StandsFor c (batch_of entries.now) ⊎ ((restore : RestoreOf) × (restore_for (standing_at self.old) (batch_of entries.now) row ≡ Ok restore) × StandsFor c (batch_of entries.now ++ restore_entry restore (unsaid_by (standing_at self.old) (batch_of entries.now)) remark.now ∷ [])) }
     {
         if entries.len() >= MOST_ENTRIES as usize {

@@ -27,9 +27,9 @@ impl<D: Disk> Desk<D> {
     fn strike_of(&self, alloc: Global, entries: &[Vec<u8>], row: u32) -> Result<Strike, DeskFault>
         requires some { 0 < length entries.now }
         requires few { length entries.now ≤ most_entries }
-        ensures strike { KeepsDocket D.Disk.seen D.Disk.may_leave D.Disk.is_usable (batch_of entries.now) self.now → IfOk result (λ strike. strike_for (standing_at self.now) (batch_of entries.now) row ≡ Ok strike) }
+        ensures strike { KeepsDocket D.Disk (batch_of entries.now) self.now → IfOk result (λ strike. strike_for (standing_at self.now) (batch_of entries.now) row ≡ Ok strike) }
         ensures fault { (count : ℕ) → result ≢ Err (DeskFault.Differs count) }
-        ensures unstruck { (fault : StrikeFaultOf) → KeepsDocket D.Disk.seen D.Disk.may_leave D.Disk.is_usable (batch_of entries.now) self.now → result ≡ Err (DeskFault.Unstruck fault) → strike_for (standing_at self.now) (batch_of entries.now) row ≡ Err fault }
+        ensures unstruck { (fault : StrikeFaultOf) → KeepsDocket D.Disk (batch_of entries.now) self.now → result ≡ Err (DeskFault.Unstruck fault) → strike_for (standing_at self.now) (batch_of entries.now) row ≡ Err fault }
     {
         match self
             .careful
@@ -49,7 +49,7 @@ impl<D: Disk> Desk<D> {
         strike: Strike,
     ) -> Result<Standing, DeskFault>
         ensures court { IfOk result (λ standing. SaysCourt (standing_file (batch_of entries.now)) standing.court) }
-        ensures corrections { KeepsDocket D.Disk.seen D.Disk.may_leave D.Disk.is_usable (batch_of entries.now) self.now → IfOk result (λ standing. standing.corrections ≡ corrections_then (standing_at self.now) (batch_of entries.now) (struck_with (standing_at self.now).corrections.struck strike.row)) }
+        ensures corrections { KeepsDocket D.Disk (batch_of entries.now) self.now → IfOk result (λ standing. standing.corrections ≡ corrections_then (standing_at self.now) (batch_of entries.now) (struck_with (standing_at self.now).corrections.struck strike.row)) }
         ensures fault { (count : ℕ) → result ≢ Err (DeskFault.Differs count) }
         ensures unstruck { (fault : StrikeFaultOf) → result ≢ Err (DeskFault.Unstruck fault) }
     {
@@ -67,11 +67,11 @@ impl<D: Disk> Desk<D> {
         strike: &Strike,
         remark: &[u8],
     ) -> Result<(), DeskFault>
-        ensures kept { (entries : List (List ℕ)) (row : ℕ) → KeepsDocket D.Disk.seen D.Disk.may_leave D.Disk.is_usable entries self.old → strike_for (standing_at self.old) entries row ≡ Ok strike.now
+        ensures kept { (entries : List (List ℕ)) (row : ℕ) → KeepsDocket D.Disk entries self.old → strike_for (standing_at self.old) entries row ≡ Ok strike.now
             → SaysCourt (standing_file entries) standing.court → standing.corrections ≡ corrections_then (standing_at self.old) entries (struck_with (standing_at self.old).corrections.struck strike.now.row) → StandsAt standing register entries → length entries < most_entries
-            → OnOk result (KeepsDocket D.Disk.seen D.Disk.may_leave D.Disk.is_usable (entries ++ strike_entry strike.now (unsaid_by (standing_at self.old) entries) remark.now ∷ []) self.new
+            → OnOk result (KeepsDocket D.Disk (entries ++ strike_entry strike.now (unsaid_by (standing_at self.old) entries) remark.now ∷ []) self.new
             × (IsHistory entries → IsHistory (entries ++ strike_entry strike.now (unsaid_by (standing_at self.old) entries) remark.now ∷ []))) }
-        ensures crash { (entries : List (List ℕ)) → KeepsDocket D.Disk.seen D.Disk.may_leave D.Disk.is_usable entries self.old → (c : List ℕ) → D.Disk.may_leave (disk_under self.new) c
+        ensures crash { (entries : List (List ℕ)) → KeepsDocket D.Disk entries self.old → (c : List ℕ) → D.Disk.may_leave (disk_under self.new) c
             → StandsFor c entries ⊎ StandsFor c (entries ++ strike_entry strike.now (unsaid_by (standing_at self.old) entries) remark.now ∷ []) }
         ensures fault { (count : ℕ) → result ≢ Err (DeskFault.Differs count) }
         ensures unstruck { (fault : StrikeFaultOf) → result ≢ Err (DeskFault.Unstruck fault) }
@@ -98,12 +98,12 @@ impl<D: Disk> Desk<D> {
         requires some { 0 < length entries.now }
         requires few { length entries.now ≤ most_entries }
         requires writer_works { has_failed writer.old ≡ false }
-        ensures struck { KeepsDocket D.Disk.seen D.Disk.may_leave D.Disk.is_usable (batch_of entries.now) self.old → OnOk result
-            (StrikesRow (standing_at self.old) (batch_of entries.now) row remark.now accept (W.contents (watched writer.old)) (W.contents (watched writer.new)) (λ kept. KeepsDocket D.Disk.seen D.Disk.may_leave D.Disk.is_usable kept self.new)) }
-        ensures refused { (count : ℕ) → KeepsDocket D.Disk.seen D.Disk.may_leave D.Disk.is_usable (batch_of entries.now) self.old → result ≡ Err (DeskFault.Differs count)
+        ensures struck { KeepsDocket D.Disk (batch_of entries.now) self.old → OnOk result
+            (StrikesRow (standing_at self.old) (batch_of entries.now) row remark.now accept (W.contents (watched writer.old)) (W.contents (watched writer.new)) (λ kept. KeepsDocket D.Disk kept self.new)) }
+        ensures refused { (count : ℕ) → KeepsDocket D.Disk (batch_of entries.now) self.old → result ≡ Err (DeskFault.Differs count)
             → RefusesStrike (standing_at self.old) (batch_of entries.now) row count (W.contents (watched writer.old)) (W.contents (watched writer.new)) × (self.new ≡ self.old) }
-        ensures unstruck { (fault : StrikeFaultOf) → KeepsDocket D.Disk.seen D.Disk.may_leave D.Disk.is_usable (batch_of entries.now) self.old → result ≡ Err (DeskFault.Unstruck fault) → strike_for (standing_at self.old) (batch_of entries.now) row ≡ Err fault }
-        ensures crash { KeepsDocket D.Disk.seen D.Disk.may_leave D.Disk.is_usable (batch_of entries.now) self.old → (c : List ℕ) → D.Disk.may_leave (disk_under self.new) c
+        ensures unstruck { (fault : StrikeFaultOf) → KeepsDocket D.Disk (batch_of entries.now) self.old → result ≡ Err (DeskFault.Unstruck fault) → strike_for (standing_at self.old) (batch_of entries.now) row ≡ Err fault }
+        ensures crash { KeepsDocket D.Disk (batch_of entries.now) self.old → (c : List ℕ) → D.Disk.may_leave (disk_under self.new) c
             → StandsFor c (batch_of entries.now) ⊎ ((strike : StrikeOf) × (strike_for (standing_at self.old) (batch_of entries.now) row ≡ Ok strike) × StandsFor c (batch_of entries.now ++ strike_entry strike (unsaid_by (standing_at self.old) (batch_of entries.now)) remark.now ∷ [])) }
     {
         if entries.len() >= MOST_ENTRIES as usize {

@@ -1,5 +1,5 @@
 //! Rows that are kept together, or not at all.
-ghost use Rattle.std.specs.Prelude.{◌≡◌, ◌≢◌, ◌⊎◌, ◌++◌, [], ℕ, List, None, Ok, length, map, false, true, Err, IfErr, IfOk, OnOk};
+ghost use Rattle.std.specs.Prelude.{◌≡◌, ◌≢◌, ◌⊎◌, ◌++◌, [], ℕ, List, None, Ok, length, map, false, true, Err, IsTrue, IfErr, IfOk, OnOk};
 ghost use Rattle.std.specs.Io.KnownBytes.{Appends};
 ghost use Rattle.desk_journal.specs.Words.{StandsFor};
 ghost use Rattle.desk_session.specs.Words.{left_by, lines_of, stopped_in};
@@ -133,22 +133,23 @@ impl<D: Disk> Desk<D> {
         writer: &mut Watched<W>,
     ) -> Result<(), DeskFault>
         requires writer_works { has_failed writer.old ≡ false }
-        ensures kept { (kept : List (List ℕ)) → KeepsDocket D.Disk.seen D.Disk.may_leave D.Disk.is_usable kept self.old → OnOk result
-            (KeepsTogether (standing_at self.old) (held_at self.old) keep_refused kept input.now (W.contents (watched writer.old)) (W.contents (watched writer.new)) (λ entries. KeepsDocket D.Disk.seen D.Disk.may_leave D.Disk.is_usable entries self.new)) }
-        ensures refused { (kept : List (List ℕ)) (count : ℕ) → KeepsDocket D.Disk.seen D.Disk.may_leave D.Disk.is_usable kept self.old → result ≡ Err (DeskFault.Faults count)
+        ensures kept { (kept : List (List ℕ)) → KeepsDocket D.Disk kept self.old → OnOk result
+            (KeepsTogether (standing_at self.old) (held_at self.old) keep_refused kept input.now (W.contents (watched writer.old)) (W.contents (watched writer.new)) (λ entries. KeepsDocket D.Disk entries self.new)) }
+        ensures refused { (kept : List (List ℕ)) (count : ℕ) → KeepsDocket D.Disk kept self.old → result ≡ Err (DeskFault.Faults count)
             → RefusesLines (standing_at self.old) (held_at self.old) kept input.now count (W.contents (watched writer.old)) (W.contents (watched writer.new)) }
-        ensures stopped { (kept : List (List ℕ)) (number : ℕ) → KeepsDocket D.Disk.seen D.Disk.may_leave D.Disk.is_usable kept self.old → result ≡ Err (DeskFault.Refused number)
+        ensures stopped { (kept : List (List ℕ)) (number : ℕ) → KeepsDocket D.Disk kept self.old → result ≡ Err (DeskFault.Refused number)
             → StopsList (standing_at self.old) (held_at self.old) keep_refused kept input.now number false (W.contents (watched writer.old)) (W.contents (watched writer.new)) }
-        ensures held { (kept : List (List ℕ)) (number : ℕ) → KeepsDocket D.Disk.seen D.Disk.may_leave D.Disk.is_usable kept self.old → result ≡ Err (DeskFault.Held number)
+        ensures held { (kept : List (List ℕ)) (number : ℕ) → KeepsDocket D.Disk kept self.old → result ≡ Err (DeskFault.Held number)
             → StopsList (standing_at self.old) (held_at self.old) keep_refused kept input.now number true (W.contents (watched writer.old)) (W.contents (watched writer.new)) }
-        ensures untouched { (kept : List (List ℕ)) → KeepsDocket D.Disk.seen D.Disk.may_leave D.Disk.is_usable kept self.old → IsAtFault (standing_at self.old) (held_at self.old) kept input.now → self.new ≡ self.old }
-        ensures unwritten { (kept : List (List ℕ)) → KeepsDocket D.Disk.seen D.Disk.may_leave D.Disk.is_usable kept self.old → stop_of (standing_at self.old) (held_at self.old) keep_refused kept input.now ≢ None → disk_under self.new ≡ disk_under self.old }
-        ensures says { (kept : List (List ℕ)) → KeepsDocket D.Disk.seen D.Disk.may_leave D.Disk.is_usable kept self.old → IfErr result (SaysWhatIsKept (disk_under self.new ≡ disk_under self.old)
+        ensures untouched { (kept : List (List ℕ)) → KeepsDocket D.Disk kept self.old → IsAtFault (standing_at self.old) (held_at self.old) kept input.now → self.new ≡ self.old }
+        ensures unwritten { (kept : List (List ℕ)) → KeepsDocket D.Disk kept self.old → stop_of (standing_at self.old) (held_at self.old) keep_refused kept input.now ≢ None → disk_under self.new ≡ disk_under self.old }
+        ensures says { (kept : List (List ℕ)) → KeepsDocket D.Disk kept self.old → IfErr result (SaysWhatIsKept (disk_under self.new ≡ disk_under self.old)
             ((file : List ℕ) → D.Disk.may_leave (disk_under self.new) file → StandsFor file (kept ++ left_by (leaves_at self.old) kept (lines_of input.now)))) }
-        ensures promised { (kept : List (List ℕ)) → KeepsDocket D.Disk.seen D.Disk.may_leave D.Disk.is_usable kept self.old → faults_in (standing_at self.old) (held_at self.old) kept input.now ≡ [] → stop_of (standing_at self.old) (held_at self.old) keep_refused kept input.now ≡ None
+        ensures promised { (kept : List (List ℕ)) → KeepsDocket D.Disk kept self.old → faults_in (standing_at self.old) (held_at self.old) kept input.now ≡ [] → stop_of (standing_at self.old) (held_at self.old) keep_refused kept input.now ≡ None
             → IsPromisedDocket (standing_at self.old) (held_at self.old) kept (lines_of input.now) (W.contents (watched writer.old)) (W.contents (watched writer.new)) (has_failed writer.new ≡ false) (D.Disk.may_leave (disk_under self.new)) }
-        ensures crash { (kept : List (List ℕ)) → KeepsDocket D.Disk.seen D.Disk.may_leave D.Disk.is_usable kept self.old
+        ensures crash { (kept : List (List ℕ)) → KeepsDocket D.Disk kept self.old
             → IsDocketAllOrNone (standing_at self.old) (held_at self.old) kept (lines_of input.now) (D.Disk.may_leave (disk_under self.new)) }
+        ensures clean { IsTrue (D.Disk.is_clean (disk_under self.new)) → IsTrue (D.Disk.is_clean (disk_under self.old)) }
     {
         let marked = self.setup.held_back.are_marked();
         let faults = match self

@@ -23,13 +23,13 @@ impl<D: Disk> Desk<D> {
         writer: &mut Watched<W>,
     ) -> (Result<Tally, SessionFault>, D)
         requires writer_works { has_failed writer.old ≡ false }
-        ensures tried { (kept : List (List ℕ)) → KeepsDocket D.Disk.seen D.Disk.may_leave D.Disk.is_usable kept self → OnOk result.0
+        ensures tried { (kept : List (List ℕ)) → KeepsDocket D.Disk kept self → OnOk result.0
             (IfSome (R.remaining (watched reader.old)) (λ input. IsTried (standing_at self) (held_at self) kept (lines_of input) (W.contents (watched writer.old)) (W.contents (watched writer.new)))) }
-        ensures front { (kept : List (List ℕ)) → KeepsDocket D.Disk.seen D.Disk.may_leave D.Disk.is_usable kept self →
+        ensures front { (kept : List (List ℕ)) → KeepsDocket D.Disk kept self →
             AfterBytes (R.remaining (watched reader.old)) (R.remaining (watched reader.new)) (λ bytes.
             IsTriedInPart (standing_at self) (held_at self) kept (lines_of bytes) (W.contents (watched writer.old)) (W.contents (watched writer.new))) }
         ensures finished { OnOk result.0 (IfSome (R.remaining (watched reader.old)) (λ input. unfinished_of input ≡ [])) }
-        ensures tally { (kept : List (List ℕ)) → KeepsDocket D.Disk.seen D.Disk.may_leave D.Disk.is_usable kept self → IfOk result.0 (λ tally.
+        ensures tally { (kept : List (List ℕ)) → KeepsDocket D.Disk kept self → IfOk result.0 (λ tally.
             IfSome (R.remaining (watched reader.old)) (λ input. tally ≡ tally_of (leaves_at self) (outcome_at self) kept (lines_of input))) }
         ensures fault { IfErr result.0 (λ fault. AfterBytes (R.remaining (watched reader.old)) (R.remaining (watched reader.new)) (λ bytes. EndsSession reader.new writer.new bytes fault)) }
         ensures untouched { result.1 ≡ disk_under self }

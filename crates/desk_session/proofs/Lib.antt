@@ -5,6 +5,8 @@ pub mod FaultLemmas
 pub mod LineLemmas
 pub mod OutcomeLemmas
 pub mod PromiseLemmas
+pub mod ShortLawLemmas
+pub mod ShortLineLemmas
 pub mod StampedLemmas
 pub mod TakenLemmas
 pub mod TogetherLemmas

@@ -2,6 +2,7 @@ pub mod Account
 pub mod Faults
 pub mod Lines
 pub mod Outcomes
+pub mod ShortLines
 pub mod Stamped
 pub mod Stopped
 pub mod Taken

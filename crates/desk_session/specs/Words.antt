@@ -6,6 +6,8 @@ pub use Rattle.desk_session.specs.Lines.{IsFirstLine, HasNoEnd, after_mark, line
 unfoldable pub use Rattle.desk_session.specs.Lines.{numbered_from}
 pub use Rattle.desk_session.specs.Outcomes.{counted_with, is_held, no_lines, tally_of}
 unfoldable pub use Rattle.desk_session.specs.Outcomes.{tally_after}
+pub use Rattle.desk_session.specs.ShortLines.{HasLinesCut, HasLinesWithin, count_with, ended_last, open_last, passed_on, short_lines, short_remaining}
+unfoldable pub use Rattle.desk_session.specs.ShortLines.{cut, most_line, most_whole, short_from}
 pub use Rattle.desk_session.specs.Stamped.{IsStampedOn}
 pub use Rattle.desk_session.specs.Stopped.{Stopped, or_later, stopped_as, stopped_in, stops}
 unfoldable pub use Rattle.desk_session.specs.Stopped.{first_stopped}

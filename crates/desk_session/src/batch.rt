@@ -41,6 +41,7 @@ pub(crate) fn serve_bytes<K: Keeper, O: Register, W: Write>(
         (tally.new ≡ tally_after (O.leaves setup.now) (O.outcome setup.now) tally.old kept (lines_from begun.old.items bytes.now)) }
     ensures stamped { (stamps : List StampView) → K.has_stamps keeper.old stamps → OnOk result (IsStampedOn (K.account keeper.old) (K.has_stamps keeper.new) stamps) }
     ensures account { K.account keeper.new ≡ K.account keeper.old }
+    ensures clean { K.is_clean keeper.new → K.is_clean keeper.old }
 {
     let mut batch = Vec::new(alloc);
     let mut text = Vec::new(alloc);

@@ -13,6 +13,7 @@ mod outcome;
 mod publish;
 mod register;
 mod session;
+mod short_lines;
 mod together;
 
 pub use account::account_of;
@@ -27,4 +28,7 @@ pub use lines::{
 pub use outcome::{Outcome, Tally};
 pub use register::Register;
 pub use session::serve;
+pub use short_lines::{
+    ShortLines, cut_lines_are_no_text, long_lines_are_cut, short_lines_are_short, short_lines_stay,
+};
 pub use together::{StoppedLine, serve_together};

@@ -34,6 +34,7 @@ pub(crate) fn publish<K: Keeper, W: Write>(
         → StandsFor file kept ⊎ StandsFor file (kept ++ batch_of batch.now) }
     ensures stamped { (stamps : List StampView) → K.has_stamps keeper.old stamps → OnOk result (IsStampedOn (K.account keeper.old) (K.has_stamps keeper.new) stamps) }
     ensures account { K.account keeper.new ≡ K.account keeper.old }
+    ensures clean { K.is_clean keeper.new → K.is_clean keeper.old }
 {
     keeper.keep(batch)?;
     match write_all(writer, text) {

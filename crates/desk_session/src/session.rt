@@ -1,5 +1,5 @@
 //! A session, from the first line of its input to the last.
-ghost use Rattle.std.specs.Prelude.{◌≡◌, ◌≢◌, [], ℕ, List, false, IfErr, IfOk, IfSome, OnOk};
+ghost use Rattle.std.specs.Prelude.{◌≡◌, ◌≢◌, [], ℕ, List, false, IsTrue, IfErr, IfOk, IfSome, OnOk};
 ghost use Rattle.desk_journal.specs.Words.{IsKept, KeepsStamps, StampView, disk_of, stamp_of};
 ghost use Rattle.program_streams.specs.Words.{has_failed, watched};
 ghost use Rattle.desk_session.specs.Faults.{EndsSession};
@@ -61,6 +61,7 @@ pub(crate) fn serve_lines<K: Keeper, O: Register, C: Clock, R: Read, W: Write>(
     ensures fault { IfErr result (λ fault. AfterBytes (R.remaining (watched reader.old)) (R.remaining (watched reader.new)) (λ bytes. EndsSession reader.new writer.new bytes fault)) }
     ensures working { OnOk result (has_failed writer.new ≡ false) }
     ensures stamped { (stamps : List StampView) → K.has_stamps keeper.old stamps → OnOk result (IsStampedOn (K.account keeper.old) (K.has_stamps keeper.new) stamps) }
+    ensures clean { K.is_clean keeper.new → K.is_clean keeper.old }
 {
     let mut begun = Vec::new(alloc);
     let mut buffer = vec![in alloc; 0u8; CHUNK]?;
@@ -103,20 +104,22 @@ pub fn serve<D: Disk, O: Register, C: Clock, R: Read, W: Write>(
     writer: &mut Watched<W>,
 ) -> Result<Tally, SessionFault>
     requires writer_works { has_failed writer.old ≡ false }
-    ensures promised { (kept : List (List ℕ)) → IsKept D.Disk.seen D.Disk.may_leave D.Disk.is_usable kept journal.old → O.stands setup.now register.old kept →
+    ensures promised { (kept : List (List ℕ)) → IsKept D.Disk kept journal.old → O.stands setup.now register.old kept →
         AfterBytes (R.remaining (watched reader.old)) (R.remaining (watched reader.new)) (λ bytes.
         IsPromised (O.leaves setup.now) (O.answers setup.now) kept (lines_of bytes) (W.contents (watched writer.old)) (W.contents (watched writer.new)) (has_failed writer.new ≡ false) (D.Disk.may_leave (disk_of journal.new))) }
-    ensures served { (kept : List (List ℕ)) → IsKept D.Disk.seen D.Disk.may_leave D.Disk.is_usable kept journal.old → O.stands setup.now register.old kept → OnOk result
+    ensures served { (kept : List (List ℕ)) → IsKept D.Disk kept journal.old → O.stands setup.now register.old kept → OnOk result
         (IfSome (R.remaining (watched reader.old)) (λ input.
-        IsServed (O.leaves setup.now) (O.answers setup.now) (λ entries. IsKept D.Disk.seen D.Disk.may_leave D.Disk.is_usable entries journal.new) (O.stands setup.now register.new) kept (lines_of input) (W.contents (watched writer.old)) (W.contents (watched writer.new)))) }
+        IsServed (O.leaves setup.now) (O.answers setup.now) (λ entries. IsKept D.Disk entries journal.new) (O.stands setup.now register.new) kept (lines_of input) (W.contents (watched writer.old)) (W.contents (watched writer.new)))) }
     ensures finished { OnOk result (IfSome (R.remaining (watched reader.old)) (λ input. unfinished_of input ≡ [])) }
-    ensures tally { (kept : List (List ℕ)) → IsKept D.Disk.seen D.Disk.may_leave D.Disk.is_usable kept journal.old → O.stands setup.now register.old kept → IfOk result (λ tally.
+    ensures tally { (kept : List (List ℕ)) → IsKept D.Disk kept journal.old → O.stands setup.now register.old kept → IfOk result (λ tally.
         IfSome (R.remaining (watched reader.old)) (λ input. tally ≡ tally_of (O.leaves setup.now) (O.outcome setup.now) kept (lines_of input))) }
     ensures fault { IfErr result (λ fault. AfterBytes (R.remaining (watched reader.old)) (R.remaining (watched reader.new)) (λ bytes. EndsSession reader.new writer.new bytes fault)) }
     ensures working { OnOk result (has_failed writer.new ≡ false) }
     // What is kept is of the journal's account, and times never go back.
-    ensures stamped { (stamps : List StampView) → KeepsStamps D.Disk.seen D.Disk.may_leave D.Disk.is_usable stamps journal.old
-        → OnOk result (IsStampedOn (stamp_of journal.old).account (λ after. KeepsStamps D.Disk.seen D.Disk.may_leave D.Disk.is_usable after journal.new) stamps) }
+    ensures stamped { (stamps : List StampView) → KeepsStamps D.Disk stamps journal.old
+        → OnOk result (IsStampedOn (stamp_of journal.old).account (λ after. KeepsStamps D.Disk after journal.new) stamps) }
+    // Where no wrong answer of the disk was taken as true at the end, none was at the start.
+    ensures clean { IsTrue (D.Disk.is_clean (disk_of journal.new)) → IsTrue (D.Disk.is_clean (disk_of journal.old)) }
 {
     serve_lines(setup, alloc, clock, journal, register, reader, writer)
 }

@@ -1,5 +1,5 @@
 //! Lines that came together: all of them are kept, and then answered.
-ghost use Rattle.std.specs.Prelude.{◌≡◌, ◌≢◌, ◌<◌, ◌⊎◌, ◌++◌, [], ℕ, List, None, Ok, Err, drop, length, false, IfErr, IfOk, OnOk, option_map};
+ghost use Rattle.std.specs.Prelude.{◌≡◌, ◌≢◌, ◌<◌, ◌⊎◌, ◌++◌, [], ℕ, List, None, Ok, Err, drop, length, false, IsTrue, IfErr, IfOk, OnOk, option_map};
 ghost use Rattle.desk_journal.specs.Words.{IsKept, KeepsStamps, StampView, batch_of, disk_of, stamp_of};
 ghost use Rattle.program_streams.specs.Words.{has_failed, watched};
 ghost use Rattle.desk_session.specs.Faults.{StopsBytes};
@@ -125,21 +125,23 @@ pub fn serve_together<D: Disk, O: Register, W: Write>(
     keep_refused: bool,
 ) -> Result<Option<StoppedLine>, SessionFault>
     requires writer_works { has_failed writer.old ≡ false }
-    ensures all_or_none { (kept : List (List ℕ)) → IsKept D.Disk.seen D.Disk.may_leave D.Disk.is_usable kept journal.old → O.stands setup.now register.old kept →
+    ensures all_or_none { (kept : List (List ℕ)) → IsKept D.Disk kept journal.old → O.stands setup.now register.old kept →
         IsAllOrNone (O.leaves setup.now) kept (lines_of input.now) (D.Disk.may_leave (disk_of journal.new)) }
-    ensures promised { (kept : List (List ℕ)) → IsKept D.Disk.seen D.Disk.may_leave D.Disk.is_usable kept journal.old → O.stands setup.now register.old kept →
+    ensures promised { (kept : List (List ℕ)) → IsKept D.Disk kept journal.old → O.stands setup.now register.old kept →
         IsPromised (O.leaves setup.now) (O.answers setup.now) kept (lines_of input.now) (W.contents (watched writer.old)) (W.contents (watched writer.new)) (has_failed writer.new ≡ false) (D.Disk.may_leave (disk_of journal.new)) }
-    ensures served { (kept : List (List ℕ)) → IsKept D.Disk.seen D.Disk.may_leave D.Disk.is_usable kept journal.old → O.stands setup.now register.old kept → result ≡ Ok None →
-        IsServed (O.leaves setup.now) (O.answers setup.now) (λ entries. IsKept D.Disk.seen D.Disk.may_leave D.Disk.is_usable entries journal.new) (O.stands setup.now register.new) kept (lines_of input.now) (W.contents (watched writer.old)) (W.contents (watched writer.new)) }
+    ensures served { (kept : List (List ℕ)) → IsKept D.Disk kept journal.old → O.stands setup.now register.old kept → result ≡ Ok None →
+        IsServed (O.leaves setup.now) (O.answers setup.now) (λ entries. IsKept D.Disk entries journal.new) (O.stands setup.now register.new) kept (lines_of input.now) (W.contents (watched writer.old)) (W.contents (watched writer.new)) }
     ensures stopped { (kept : List (List ℕ)) → O.stands setup.now register.old kept → IfOk result (λ stopped. option_map stopped_in stopped ≡ first_stopped (O.leaves setup.now) (O.answers setup.now) (O.outcome setup.now) keep_refused kept (numbered_lines input.now)) }
     ensures unwritten { (kept : List (List ℕ)) → O.stands setup.now register.old kept → first_stopped (O.leaves setup.now) (O.answers setup.now) (O.outcome setup.now) keep_refused kept (numbered_lines input.now) ≢ None → journal.new ≡ journal.old }
     ensures untold { IfOk result (λ stopped. stopped ≢ None → writer.new ≡ writer.old) }
     ensures long { result ≡ Err SessionFault.LongLine → journal.new ≡ journal.old }
-    ensures unanswered { (kept : List (List ℕ)) → IsKept D.Disk.seen D.Disk.may_leave D.Disk.is_usable kept journal.old → O.stands setup.now register.old kept → result ≡ Err SessionFault.Write →
-        IsKept D.Disk.seen D.Disk.may_leave D.Disk.is_usable (kept ++ left_by (O.leaves setup.now) kept (lines_of input.now)) journal.new }
+    ensures unanswered { (kept : List (List ℕ)) → IsKept D.Disk kept journal.old → O.stands setup.now register.old kept → result ≡ Err SessionFault.Write →
+        IsKept D.Disk (kept ++ left_by (O.leaves setup.now) kept (lines_of input.now)) journal.new }
     // What is kept is of the journal's account, and times never go back.
-    ensures stamped { (stamps : List StampView) → KeepsStamps D.Disk.seen D.Disk.may_leave D.Disk.is_usable stamps journal.old
-        → OnOk result (IsStampedOn (stamp_of journal.old).account (λ after. KeepsStamps D.Disk.seen D.Disk.may_leave D.Disk.is_usable after journal.new) stamps) }
+    ensures stamped { (stamps : List StampView) → KeepsStamps D.Disk stamps journal.old
+        → OnOk result (IsStampedOn (stamp_of journal.old).account (λ after. KeepsStamps D.Disk after journal.new) stamps) }
+    // Where no wrong answer of the disk was taken as true at the end, none was at the start.
+    ensures clean { IsTrue (D.Disk.is_clean (disk_of journal.new)) → IsTrue (D.Disk.is_clean (disk_of journal.old)) }
     ensures fault { IfErr result (StopsBytes (has_failed writer.new) [] input.now) }
 {
     let mut batch = Vec::new(alloc);

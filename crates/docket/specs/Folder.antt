@@ -1,8 +1,17 @@
--- A folder, and the faults of its journal.
-use Rattle.std.specs.Prelude.{ℕ, List, ◌++◌, codes}
+-- A folder: what opening it finds, and the faults of its journal.
+use Rattle.std.specs.Prelude.{ℕ, List, ◌++◌, IsTrue, codes}
+use Rattle.sqlite_disk.specs.declared.Disk as disk
 use Rattle.desk_journal.specs.declared.fault.JournalFault.TheVariants as journal
+use Rattle.desk_journal.specs.Words.{IsWhole, StandsFor}
+use Rattle.desk_program.specs.declared.desk.Desk.{Desk}
 use Rattle.desk_program.specs.declared.fault.DeskFault.{DeskFault}
 use Rattle.desk_program.specs.declared.fault.DeskFault.TheVariants.{Journal, OutOfMemory}
+use Rattle.desk_program.specs.Words.{KeepsDocket, disk_under}
+
+-- Unless a wrong answer of the disk was taken as true, none of the file's entries is damaged, it stands for these entries, and they are
+-- what the desk keeps.
+abbrev pub IsOpened : {D : Type 0} → (g : disk.Ghosts D) → (file : List ℕ) → (entries : List (List ℕ)) → Desk D → Type 0
+IsOpened g file entries desk = IsTrue (g.is_clean (disk_under desk)) → IsWhole file × StandsFor file entries × KeepsDocket g entries desk
 
 -- the name of the folder in which a folder is
 abbrev pub above_name : (folder : List ℕ) → List ℕ

@@ -96,9 +96,9 @@ fn stricken<D: Disk, W: Write>(
     requires works { has_failed writer.old ≡ false }
     requires some { 0 < length entries.now }
     requires few { length entries.now ≤ 1000000 }
-    ensures { KeepsDocket D.Disk.seen D.Disk.may_leave D.Disk.is_usable (batch_of entries.now) desk.old → OnOk result
+    ensures { KeepsDocket D.Disk (batch_of entries.now) desk.old → OnOk result
         (StrikesRow (standing_at desk.old) (batch_of entries.now) correcting.now.row (remark_by (codes "struck") (standing_at desk.old) account.now correcting.now) correcting.now.accept (W.contents (watched writer.old)) (W.contents (watched writer.new))
-        (λ kept. KeepsDocket D.Disk.seen D.Disk.may_leave D.Disk.is_usable kept desk.new)) }
+        (λ kept. KeepsDocket D.Disk kept desk.new)) }
 {
     let remark = remark_by(alloc, "struck", desk.court(), account, correcting)?;
     desk.strike(
@@ -123,9 +123,9 @@ fn restored<D: Disk, W: Write>(
     requires works { has_failed writer.old ≡ false }
     requires some { 0 < length entries.now }
     requires few { length entries.now ≤ 1000000 }
-    ensures { KeepsDocket D.Disk.seen D.Disk.may_leave D.Disk.is_usable (batch_of entries.now) desk.old → OnOk result
+    ensures { KeepsDocket D.Disk (batch_of entries.now) desk.old → OnOk result
         (RestoresRow (standing_at desk.old) (batch_of entries.now) correcting.now.row (remark_by (codes "restored") (standing_at desk.old) account.now correcting.now) correcting.now.accept (W.contents (watched writer.old)) (W.contents (watched writer.new))
-        (λ kept. KeepsDocket D.Disk.seen D.Disk.may_leave D.Disk.is_usable kept desk.new)) }
+        (λ kept. KeepsDocket D.Disk kept desk.new)) }
 {
     let remark = remark_by(alloc, "restored", desk.court(), account, correcting)?;
     desk.restore(
@@ -149,7 +149,7 @@ pub fn strike<H: Threads + Wait + Sync, W: Write>(
     requires { has_failed writer.old ≡ false }
 {
     let account = account_of(rt)?;
-    let (mut desk, entries) = opened(rt, threads, folder)?;
+    let (mut desk, entries) = opened(rt, threads, folder, Wary)?;
     let ended = stricken(
         rt.alloc(),
         writer,
@@ -173,7 +173,7 @@ pub fn restore<H: Threads + Wait + Sync, W: Write>(
     requires { has_failed writer.old ≡ false }
 {
     let account = account_of(rt)?;
-    let (mut desk, entries) = opened(rt, threads, folder)?;
+    let (mut desk, entries) = opened(rt, threads, folder, Wary)?;
     let ended = restored(
         rt.alloc(),
         writer,
@@ -199,7 +199,7 @@ pub fn change<H: Threads + Wait + Sync, W: Write>(
     requires { has_failed writer.old ≡ false }
 {
     let file = read_file(rt, court)?;
-    let (mut desk, entries) = opened(rt, threads, folder)?;
+    let (mut desk, entries) = opened(rt, threads, folder, Wary)?;
     let ended = desk.change(rt.alloc(), &entries, &file, accept, writer);
     end_desk(rt, folder, desk);
     Ok(ended?)

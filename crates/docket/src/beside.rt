@@ -18,6 +18,7 @@ use desk_program::{
     Desk, DeskFault, ask as answer, checked_rows, write_cases, write_count, write_rows,
     write_struck,
 };
+use desk_session::ShortLines;
 use desk_warnings::HeldBack;
 use program_streams::Watched;
 use program_words::{AsOf, Lines, Style};
@@ -35,9 +36,9 @@ fn tried<D: Disk + Drop, R: Read + Drop, W: Write>(
     desk: Desk<D>,
 ) -> Result<(), Fault>
     requires { has_failed writer.old ≡ false }
-    ensures tally { (kept : List (List ℕ)) → KeepsDocket D.Disk.seen D.Disk.may_leave D.Disk.is_usable kept desk → IfSome (R.remaining reader) (λ input.
+    ensures tally { (kept : List (List ℕ)) → KeepsDocket D.Disk kept desk → IfSome (R.remaining reader) (λ input.
         WithTally (λ tally. tally ≡ tally_of (leaves_at desk) (outcome_at desk) kept (lines_of input)) result) }
-    ensures tried { (kept : List (List ℕ)) → KeepsDocket D.Disk.seen D.Disk.may_leave D.Disk.is_usable kept desk → OnOk result (IfSome (R.remaining reader) (λ input.
+    ensures tried { (kept : List (List ℕ)) → KeepsDocket D.Disk kept desk → OnOk result (IfSome (R.remaining reader) (λ input.
         IsTried (standing_at desk) (held_at desk) kept (lines_of input) (W.contents (watched writer.old)) (W.contents (watched writer.new)))) }
 {
     let mut reader = Watched::new(reader);
@@ -64,7 +65,7 @@ pub fn try_rows<H: Threads + Wait + Sync, W: Write, E: Write>(
     let mut desk = copied_beside(rt, threads, folder)?;
     desk.hold_back(held_back);
     match rows_of(rt, errors, desk.court(), lines, held_back.are_marked()) {
-        Ok(None) => tried(rt.alloc(), rt.stdin(), writer, desk),
+        Ok(None) => tried(rt.alloc(), ShortLines::new(rt.stdin()), writer, desk),
         Ok(Some(rows)) => tried(rt.alloc(), rows.as_slice(), writer, desk),
         Err(fault) => Err(fault),
     }
@@ -119,7 +120,7 @@ pub fn ask<H: Threads + Wait + Sync, W: Write, E: Write>(
     let (docketed, entries) = docketed_beside(rt, threads, folder, as_of)?;
     drop(entries);
     match rows_of(rt, errors, &docketed.standing.court, lines, false) {
-        Ok(None) => answered(rt.alloc(), rt.stdin(), writer, docketed),
+        Ok(None) => answered(rt.alloc(), ShortLines::new(rt.stdin()), writer, docketed),
         Ok(Some(rows)) => answered(rt.alloc(), rows.as_slice(), writer, docketed),
         Err(fault) => Err(fault),
     }

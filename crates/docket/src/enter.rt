@@ -1,25 +1,26 @@
 //! Rows that are kept.
-ghost use Rattle.std.specs.Prelude.{◌≡◌, ◌≢◌, ◌⊎◌, ℕ, List, None, false, true, IfOk, IfSome, OnOk};
+ghost use Rattle.std.specs.Prelude.{◌≡◌, ◌≢◌, ◌⊎◌, ℕ, List, None, false, true, IsTrue, IfOk, IfSome, OnErr, OnOk};
 ghost use Rattle.desk_program.specs.Words.{IsDocketAllOrNone, KeepsDocket, KeepsTogether, answers_at, desk_status, disk_under, held_at, leaves_at, outcome_at, standing_at, stop_of};
 ghost use Rattle.desk_session.specs.Words.{IsServed, lines_of, tally_of};
 ghost use Rattle.docket.specs.Lines.{is_json};
-ghost use Rattle.docket.specs.Sessions.{WithTally};
+ghost use Rattle.docket.specs.Sessions.{EntersFile, PromisesSession, WithTally};
 ghost use Rattle.program_streams.specs.Words.{has_failed, watched};
 
 use crate::fault::{Fault, taken};
-use crate::folder::{FolderDesk, end_desk, opened};
+use crate::folder::{end_desk, opened};
 use crate::input::{rows_of, say, whole};
 use crate::journal_file::journal_name;
 use crate::place::{GuardedInput, Place, is_replaced, place_of};
 use crate::session_mark::{begin_session, end_session};
 use desk_journal::JournalFault;
 use desk_program::{Desk, DeskFault, file_fault, status_of};
-use desk_session::SessionFault;
+use desk_session::{SessionFault, ShortLines};
 use desk_warnings::HeldBack;
 use program_streams::{Watched, write_all};
 use program_words::{Keeping, Lines};
 use row_input::json_of_said;
-use sqlite_disk::Disk;
+use sqlite_disk::{Disk, Start};
+use sqlite_std_file::{FileFrom, Wary};
 use std::alloc::Global;
 use std::io::{Read, Write};
 use std::rt::Clock;
@@ -35,10 +36,12 @@ fn kept_each<D: Disk, C: Clock, R: Read + Drop, W: Write>(
     desk: &mut Desk<D>,
 ) -> Result<(), Fault>
     requires { has_failed writer.old ≡ false }
-    ensures tally { (kept : List (List ℕ)) → KeepsDocket D.Disk.seen D.Disk.may_leave D.Disk.is_usable kept desk.old → IfSome (R.remaining reader) (λ input.
+    ensures tally { (kept : List (List ℕ)) → KeepsDocket D.Disk kept desk.old → IfSome (R.remaining reader) (λ input.
         WithTally (λ tally. tally ≡ tally_of (leaves_at desk.old) (outcome_at desk.old) kept (lines_of input)) result) }
-    ensures served { (kept : List (List ℕ)) → KeepsDocket D.Disk.seen D.Disk.may_leave D.Disk.is_usable kept desk.old → OnOk result (IfSome (R.remaining reader) (λ input.
-        IsServed (leaves_at desk.old) (answers_at desk.old) (λ entries. KeepsDocket D.Disk.seen D.Disk.may_leave D.Disk.is_usable entries desk.new) (λ entries. standing_at desk.new ≡ standing_at desk.old) kept (lines_of input) (W.contents (watched writer.old)) (W.contents (watched writer.new)))) }
+    ensures served { (kept : List (List ℕ)) → KeepsDocket D.Disk kept desk.old → OnOk result (IfSome (R.remaining reader) (λ input.
+        IsServed (leaves_at desk.old) (answers_at desk.old) (λ entries. KeepsDocket D.Disk entries desk.new) (λ entries. standing_at desk.new ≡ standing_at desk.old) kept (lines_of input) (W.contents (watched writer.old)) (W.contents (watched writer.new)))) }
+    ensures promised { PromisesSession D.Disk (held_at desk.old) desk.old desk.new (W.contents (watched writer.old)) (W.contents (watched writer.new)) (has_failed writer.new ≡ false) }
+    ensures clean { IsTrue (D.Disk.is_clean (disk_under desk.new)) → IsTrue (D.Disk.is_clean (disk_under desk.old)) }
 {
     let mut reader = Watched::new(reader);
     match desk.enter(alloc, clock, &mut reader, writer) {
@@ -90,12 +93,14 @@ fn kept_together<D: Disk, W: Write, E: Write>(
     keep_refused: bool,
 ) -> Result<(), Fault>
     requires { has_failed writer.old ≡ false }
-    ensures crash { (kept : List (List ℕ)) → KeepsDocket D.Disk.seen D.Disk.may_leave D.Disk.is_usable kept desk.old
+    ensures crash { (kept : List (List ℕ)) → KeepsDocket D.Disk kept desk.old
         → IsDocketAllOrNone (standing_at desk.old) (held_at desk.old) kept (lines_of rows.now) (D.Disk.may_leave (disk_under desk.new)) }
-    ensures unwritten { (kept : List (List ℕ)) → KeepsDocket D.Disk.seen D.Disk.may_leave D.Disk.is_usable kept desk.old
+    ensures unwritten { (kept : List (List ℕ)) → KeepsDocket D.Disk kept desk.old
         → stop_of (standing_at desk.old) (held_at desk.old) keep_refused kept rows.now ≢ None → disk_under desk.new ≡ disk_under desk.old }
-    ensures together { (kept : List (List ℕ)) → KeepsDocket D.Disk.seen D.Disk.may_leave D.Disk.is_usable kept desk.old → OnOk result
-        (KeepsTogether (standing_at desk.old) (held_at desk.old) keep_refused kept rows.now (W.contents (watched writer.old)) (W.contents (watched writer.new)) (λ entries. KeepsDocket D.Disk.seen D.Disk.may_leave D.Disk.is_usable entries desk.new)) }
+    ensures together { (kept : List (List ℕ)) → KeepsDocket D.Disk kept desk.old → OnOk result
+        (KeepsTogether (standing_at desk.old) (held_at desk.old) keep_refused kept rows.now (W.contents (watched writer.old)) (W.contents (watched writer.new)) (λ entries. KeepsDocket D.Disk entries desk.new)) }
+    ensures promised { PromisesSession D.Disk (held_at desk.old) desk.old desk.new (W.contents (watched writer.old)) (W.contents (watched writer.new)) (has_failed writer.new ≡ false) }
+    ensures clean { IsTrue (D.Disk.is_clean (disk_under desk.new)) → IsTrue (D.Disk.is_clean (disk_under desk.old)) }
 {
     let mut said = Watched::new(Vec::new(alloc));
     match desk.enter_together(alloc, rows, keep_refused, &mut said) {
@@ -135,17 +140,19 @@ fn is_unread(fault: &Fault) -> bool {
 }
 
 // Keeps the rows of standard input while the journal's name leads to the file that is open, and answers each.
-fn kept_guarded<W: Write>(
+fn kept_guarded<D: Disk, W: Write>(
     rt: &HostRuntime,
     name: &str,
     place: Place,
     writer: &mut Watched<W>,
-    desk: &mut FolderDesk,
+    desk: &mut Desk<D>,
 ) -> Result<(), Fault>
     requires { has_failed writer.old ≡ false }
+    ensures promised { PromisesSession D.Disk (held_at desk.old) desk.old desk.new (W.contents (watched writer.old)) (W.contents (watched writer.new)) (has_failed writer.new ≡ false) }
+    ensures clean { IsTrue (D.Disk.is_clean (disk_under desk.new)) → IsTrue (D.Disk.is_clean (disk_under desk.old)) }
 {
     let name_kept = String::from_str(rt.alloc(), name)?;
-    let reader = GuardedInput::new(rt, name_kept, place);
+    let reader = ShortLines::new(GuardedInput::new(rt, name_kept, place));
     match kept_each(rt.alloc(), rt, reader, writer, desk) {
         Ok(()) => Ok(()),
         Err(fault) => {
@@ -158,17 +165,19 @@ fn kept_guarded<W: Write>(
 }
 
 // Keeps rows, as they are to be.
-fn kept<W: Write, E: Write>(
+fn kept<D: Disk, W: Write, E: Write>(
     rt: &HostRuntime,
     name: &str,
     writer: &mut Watched<W>,
     errors: &mut Watched<E>,
-    desk: &mut FolderDesk,
+    desk: &mut Desk<D>,
     lines: Lines,
     marked: bool,
     keeping: Keeping,
 ) -> Result<(), Fault>
     requires { has_failed writer.old ≡ false }
+    ensures promised { PromisesSession D.Disk (held_at desk.old) desk.old desk.new (W.contents (watched writer.old)) (W.contents (watched writer.new)) (has_failed writer.new ≡ false) }
+    ensures clean { IsTrue (D.Disk.is_clean (disk_under desk.new)) → IsTrue (D.Disk.is_clean (disk_under desk.old)) }
 {
     let place = match place_of(rt, name) {
         Ok(place) => place,
@@ -182,7 +191,7 @@ fn kept<W: Write, E: Write>(
             kept_each(rt.alloc(), rt, rows.as_slice(), writer, desk)
         }
         (Keeping::Together(keep_refused), None) => {
-            let rows = whole(rt.alloc(), rt.stdin())?;
+            let rows = whole(rt.alloc(), ShortLines::new(rt.stdin()))?;
             check_stays(rt, name, place)?;
             kept_together(rt.alloc(), writer, errors, desk, lines, &rows, keep_refused)
         }
@@ -231,6 +240,62 @@ fn is_unchanged_by(fault: &JournalFault) -> bool {
     }
 }
 
+// Begins the mark of a session of a folder, and keeps rows at its desk, of which this is held back.
+fn session<D: Disk, W: Write, E: Write>(
+    rt: &HostRuntime,
+    folder: &str,
+    writer: &mut Watched<W>,
+    errors: &mut Watched<E>,
+    desk: &mut Desk<D>,
+    lines: Lines,
+    held_back: HeldBack,
+    keeping: Keeping,
+) -> Result<(), Fault>
+    requires { has_failed writer.old ≡ false }
+    ensures promised { PromisesSession D.Disk held_back desk.old desk.new (W.contents (watched writer.old)) (W.contents (watched writer.new)) (has_failed writer.new ≡ false) }
+    ensures clean { IsTrue (D.Disk.is_clean (disk_under desk.new)) → IsTrue (D.Disk.is_clean (disk_under desk.old)) }
+{
+    desk.hold_back(held_back);
+    let name = journal_name(rt.alloc(), folder)?;
+    begin_session(rt, folder, desk.rows())?;
+    kept(
+        rt,
+        name.as_str(),
+        writer,
+        errors,
+        desk,
+        lines,
+        held_back.are_marked(),
+        keeping,
+    )
+}
+
+// Opens the docket of a folder, and keeps the rows of standard input there. It gives the docket, and what the session came to. What the
+// journal's file holds is that of `start`, which stands for what no code can read before.
+fn entered<S: Start, H: Threads + Wait + Sync, W: Write, E: Write>(
+    rt: &HostRuntime,
+    threads: &H,
+    writer: &mut Watched<W>,
+    errors: &mut Watched<E>,
+    folder: &str,
+    lines: Lines,
+    held_back: HeldBack,
+    keeping: Keeping,
+    start: S,
+) -> Result<(Desk<FileFrom<S>>, Result<(), Fault>), Fault>
+    requires { has_failed writer.old ≡ false }
+    ensures promised { IfOk result (λ entered. IsTrue (⟦<FileFrom<S> as Disk>⟧.is_clean (disk_under entered.0))
+        → EntersFile S.Start.db held_back (W.contents (watched writer.old)) (W.contents (watched writer.new)) (has_failed writer.new ≡ false) (⟦<FileFrom<S> as Disk>⟧.may_leave (disk_under entered.0))) }
+    ensures unopened { OnErr result (writer.new ≡ writer.old) }
+{
+    let (mut desk, entries) = opened(rt, threads, folder, start)?;
+    drop(entries);
+    let ended = session(
+        rt, folder, writer, errors, &mut desk, lines, held_back, keeping,
+    );
+    Ok((desk, ended))
+}
+
 /// Keeps the rows of standard input, as they are to be, and answers them. Where a session before was cut off, standard error says so.
 pub fn enter<H: Threads + Wait + Sync, W: Write, E: Write>(
     rt: &HostRuntime,
@@ -244,22 +309,9 @@ pub fn enter<H: Threads + Wait + Sync, W: Write, E: Write>(
 ) -> Result<(), Fault>
     requires { has_failed writer.old ≡ false }
 {
-    let (mut desk, entries) = opened(rt, threads, folder)?;
-    drop(entries);
-    let name = journal_name(rt.alloc(), folder)?;
-    begin_session(rt, folder, desk.rows())?;
-    desk.hold_back(held_back);
-    let marked = held_back.are_marked();
-    let ended = kept(
-        rt,
-        name.as_str(),
-        writer,
-        errors,
-        &mut desk,
-        lines,
-        marked,
-        keeping,
-    );
+    let (desk, ended) = entered(
+        rt, threads, writer, errors, folder, lines, held_back, keeping, Wary,
+    )?;
     if is_answered(&ended) {
         end_session(rt, folder);
     }

@@ -1,7 +1,8 @@
 //! A folder with a journal.
-ghost use Rattle.std.specs.Prelude.{◌≡◌, ◌<◌, ◌≤◌, Err, length, false, string_bytes, IfOk, OnErr, OnOk};
+ghost use Rattle.std.specs.Prelude.{◌≡◌, ◌<◌, ◌≤◌, ℕ, List, Err, length, false, string_bytes, IfOk, OnErr, OnOk};
 ghost use Rattle.std.specs.Io.KnownBytes.{Appends};
-ghost use Rattle.docket.specs.Folder.{above_name, fault_in_memory, spare_name};
+ghost use Rattle.desk_journal.specs.Words.{IsDurable, batch_of};
+ghost use Rattle.docket.specs.Folder.{IsOpened, above_name, fault_in_memory, spare_name};
 ghost use Rattle.program_streams.specs.Words.{has_failed, watched};
 
 use crate::fault::Fault;
@@ -14,7 +15,7 @@ use desk_program::{Desk, DeskFault, file_fault, open_file};
 use desk_session::{account_of, second_of};
 use program_streams::{Watched, write_all};
 use program_words::AsOf;
-use sqlite_disk::Memory;
+use sqlite_disk::{Disk, Memory, Start};
 use sqlite_std_file::{FileFrom, Wary};
 use std::alloc::{AllocError, Global};
 use std::fs;
@@ -86,27 +87,53 @@ pub fn stamp_now(rt: &HostRuntime) -> Result<Stamp, AllocError> {
     Ok(Stamp::new(second_of(rt), account))
 }
 
-/// Opens the docket of a folder, and gives the entries of its journal. What a crash left after them is saved first. What takes long is told at a terminal.
-pub fn opened<H: Threads + Wait + Sync>(
+// Opens the docket of a disk, and gives the entries of its journal. What takes long is told at a terminal.
+fn desk_over<D: Disk + Drop, H: Threads + Wait + Sync>(
     rt: &HostRuntime,
     threads: &H,
     folder: &str,
-) -> Result<(FolderDesk, Vec<Vec<u8>>), Fault>
+    disk: D,
+    stamp: Stamp,
+) -> Result<(Desk<D>, Vec<Vec<u8>>), Fault>
+    ensures opened { (file : List ℕ) → IsDurable D.Disk file disk → IfOk result (λ opened. IsOpened D.Disk file (batch_of opened.1.items) opened.0) }
+    ensures some { IfOk result (λ opened. 0 < length opened.1.items) }
+    ensures few { IfOk result (λ opened. length opened.1.items ≤ 1000000) }
+{
+    let opened = told_while(
+        threads,
+        rt.stderr(),
+        "opening",
+        folder,
+        || -> Result<(Desk<D>, Vec<Vec<u8>>), (DeskFault, D)>
+            ensures opened { (file : List ℕ) → IsDurable D.Disk file disk → IfOk result (λ opened. IsOpened D.Disk file (batch_of opened.1.items) opened.0) }
+            ensures some { IfOk result (λ opened. 0 < length opened.1.items) }
+            ensures few { IfOk result (λ opened. length opened.1.items ≤ 1000000) }
+        { Desk::open(rt.alloc(), disk, stamp) },
+    );
+    match opened {
+        Ok(opened) => Ok(opened),
+        Err((fault, _)) => Err(Fault::Desk(fault)),
+    }
+}
+
+/// Opens the docket of a folder, and gives the entries of its journal. What a crash left after them is saved first. What takes long is told
+/// at a terminal. What the journal's file holds is that of `start`, which stands for what no code can read before.
+pub fn opened<S: Start, H: Threads + Wait + Sync>(
+    rt: &HostRuntime,
+    threads: &H,
+    folder: &str,
+    start: S,
+) -> Result<(Desk<FileFrom<S>>, Vec<Vec<u8>>), Fault>
+    ensures opened { IfOk result (λ opened. IsOpened ⟦<FileFrom<S> as Disk>⟧ S.Start.db (batch_of opened.1.items) opened.0) }
     ensures some { IfOk result (λ opened. 0 < length opened.1.items) }
     ensures few { IfOk result (λ opened. length opened.1.items ≤ 1000000) }
 {
     let name = journal_name(rt.alloc(), folder)?;
     find_own_journal(rt, name.as_str())?;
-    let file = open_file(rt, name.as_str(), Wary)?;
+    let file = open_file(rt, name.as_str(), start)?;
     save_tail(rt, folder, name.as_str())?;
     let stamp = stamp_now(rt)?;
-    let opened = told_while(threads, rt.stderr(), "opening", folder, || {
-        Desk::open(rt.alloc(), file, stamp)
-    });
-    match opened {
-        Ok(opened) => Ok(opened),
-        Err((fault, _)) => Err(Fault::Desk(fault)),
-    }
+    desk_over(rt, threads, folder, file, stamp)
 }
 
 // The name of the file that an opening makes beside a folder's journal.

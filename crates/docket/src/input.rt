@@ -9,7 +9,7 @@ ghost use Rattle.row_input.specs.Words.{placed_from, rows_of};
 use crate::fault::Fault;
 use court_days::Court;
 use desk_program::DeskFault;
-use desk_session::{SessionFault, is_finished};
+use desk_session::{SessionFault, ShortLines, is_finished};
 use program_runs::refused;
 use program_streams::{StreamFault, Watched, read_all};
 use program_words::{Lines, Style};
@@ -117,7 +117,7 @@ pub fn reading_of<E: Write>(
     style: Style,
     marked: bool,
 ) -> Result<Reading, Fault> {
-    let input = whole(rt.alloc(), rt.stdin())?;
+    let input = whole(rt.alloc(), ShortLines::new(rt.stdin()))?;
     faultless(rt.alloc(), errors, court, style, marked, &input)
 }
 

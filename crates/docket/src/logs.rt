@@ -1,10 +1,10 @@
 //! The log of a folder.
-ghost use Rattle.std.specs.Prelude.{◌≡◌, ◌≤◌, ℕ, List, false, length, string_bytes, IfOk, OnOk};
+ghost use Rattle.std.specs.Prelude.{◌≡◌, ◌≤◌, ℕ, List, false, length, string_bytes, true, IfOk, OnOk};
 ghost use Rattle.case_numbers.specs.Words.{number_of};
 ghost use Rattle.desk_entries.specs.Words.{IsDocketed, cases_of, most_entries};
 ghost use Rattle.desk_journal.specs.Words.{batch_of};
 ghost use Rattle.docket.specs.Reports.{AfterEntries};
-ghost use Rattle.docket.specs.Logs.{IsCase, IsCaseIfAsked, LogsEntries, no_case};
+ghost use Rattle.docket.specs.Logs.{HasLogged, IsCase, IsCaseIfAsked, LogsEntries, asks_of_one, no_case, none_logged};
 ghost use Rattle.program_streams.specs.Words.{has_failed, watched};
 
 use crate::fault::Fault;
@@ -14,7 +14,7 @@ use crate::times::choice_by;
 use case_numbers::CaseName;
 use desk_entries::{Docketed, standing_file};
 use desk_journal::Stamp;
-use desk_program::{DeskFault, court_of, write_log};
+use desk_program::{court_of, write_log};
 use office_texts::CaseCalled;
 use program_streams::Watched;
 use program_words::LogAsked;
@@ -76,6 +76,23 @@ fn case_if_asked(
     }
 }
 
+// What is said where a row or a case is asked for, and no entry of it is chosen.
+fn none_logged(alloc: Global, row: Option<u32>) -> Result<String, AllocError>
+    ensures { IfOk result (λ line. string_bytes line ≡ none_logged row) }
+{
+    match row {
+        Some(row) => format!(in alloc; "docket: the log has no such entry of row {row}\n"),
+        None => String::from_str(alloc, "docket: the log has no such entry of that case\n"),
+    }
+}
+
+// Whether a row or a case is asked for.
+fn asks_of_one(asked: &LogAsked) -> bool
+    ensures { result ≡ asks_of_one asked.now }
+{
+    asked.row.is_some() || asked.case.is_some()
+}
+
 // Writes the log of these entries, by the court that stands after them.
 fn put_log<W: Write>(
     alloc: Global,
@@ -84,16 +101,22 @@ fn put_log<W: Write>(
     stamps: &[Stamp],
     asked: &LogAsked,
     case: Option<u32>,
-) -> Result<(), DeskFault>
+) -> Result<(), Fault>
     requires works { has_failed writer.old ≡ false }
-    ensures { OnOk result (LogsEntries asked.now case (batch_of entries.now) stamps.now (W.contents (watched writer.old)) (W.contents (watched writer.new))) }
+    ensures written { OnOk result (LogsEntries asked.now case (batch_of entries.now) stamps.now (W.contents (watched writer.old)) (W.contents (watched writer.new))) }
+    // Where one row or one case is asked for, something is written.
+    ensures some { asks_of_one asked.now ≡ true → OnOk result (HasLogged asked.now case (batch_of entries.now) stamps.now) }
 {
     let court = court_of(alloc, standing_file(entries))?;
     let choice = choice_by(alloc, court.clock(), asked, case)?;
-    write_log(alloc, &court, entries, stamps, &choice, writer)
+    let some = write_log(alloc, &court, entries, stamps, &choice, writer)?;
+    if !some && asks_of_one(asked) {
+        return Err(Fault::Missing(none_logged(alloc, asked.row)?));
+    }
+    Ok(())
 }
 
-/// Lists what was entered, by whom and when.
+/// Lists what was entered, by whom and when. Where a row or a case is asked for and no entry is listed, that is said in its place.
 pub fn log<H: Threads + Wait + Sync, W: Write>(
     rt: &HostRuntime,
     threads: &H,
@@ -107,5 +130,5 @@ pub fn log<H: Threads + Wait + Sync, W: Write>(
     let case = told_while(threads, rt.stderr(), "reading", folder, || {
         case_if_asked(rt.alloc(), &entries, &asked.case)
     })?;
-    Ok(put_log(rt.alloc(), writer, &entries, &stamps, asked, case)?)
+    put_log(rt.alloc(), writer, &entries, &stamps, asked, case)
 }

@@ -293,7 +293,8 @@ fn logged(
         to: None,
         json: asked.json,
     };
-    write_log(alloc, &court, &entries, &stamps, &choice, writer)
+    write_log(alloc, &court, &entries, &stamps, &choice, writer)?;
+    Ok(())
 }
 
 // Writes the cases that have names, of a copy of a journal's file.

@@ -6,7 +6,7 @@ use Rattle.desk_journal.proofs.DiskLemmas.{crash_cut, cut_made}
 
 pub returns-in-Ok-clause-durable : goal.returns-in-Ok-clause-durable
 returns-in-Ok-clause-durable g c = λ front tail is was.
-    subst (λ (file : List ℕ). OnOk c.sync.result (IsDurable g.D.Disk.seen g.D.Disk.may_leave g.D.Disk.is_usable file c.sync.new.disk))
+    subst (λ (file : List ℕ). OnOk c.sync.result (IsDurable g.D.Disk file c.sync.new.disk))
     (cut_made front tail c.args.at (g.D.Disk.seen c.args.disk.now) (g.D.Disk.seen c.set_len.new.self) is was.read c.set_len.ensures.others c.in-Ok.ensures.len)
     c.sync.ensures.durable
 

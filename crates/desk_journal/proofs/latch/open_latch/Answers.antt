@@ -6,7 +6,7 @@ use Rattle.desk_journal.proofs.DiskLemmas.{crash_latch, latch_written}
 
 pub returns-in-Ok-clause-durable : goal.returns-in-Ok-clause-durable
 returns-in-Ok-clause-durable g c = λ front tail a b is was.
-    subst (λ (file : List ℕ). OnOk c.sync.result (IsDurable g.D.Disk.seen g.D.Disk.may_leave g.D.Disk.is_usable file c.sync.new.disk))
+    subst (λ (file : List ℕ). OnOk c.sync.result (IsDurable g.D.Disk file c.sync.new.disk))
     (latch_written front tail c.args.at a b 43 43 (g.D.Disk.seen c.args.disk.now) (g.D.Disk.seen c.write_at.new.self) is was.read c.write_at.ensures.others (c.in-Ok.ensures.written (omega arith)))
     c.sync.ensures.durable
 

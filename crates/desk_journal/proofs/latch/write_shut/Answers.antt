@@ -6,7 +6,7 @@ use Rattle.desk_journal.proofs.DiskLemmas.{crash_shut, shut_written}
 
 pub returns-in-Ok-clause-durable : goal.returns-in-Ok-clause-durable
 returns-in-Ok-clause-durable g c = λ file short was.
-    subst (λ (f : List ℕ). OnOk c.sync.result (IsDurable g.D.Disk.seen g.D.Disk.may_leave g.D.Disk.is_usable f c.sync.new.disk))
+    subst (λ (f : List ℕ). OnOk c.sync.result (IsDurable g.D.Disk f c.sync.new.disk))
     (shut_written (g.D.Disk.seen c.args.disk.now) (g.D.Disk.seen c.write_at.new.self) (subst (λ (f : List ℕ). length f ≤ 2) (sym was.read) short) c.write_at.ensures.others (c.in-Ok.ensures.written (omega arith)))
     c.sync.ensures.durable
 

@@ -28,13 +28,13 @@ returns-else-not-is_empty-clause-begun g c = λ file was.
     let r = c.in-Some.found in
     on_ok_given c.cut_behind.result _ _ (λ clean.
     let (found, whole) = subst (Finds file) c.in-Some.is (c.in_ok-read_disk.ensures.found file was (sym c.cut_behind.ensures.clean ∙ clean)) in
-    let mid = found_durable file r.entries.items r.stamps.items r.last r.end found g.D.Disk.seen g.D.Disk.may_leave g.D.Disk.is_usable c.read_disk.new.disk (c.read_disk.ensures.durable file was) in
+    let mid = found_durable file r.entries.items r.stamps.items r.last r.end found g.D.Disk c.read_disk.new.disk (c.read_disk.ensures.durable file was) in
     let none : length r.entries.items ≡ 0 = grind (arith, common_steps) in
     on_ok_weaker c.cut_behind.result
     (λ durable. (
       none_found file r.entries.items r.stamps.items r.last r.end found none,
       whole,
-      subst (λ (f : List ℕ). IsDurable g.D.Disk.seen g.D.Disk.may_leave g.D.Disk.is_usable (f ++ 45 ∷ 45 ∷ []) c.cut_behind.new.disk) (no_frames file r.entries.items r.stamps.items r.last r.end found none) durable,
+      subst (λ (f : List ℕ). IsDurable g.D.Disk (f ++ 45 ∷ 45 ∷ []) c.cut_behind.new.disk) (no_frames file r.entries.items r.stamps.items r.last r.end found none) durable,
     ))
     (c.cut_behind.ensures.durable (frames first_checksum found.read.fs) (drop 2 found.rest) found.end_is mid))
 
@@ -42,5 +42,5 @@ pub returns-else-not-is_empty-clause-crash : goal.returns-else-not-is_empty-clau
 returns-else-not-is_empty-clause-crash g c = λ file entries was stood clean x left.
     let r = c.in-Some.found in
     let found = (subst (Finds file) c.in-Some.is (c.in_ok-read_disk.ensures.found file was (sym c.cut_behind.ensures.clean ∙ clean))).0 in
-    let mid = found_durable file r.entries.items r.stamps.items r.last r.end found g.D.Disk.seen g.D.Disk.may_leave g.D.Disk.is_usable c.read_disk.new.disk (c.read_disk.ensures.durable file was) in
+    let mid = found_durable file r.entries.items r.stamps.items r.last r.end found g.D.Disk c.read_disk.new.disk (c.read_disk.ensures.durable file was) in
     found_left file r.entries.items r.stamps.items r.last r.end found x entries stood (c.cut_behind.ensures.crash (frames first_checksum found.read.fs) (drop 2 found.rest) found.end_is mid x left)

@@ -21,21 +21,21 @@ pub returns-in_err-cut_behind-in-Some-clause-crash : goal.returns-in_err-cut_beh
 returns-in_err-cut_behind-in-Some-clause-crash g c = λ file entries was stood clean x left.
     let r = c.in-Some.found in
     let found = (subst (Finds file) c.in-Some.is (c.in_ok-read_disk.ensures.found file was (sym c.cut_behind.ensures.clean ∙ clean))).0 in
-    let mid = found_durable file r.entries.items r.stamps.items r.last r.end found g.D.Disk.seen g.D.Disk.may_leave g.D.Disk.is_usable c.read_disk.new.disk (c.read_disk.ensures.durable file was) in
+    let mid = found_durable file r.entries.items r.stamps.items r.last r.end found g.D.Disk c.read_disk.new.disk (c.read_disk.ensures.durable file was) in
     found_left file r.entries.items r.stamps.items r.last r.end found x entries stood (c.cut_behind.ensures.crash (frames first_checksum found.read.fs) (drop 2 found.rest) found.end_is mid x left)
 
 pub returns-in_ok-cut_behind-in-Some-clause-crash : goal.returns-in_ok-cut_behind-in-Some-clause-crash
 returns-in_ok-cut_behind-in-Some-clause-crash g c = λ file entries was stood clean x left.
     let r = c.in-Some.found in
     let found = (subst (Finds file) c.in-Some.is (c.in_ok-read_disk.ensures.found file was (sym c.cut_behind.ensures.clean ∙ clean))).0 in
-    let mid = found_durable file r.entries.items r.stamps.items r.last r.end found g.D.Disk.seen g.D.Disk.may_leave g.D.Disk.is_usable c.read_disk.new.disk (c.read_disk.ensures.durable file was) in
+    let mid = found_durable file r.entries.items r.stamps.items r.last r.end found g.D.Disk c.read_disk.new.disk (c.read_disk.ensures.durable file was) in
     found_left file r.entries.items r.stamps.items r.last r.end found x entries stood (c.cut_behind.ensures.crash (frames first_checksum found.read.fs) (drop 2 found.rest) found.end_is mid x left)
 
 pub returns-in_ok-cut_behind-in-Some-clause-entries : goal.returns-in_ok-cut_behind-in-Some-clause-entries
 returns-in_ok-cut_behind-in-Some-clause-entries g c = λ file was clean.
     let r = c.in-Some.found in
     let (found, whole) = subst (Finds file) c.in-Some.is (c.in_ok-read_disk.ensures.found file was (sym c.cut_behind.ensures.clean ∙ clean)) in
-    let mid = found_durable file r.entries.items r.stamps.items r.last r.end found g.D.Disk.seen g.D.Disk.may_leave g.D.Disk.is_usable c.read_disk.new.disk (c.read_disk.ensures.durable file was) in
+    let mid = found_durable file r.entries.items r.stamps.items r.last r.end found g.D.Disk c.read_disk.new.disk (c.read_disk.ensures.durable file was) in
     record {
       stands = found_stands file r.entries.items r.stamps.items r.last r.end found;
       stands_stamped = found_stamped file r.entries.items r.stamps.items r.last r.end found;

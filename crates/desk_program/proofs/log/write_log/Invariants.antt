@@ -1,4 +1,4 @@
-use Rattle.std.proofs.Common.{◌≡◌, ◌≤◌, ◌++◌, ℕ, List, drop, false}
+use Rattle.std.proofs.Common.{◌≡◌, ◌≤◌, ◌+◌, ◌++◌, ℕ, List, drop, false, length, ltb}
 use Rattle.std.specs.Io.KnownBytes.{Appends}
 use Rattle.desk_journal.specs.Words.{batch_of}
 use Rattle.program_streams.specs.Words.{has_failed, watched}
@@ -13,4 +13,5 @@ invariant-loop-place g l =
     × (l.number ≤ l.place)
     × (has_failed l.writer ≡ false)
     × (written : List ℕ) × Appends (g.W.Write.contents (watched l.fn.writer)) (g.W.Write.contents (watched l.writer)) written
+    × (l.some ≡ ltb 0 (length written + length l.text.items))
     × (written ++ (l.text.items ++ later_log l.choice l.named.items l.number (batch_of (drop l.place l.entries)) (drop l.place l.stamps)) ≡ log_text (names_of l.court) l.choice (batch_of l.entries) l.stamps)

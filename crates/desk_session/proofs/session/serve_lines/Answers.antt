@@ -35,6 +35,7 @@ reads-init g c = (
   counted_none (read_calls c.args.reader.now),
   refl,
   stamped_none (g.K.Keeper.account c.args.keeper.now) (g.K.Keeper.has_stamps c.args.keeper.now),
+  λ was. was,
   λ kept keeps stands. (
     c.new-tally.ensures ∙ sym (none_counted (g.O.Register.leaves c.args.setup.now) (g.O.Register.outcome c.args.setup.now) no_lines kept),
     none_served (g.O.Register.leaves c.args.setup.now) (g.O.Register.answers c.args.setup.now) (g.K.Keeper.keeps c.args.keeper.now) (g.O.Register.stands c.args.setup.now c.args.register.now) kept _ keeps stands,
@@ -43,7 +44,7 @@ reads-init g c = (
 
 pub returns-in-Err-clause-promised : goal.returns-in-Err-clause-promised
 returns-in-Err-clause-promised g c = λ kept keeps stands.
-    let (bytes, consumed, begun, working, calls, account, stamped, served) = c.reads.invariant in (
+    let (bytes, consumed, begun, working, calls, account, stamped, clean, served) = c.reads.invariant in (
       bytes,
       Consumes-kept _ _ _ bytes consumed c.in-Err.ensures.bytes,
       served_promised (g.O.Register.leaves c.args.setup.now) (g.O.Register.answers c.args.setup.now) (g.K.Keeper.keeps c.reads.keeper) (g.O.Register.stands c.args.setup.now c.reads.register) _ _ kept (lines_of bytes) _ _
@@ -52,7 +53,7 @@ returns-in-Err-clause-promised g c = λ kept keeps stands.
 
 pub returns-then-count-eq0-clause-promised : goal.returns-then-count-eq0-clause-promised
 returns-then-count-eq0-clause-promised g c = λ kept keeps stands.
-    let (bytes, consumed, begun, working, calls, account, stamped, served) = c.reads.invariant in (
+    let (bytes, consumed, begun, working, calls, account, stamped, clean, served) = c.reads.invariant in (
       bytes,
       none_read _ _ _ bytes c.read.new.buf c.in-Ok.count consumed c.in-Ok.ensures.bytes.0 c.if-count-eq0.true,
       served_promised (g.O.Register.leaves c.args.setup.now) (g.O.Register.answers c.args.setup.now) (g.K.Keeper.keeps c.reads.keeper) (g.O.Register.stands c.args.setup.now c.reads.register) _ _ kept (lines_of bytes) _ _
@@ -61,7 +62,7 @@ returns-then-count-eq0-clause-promised g c = λ kept keeps stands.
 
 pub returns-then-count-eq0-clause-served : goal.returns-then-count-eq0-clause-served
 returns-then-count-eq0-clause-served g c = λ kept keeps stands.
-    let (bytes, consumed, begun, working, calls, account, stamped, served) = c.reads.invariant in
+    let (bytes, consumed, begun, working, calls, account, stamped, clean, served) = c.reads.invariant in
     let room : 0 < length c.read.new.buf = grind (arith, common_steps) in
     let last = none_read _ _ _ bytes c.read.new.buf c.in-Ok.count consumed c.in-Ok.ensures.bytes.0 c.if-count-eq0.true in
     let all = Consumes-all _ _ bytes [] bytes last (c.in-Ok.ensures.bytes.1 c.if-count-eq0.true room) refl in
@@ -69,7 +70,7 @@ returns-then-count-eq0-clause-served g c = λ kept keeps stands.
 
 pub returns-then-count-eq0-clause-finished : goal.returns-then-count-eq0-clause-finished
 returns-then-count-eq0-clause-finished g c =
-    let (bytes, consumed, begun, working, calls, account, stamped, served) = c.reads.invariant in
+    let (bytes, consumed, begun, working, calls, account, stamped, clean, served) = c.reads.invariant in
     let room : 0 < length c.read.new.buf = grind (arith, common_steps) in
     let last = none_read _ _ _ bytes c.read.new.buf c.in-Ok.count consumed c.in-Ok.ensures.bytes.0 c.if-count-eq0.true in
     let all = Consumes-all _ _ bytes [] bytes last (c.in-Ok.ensures.bytes.1 c.if-count-eq0.true room) refl in
@@ -77,12 +78,12 @@ returns-then-count-eq0-clause-finished g c =
 
 pub returns-then-count-eq0-clause-working : goal.returns-then-count-eq0-clause-working
 returns-then-count-eq0-clause-working g c =
-    let (bytes, consumed, begun, working, calls, account, stamped, served) = c.reads.invariant in
+    let (bytes, consumed, begun, working, calls, account, stamped, clean, served) = c.reads.invariant in
     on_ok_weaker c.ended.result (λ none. working) c.ended.ensures.finished
 
 pub returns-in_err-serve_bytes-in-Ok-clause-promised : goal.returns-in_err-serve_bytes-in-Ok-clause-promised
 returns-in_err-serve_bytes-in-Ok-clause-promised g c = λ kept keeps stands.
-    let (bytes, consumed, begun, working, calls, account, stamped, served) = c.reads.invariant in
+    let (bytes, consumed, begun, working, calls, account, stamped, clean, served) = c.reads.invariant in
     let leaves = g.O.Register.leaves c.args.setup.now in
     let answers = g.O.Register.answers c.args.setup.now in
     let more = take c.in-Ok.count c.read.new.buf in
@@ -97,7 +98,7 @@ returns-in_err-serve_bytes-in-Ok-clause-promised g c = λ kept keeps stands.
 
 pub reads-preserved : goal.reads-preserved
 reads-preserved g c =
-    let (bytes, consumed, begun, working, calls, account, stamped, served) = c.reads.invariant in
+    let (bytes, consumed, begun, working, calls, account, stamped, clean, served) = c.reads.invariant in
     let leaves = g.O.Register.leaves c.args.setup.now in
     let answers = g.O.Register.answers c.args.setup.now in
     let more = take c.in-Ok.count c.read.new.buf in
@@ -112,6 +113,7 @@ reads-preserved g c =
       c.serve_bytes.ensures.account ∙ c.at.ensures.account ∙ account,
       λ stamps has. stamped_more (g.K.Keeper.account c.args.keeper.now) (g.K.Keeper.account c.at.new.self) (g.K.Keeper.has_stamps c.reads.keeper) (g.K.Keeper.has_stamps c.serve_bytes.new.keeper) stamps (c.at.ensures.account ∙ account)
           (stamped stamps has) (λ between then_has. c.in_ok-serve_bytes-in-Ok.ensures.stamped between (c.at.ensures.stamped between then_has)),
+      λ was. clean (c.at.ensures.clean (c.serve_bytes.ensures.clean was)),
       λ kept keeps stands.
           let (counted_so, first) = served kept keeps stands in
           let second = c.in_ok-serve_bytes-in-Ok.ensures.served (kept ++ left_by leaves kept (lines_of bytes)) (c.at.ensures.kept _ first.keeps) first.stands in
@@ -128,7 +130,7 @@ reads-preserved g c =
 
 pub returns-clause-promised : goal.returns-clause-promised
 returns-clause-promised g c = λ kept keeps stands.
-    let (bytes, consumed, begun, working, calls, account, stamped, served) = c.reads.invariant in (
+    let (bytes, consumed, begun, working, calls, account, stamped, clean, served) = c.reads.invariant in (
       bytes,
       consumed,
       served_promised (g.O.Register.leaves c.args.setup.now) (g.O.Register.answers c.args.setup.now) (g.K.Keeper.keeps c.reads.keeper) (g.O.Register.stands c.args.setup.now c.reads.register) _ _ kept (lines_of bytes) _ _
@@ -137,7 +139,7 @@ returns-clause-promised g c = λ kept keeps stands.
 
 pub returns-then-count-eq0-clause-tally : goal.returns-then-count-eq0-clause-tally
 returns-then-count-eq0-clause-tally g c = λ kept keeps stands.
-    let (bytes, consumed, begun, working, calls, account, stamped, served) = c.reads.invariant in
+    let (bytes, consumed, begun, working, calls, account, stamped, clean, served) = c.reads.invariant in
     let leaves = g.O.Register.leaves c.args.setup.now in
     let outcome = g.O.Register.outcome c.args.setup.now in
     let room : 0 < length c.read.new.buf = grind (arith, common_steps) in
@@ -154,19 +156,19 @@ returns-in_err-buffer-clause-fault g c =
 
 pub returns-in-Err-clause-fault : goal.returns-in-Err-clause-fault
 returns-in-Err-clause-fault g c =
-    let (bytes, consumed, begun, working, calls, account, stamped, served) = c.reads.invariant in
+    let (bytes, consumed, begun, working, calls, account, stamped, clean, served) = c.reads.invariant in
     (bytes, Consumes-kept _ _ _ bytes consumed c.in-Err.ensures.bytes, inl (has_failed_now _ _ c.read.result _ c.read.ensures.failed c.in-Err.is))
 
 pub returns-then-count-eq0-clause-fault : goal.returns-then-count-eq0-clause-fault
 returns-then-count-eq0-clause-fault g c =
-    let (bytes, consumed, begun, working, calls, account, stamped, served) = c.reads.invariant in
+    let (bytes, consumed, begun, working, calls, account, stamped, clean, served) = c.reads.invariant in
     let room : 0 < length c.read.new.buf = grind (arith, common_steps) in
     let last = none_read _ _ _ bytes c.read.new.buf c.in-Ok.count consumed c.in-Ok.ensures.bytes.0 c.if-count-eq0.true in
     ended_so c.read.new.self c.reads.writer _ _ bytes c.reads.begun.items c.ended.result last (has_ended_now _ _ c.read.result c.in-Ok.count c.read.new.buf c.read.ensures.ended c.in-Ok.is c.if-count-eq0.true room) begun c.ended.ensures.fault
 
 pub returns-in_err-serve_bytes-in-Ok-clause-fault : goal.returns-in_err-serve_bytes-in-Ok-clause-fault
 returns-in_err-serve_bytes-in-Ok-clause-fault g c =
-    let (bytes, consumed, begun, working, calls, account, stamped, served) = c.reads.invariant in
+    let (bytes, consumed, begun, working, calls, account, stamped, clean, served) = c.reads.invariant in
     let more = take c.in-Ok.count c.read.new.buf in
     let p = err_from_is_err_and c.from_residual-in_err-serve_bytes-in-Ok.result c.from_residual-in_err-serve_bytes-in-Ok.ensures.1 in
     rw (p.1, p.2)
@@ -174,10 +176,15 @@ returns-in_err-serve_bytes-in-Ok-clause-fault g c =
 
 pub returns-clause-fault : goal.returns-clause-fault
 returns-clause-fault g c =
-    let (bytes, consumed, begun, working, calls, account, stamped, served) = c.reads.invariant in
+    let (bytes, consumed, begun, working, calls, account, stamped, clean, served) = c.reads.invariant in
     (bytes, consumed, inr (all_calls (read_calls c.args.reader.now) c.reads.counter (read_calls c.reads.reader) calls (omega (arith, c.reads-test.false))))
 
 pub returns-then-count-eq0-clause-stamped : goal.returns-then-count-eq0-clause-stamped
 returns-then-count-eq0-clause-stamped g c = λ stamps has.
-    let (bytes, consumed, begun, working, calls, account, stamped, served) = c.reads.invariant in
+    let (bytes, consumed, begun, working, calls, account, stamped, clean, served) = c.reads.invariant in
     on_ok_weaker c.ended.result (λ none. stamped stamps has) c.ended.ensures.finished
+
+pub returns-in_err-serve_bytes-in-Ok-clause-clean : goal.returns-in_err-serve_bytes-in-Ok-clause-clean
+returns-in_err-serve_bytes-in-Ok-clause-clean g c =
+    let (bytes, consumed, begun, working, calls, account, stamped, clean, served) = c.reads.invariant in
+    λ was. clean (c.at.ensures.clean (c.serve_bytes.ensures.clean was))

@@ -17,6 +17,7 @@ invariant-reads g l =
     × (counted (read_calls l.fn.reader) l.counter ≤ read_calls l.reader)
     × (g.K.Keeper.account l.keeper ≡ g.K.Keeper.account l.fn.keeper)
     × ((stamps : List StampView) → g.K.Keeper.has_stamps l.fn.keeper stamps → IsStampedOn (g.K.Keeper.account l.fn.keeper) (g.K.Keeper.has_stamps l.keeper) stamps)
+    × (g.K.Keeper.is_clean l.keeper → g.K.Keeper.is_clean l.fn.keeper)
     × ((kept : List (List ℕ)) → g.K.Keeper.keeps l.fn.keeper kept → g.O.Register.stands l.setup l.fn.register kept →
     (l.tally ≡ tally_of (g.O.Register.leaves l.setup) (g.O.Register.outcome l.setup) kept (lines_of bytes))
     × IsServed (g.O.Register.leaves l.setup) (g.O.Register.answers l.setup) (g.K.Keeper.keeps l.keeper) (g.O.Register.stands l.setup l.register) kept (lines_of bytes)

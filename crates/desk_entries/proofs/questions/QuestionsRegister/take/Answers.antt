@@ -1,17 +1,12 @@
-use Rattle.std.proofs.Common.{◌∙◌, ◌++◌, ℕ, List, append-nil, ap, refl, sym, subst}
+use Rattle.std.proofs.Common.{◌∙◌, ◌++◌, ℕ, List, append-nil, ap, refl, sym}
 use Rattle.desk_journal.specs.Words.{batch_of}
-use Rattle.docket_rows.specs.Words.{setup_of}
 use Rattle.row_forms.specs.declared.row.Work.{Work}
-use Rattle.office_texts.specs.Run.Words.{Holds}
-use Rattle.desk_numbers.specs.Words.{placed}
 use Rattle.row_forms.specs.declared.line.line.Line.TheVariants as says
 use Rattle.desk_entries.specs.declared.cause.LineCause.{LineCause}
 use Rattle.desk_entries.specs.Entries.{next_number}
 use Rattle.desk_entries.specs.LineCauses.{fault_told}
 use Rattle.desk_entries.specs.Questions.{came_shown, came_to, command_text, shown_for}
 use Rattle.desk_entries.specs.Rows.{special_at}
-use Rattle.desk_entries.specs.Register.{StandsAt}
-use Rattle.desk_entries.specs.Run.{docketed_with, run_by}
 use Rattle.desk_entries.proofs.QuestionLemmas.{line_asked, shown_plain}
 use Rattle.desk_entries.proofs.RegisterLemmas.{as_it_was, cause_told}
 use Rattle.desk_entries.proofs.questions.QuestionsRegister.take.Goals as goal
@@ -61,28 +56,18 @@ pub returns-in_ok-push_command-in-Command-clause-came : goal.returns-in_ok-push_
 unfolding came_shown
 returns-in_ok-push_command-in-Command-clause-came c = λ kept stands. ap came_to (sym (sym (c.in_ok-said.ensures.said kept stands).said ∙ c.in-Row.is))
 
-pub returns-in_ok-extend_from_slice-in-Query-clause-taken : goal.returns-in_ok-extend_from_slice-in-Query-clause-taken
-unfolding placed
-returns-in_ok-extend_from_slice-in-Query-clause-taken c = λ kept stands.
+pub returns-in_ok-show-in-Query-clause-taken : goal.returns-in_ok-show-in-Query-clause-taken
+returns-in_ok-show-in-Query-clause-taken c = λ kept stands.
     let under = c.args.under.now in
     let text = c.args.text.now.items in
     let before = as_it_was under c.args.self.now.register c.heard.new.self kept stands c.heard.ensures.docket c.heard.ensures.numbers c.heard.ensures.cases c.heard.ensures.number c.heard.ensures.count in
     let is = sym (c.in_ok-said.ensures.said kept stands).said ∙ c.in-Row.is in
-    let after : StandsAt under c.shown.new.self kept = record {
-      docket = subst (λ (w : Work). Holds (setup_of under.court) c.shown.new.self.docket (docketed_with under (run_by under kept) w)) c.in-Query.is (c.in_ok-answer-in-Query.ensures.docket kept before);
-      numbers = c.shown.ensures.numbers ∙ before.numbers;
-      cases = c.shown.ensures.cases ∙ before.cases;
-      number = c.shown.ensures.number ∙ before.number;
-      count = c.shown.ensures.count ∙ before.count;
-      begun = before.begun;
-      few = before.few;
-    } in
-    line_asked under (record { register = c.shown.new.self }) kept c.args.line.now (batch_of c.args._batch.now.items) text (says.Row c.in-Row.row) is
-    after c.extend_from_slice.new.self.items
-    (c.in_ok-extend_from_slice-in-Query.ensures.items ∙ ap (λ (l : List ℕ). text ++ l) (c.as_bytes.ensures.value ∙ c.in_ok-answer-in-Query.ensures.answer kept before)
+    line_asked under (record { register = c.show.new.self }) kept c.args.line.now (batch_of c.args._batch.now.items) text (says.Row c.in-Row.row) is
+    (c.in_ok-show-in-Query.ensures.stands kept before) c.show.new.text.items
+    (c.in_ok-show-in-Query.ensures.told kept before
     ∙ ap (λ (w : Work). text ++ shown_for under kept c.in-Row.row w) (sym c.in-Query.is)
     ∙ shown_plain under kept c.args.line.now text (says.Row c.in-Row.row) is refl refl)
 
-pub returns-in_ok-extend_from_slice-in-Query-clause-came : goal.returns-in_ok-extend_from_slice-in-Query-clause-came
+pub returns-in_ok-show-in-Query-clause-came : goal.returns-in_ok-show-in-Query-clause-came
 unfolding came_shown
-returns-in_ok-extend_from_slice-in-Query-clause-came c = λ kept stands. ap came_to (sym (sym (c.in_ok-said.ensures.said kept stands).said ∙ c.in-Row.is))
+returns-in_ok-show-in-Query-clause-came c = λ kept stands. ap came_to (sym (sym (c.in_ok-said.ensures.said kept stands).said ∙ c.in-Row.is))

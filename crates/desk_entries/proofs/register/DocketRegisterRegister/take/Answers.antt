@@ -1,14 +1,17 @@
 use Rattle.std.proofs.Common.{◌∙◌, ◌++◌, ℕ, Option, List, Vec, sym, ap, refl, append-nil}
+use Rattle.std.specs.Prelude.{nat_lt}
 use Rattle.std.specs.declared.alloc.Global.{Global}
 use Rattle.std.proofs.lemmas.List.{map_push}
 use Rattle.csv.specs.Records.{fields_of}
 use Rattle.desk_journal.specs.Words.{batch_of}
 use Rattle.row_forms.specs.declared.line.line.Line.TheVariants as says
 use Rattle.desk_entries.specs.declared.cause.LineCause.{LineCause}
-use Rattle.desk_entries.specs.Entries.{next_number}
+use Rattle.desk_entries.specs.Entries.{most_rows, next_number}
 use Rattle.desk_entries.specs.LineCauses.{fault_told}
 use Rattle.desk_entries.specs.Rows.{outcome, outcome_of, special_at, within}
-use Rattle.desk_entries.proofs.RegisterLemmas.{as_it_was, cause_told, not_special, nothing_left, row_left, told_with}
+use Rattle.desk_entries.specs.Run.{docketed_by, run_by}
+use Rattle.desk_entries.proofs.QuestionLemmas.{question_taken}
+use Rattle.desk_entries.proofs.RegisterLemmas.{as_it_was, cause_told, not_special, nothing_left, question_left, row_left, told_with}
 use Rattle.desk_entries.proofs.register.DocketRegisterRegister.take.Goals as goal
 
 pub returns-in-Blank-clause-taken : goal.returns-in-Blank-clause-taken
@@ -39,10 +42,28 @@ pub returns-in_ok-push_cause-in-Fault-clause-came : goal.returns-in_ok-push_caus
 unfolding outcome
 returns-in_ok-push_cause-in-Fault-clause-came c = λ kept stands. ap (outcome_of c.args.under.now kept) (sym (ap (within kept) (sym (c.in_ok-said.ensures.said kept stands.at).said) ∙ sym (c.within.ensures.said kept (c.heard.ensures.count ∙ stands.at.count)) ∙ c.in-Fault.is))
 
+pub returns-then-not-has_room-clause-taken : goal.returns-then-not-has_room-clause-taken
+returns-then-not-has_room-clause-taken c = λ kept stands.
+    let before = as_it_was c.args.under.now c.args.self.now c.heard.new.self kept stands.at c.heard.ensures.docket c.heard.ensures.numbers c.heard.ensures.cases c.heard.ensures.number c.heard.ensures.count in
+    let count = c.heard.ensures.count ∙ stands.at.count in
+    let none = sym c.has_room.ensures ∙ c.if-not-has_room.true in
+    question_left c.args.under.now c.show.new.self kept c.args.line.now (batch_of c.args.batch.now.items) c.args.text.now.items c.in-Row.row
+    (ap (within kept) (sym (c.in_ok-said.ensures.said kept stands.at).said) ∙ sym (c.within.ensures.said kept count) ∙ c.in-Row.is) (c.within.ensures.asks c.in-Row.row c.in-Row.is none) (ap (λ (n : ℕ). nat_lt n most_rows) (sym count) ∙ none)
+    (record { at = c.in_ok-show-in-Row.ensures.stands kept before; before = stands.before }) c.show.new.text.items (c.in_ok-show-in-Row.ensures.told kept before)
+
+pub returns-then-not-has_room-clause-came : goal.returns-then-not-has_room-clause-came
+unfolding outcome
+returns-then-not-has_room-clause-came c = λ kept stands.
+    let under = c.args.under.now in
+    let question = c.within.ensures.asks c.in-Row.row c.in-Row.is (sym c.has_room.ensures ∙ c.if-not-has_room.true) in
+    sym (question_taken under (docketed_by under kept) (run_by under kept).numbers c.in-Row.row.work question)
+    ∙ ap (outcome_of under kept) (sym (ap (within kept) (sym (c.in_ok-said.ensures.said kept stands.at).said) ∙ sym (c.within.ensures.said kept (c.heard.ensures.count ∙ stands.at.count)) ∙ c.in-Row.is))
+
 pub returns-in_ok-push-in-Row-clause-taken : goal.returns-in_ok-push-in-Row-clause-taken
 returns-in_ok-push-in-Row-clause-taken c = λ kept stands.
     let before = as_it_was c.args.under.now c.args.self.now c.heard.new.self kept stands.at c.heard.ensures.docket c.heard.ensures.numbers c.heard.ensures.cases c.heard.ensures.number c.heard.ensures.count in
-    row_left c.args.under.now c.tell.new.self kept c.args.line.now (batch_of c.args.batch.now.items) c.args.text.now.items c.in-Row.row (ap (within kept) (sym (c.in_ok-said.ensures.said kept stands.at).said) ∙ sym (c.within.ensures.said kept (c.heard.ensures.count ∙ stands.at.count)) ∙ c.in-Row.is) stands.at.begun stands.before
+    row_left c.args.under.now c.tell.new.self kept c.args.line.now (batch_of c.args.batch.now.items) c.args.text.now.items c.in-Row.row (ap (within kept) (sym (c.in_ok-said.ensures.said kept stands.at).said) ∙ sym (c.within.ensures.said kept (c.heard.ensures.count ∙ stands.at.count)) ∙ c.in-Row.is)
+    (ap (λ (n : ℕ). nat_lt n most_rows) (sym (c.heard.ensures.count ∙ stands.at.count)) ∙ sym c.has_room.ensures ∙ c.if-not-has_room.false) stands.at.begun stands.before
     (fields_of c.heard.new.self.fields) ((c.in_ok-said.ensures.said kept stands.at).fields_are c.in-Row.row (c.within.ensures.row c.in-Row.row c.in-Row.is)) c.in_ok-said.name (c.in_ok-said.ensures.said kept stands.at).name _ (c.in_ok-entry-in-Row.ensures.done kept before)
     (batch_of c.push.new.self.items) c.tell.new.text.items
     (ap batch_of c.in_ok-push-in-Row.ensures.items ∙ map_push (λ (v : Vec ℕ Global). v.items) c.args.batch.now.items c.in_ok-entry-in-Row.field-0.entry)

@@ -24,7 +24,7 @@ pub returns-in_ok-publish-in-Some-clause-kept : goal.returns-in_ok-publish-in-So
 returns-in_ok-publish-in-Some-clause-kept g c = λ fs kept.
     record {
       whole = All-append IsFrame fs (frames_of (length fs) c.args.self.now.stamp c.args.batch.now) kept.whole (are_frames (length fs) c.args.self.now.stamp c.args.batch.now c.in_ok-last.ensures.stamp c.in_ok-last.ensures.short);
-      file = subst (λ (file : List ℕ). IsDurable g.D.Disk.seen g.D.Disk.may_leave g.D.Disk.is_usable file c.publish.new.disk)
+      file = subst (λ (file : List ℕ). IsDurable g.D.Disk file c.publish.new.disk)
           (opened fs kept.whole (frames_of (length fs) c.args.self.now.stamp c.args.batch.now) (are_frames (length fs) c.args.self.now.stamp c.args.batch.now c.in_ok-last.ensures.stamp c.in_ok-last.ensures.short) c.split_at.result.1.now
           (packed_is fs c.args.batch.now c.requires.some c.args.self.now.stamp c.args.self.now.count c.args.self.now.last c.pack_whole.new.buffer.items c.split_at.result.1.now kept.count kept.last c.in_ok-last.ensures.bytes (c.split_at.ensures.back ∙ ap (drop 2) c.deref.ensures.value)))
           (c.in_ok-publish-in-Some.ensures.durable (frames first_checksum fs) kept.end kept.file);

@@ -10,14 +10,14 @@ use Rattle.desk_journal.proofs.StampLemmas.{batch_adds, none_added}
 
 pub returns-clause-kept : goal.returns-clause-kept
 returns-clause-kept g c = λ entries kept.
-    let now : KeepsFrames g.D.Disk.seen g.D.Disk.may_leave g.D.Disk.is_usable kept.fs (looked g.D.Disk.seen g.D.Disk.may_leave g.D.Disk.is_usable c.args.self.now c.is_unchanged.new.disk) =
-    still_keeps g.D.Disk.seen g.D.Disk.may_leave g.D.Disk.is_usable c.args.self.now c.is_unchanged.new.disk c.is_unchanged.ensures.untouched c.is_unchanged.ensures.usable kept.fs kept.kept in
-    on_ok_weaker c.add.result (kept_more g.D.Disk.seen g.D.Disk.may_leave g.D.Disk.is_usable c.add.new.self kept.fs (length kept.fs) c.args.self.now.stamp c.args.batch.now entries kept.same) (c.add.ensures.kept kept.fs now)
+    let now : KeepsFrames g.D.Disk kept.fs (looked c.args.self.now c.is_unchanged.new.disk) =
+    still_keeps g.D.Disk c.args.self.now c.is_unchanged.new.disk c.is_unchanged.ensures.untouched c.is_unchanged.ensures.usable kept.fs kept.kept in
+    on_ok_weaker c.add.result (kept_more g.D.Disk c.add.new.self kept.fs (length kept.fs) c.args.self.now.stamp c.args.batch.now entries kept.same) (c.add.ensures.kept kept.fs now)
 
 pub returns-clause-crash : goal.returns-clause-crash
 returns-clause-crash g c = λ entries kept x left.
     either_stands x kept.fs (length kept.fs) c.args.self.now.stamp c.args.batch.now entries kept.same
-    (c.add.ensures.crash kept.fs (still_keeps g.D.Disk.seen g.D.Disk.may_leave g.D.Disk.is_usable c.args.self.now c.is_unchanged.new.disk c.is_unchanged.ensures.untouched c.is_unchanged.ensures.usable kept.fs kept.kept) x left)
+    (c.add.ensures.crash kept.fs (still_keeps g.D.Disk c.args.self.now c.is_unchanged.new.disk c.is_unchanged.ensures.untouched c.is_unchanged.ensures.usable kept.fs kept.kept) x left)
 
 pub returns-clause-changed : goal.returns-clause-changed
 returns-clause-changed g c = λ entries kept changed clean. c.add.ensures.never changed
@@ -32,8 +32,8 @@ pub returns-clause-stamped : goal.returns-clause-stamped
 returns-clause-stamped g c = λ stamps has.
     let (fs, kept, same) = has in
     let stamp : StampView = c.args.self.now.stamp in
-    let now : KeepsFrames g.D.Disk.seen g.D.Disk.may_leave g.D.Disk.is_usable fs (looked g.D.Disk.seen g.D.Disk.may_leave g.D.Disk.is_usable c.args.self.now c.is_unchanged.new.disk) =
-    still_keeps g.D.Disk.seen g.D.Disk.may_leave g.D.Disk.is_usable c.args.self.now c.is_unchanged.new.disk c.is_unchanged.ensures.untouched c.is_unchanged.ensures.usable fs kept in
+    let now : KeepsFrames g.D.Disk fs (looked c.args.self.now c.is_unchanged.new.disk) =
+    still_keeps g.D.Disk c.args.self.now c.is_unchanged.new.disk c.is_unchanged.ensures.untouched c.is_unchanged.ensures.usable fs kept in
     on_ok_weaker c.add.result
     (λ keeps. (
       stamps_of (fs ++ frames_of (length fs) stamp c.args.batch.now),

@@ -7,6 +7,6 @@ returns-in-Ok-clause-kept g c = λ file was clean.
     let (none, whole, durable) = c.in-Ok.ensures.begun file was clean in (
       none,
       whole,
-      begun_kept g.D.Disk.seen g.D.Disk.may_leave g.D.Disk.is_usable (record { disk = c.begin.new.disk; end = 0; count = 0; last = c.first.result; stamp = c.args.stamp; front = c.new.result; buffer = c.new-in-Ok.result })
+      begun_kept g.D.Disk (record { disk = c.begin.new.disk; end = 0; count = 0; last = c.first.result; stamp = c.args.stamp; front = c.new.result; buffer = c.new-in-Ok.result })
           durable refl refl c.first.ensures,
     )

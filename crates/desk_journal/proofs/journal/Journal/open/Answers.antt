@@ -17,7 +17,7 @@ returns-in-Ok-clause-kept g c = λ file was clean.
     let last : c.last_time.result ≡ time_after 0 c.in-Ok.found.stamps.items = c.last_time.ensures ∙ ap (time_after 0) c.deref.ensures.value in (
       repaired.stands,
       repaired.undamaged,
-      opened_kept g.D.Disk.seen g.D.Disk.may_leave g.D.Disk.is_usable (record { disk = c.recover.new.disk; end = c.in-Ok.found.end; count = c.len.result; last = c.in-Ok.found.last; stamp = c.not_before.new.self; front = c.new.result; buffer = c.new-in-Ok.result })
+      opened_kept g.D.Disk (record { disk = c.recover.new.disk; end = c.in-Ok.found.end; count = c.len.result; last = c.in-Ok.found.last; stamp = c.not_before.new.self; front = c.new.result; buffer = c.new-in-Ok.result })
           file c.in-Ok.found.entries.items c.in-Ok.found.stamps.items c.in-Ok.found.last c.in-Ok.found.end repaired refl (c.len.ensures ∙ c.in-Ok.found.entries.ok.0) refl
           (omega (arith, later, last, le-max_right c.args.stamp.time c.last_time.result)),
     )

@@ -17,8 +17,8 @@ pub returns-in-Ok-append-clause-begun : goal.returns-in-Ok-append-clause-begun
 returns-in-Ok-append-clause-begun g c = λ was is clean x left.
     let before = c.append.ensures.clean (subst (λ (d : g.row.D.Denot). IsTrue (g.D.Disk.is_clean d)) c.into_disk.ensures clean) in
     let batch : batch_of c.deref-in-Ok-begin.result.now ≡ c.args.file.items ∷ [] = ap batch_of c.deref-in-Ok-begin.ensures.value ∙ c.in-Ok-batch_with.ensures in
-    rest_kept g.D.Disk.seen g.D.Disk.may_leave g.D.Disk.is_usable c.append.new.self (c.args.file.items ∷ [])
-    (subst (λ (b : List (List ℕ)). IsKept g.D.Disk.seen g.D.Disk.may_leave g.D.Disk.is_usable b c.append.new.self) batch (c.in-Ok-append.ensures.kept [] (c.in-Ok-begin.ensures.kept was is before).2))
+    rest_kept g.D.Disk c.append.new.self (c.args.file.items ∷ [])
+    (subst (λ (b : List (List ℕ)). IsKept g.D.Disk b c.append.new.self) batch (c.in-Ok-append.ensures.kept [] (c.in-Ok-begin.ensures.kept was is before).2))
     x (subst (λ (d : g.row.D.Denot). g.D.Disk.may_leave d x) c.into_disk.ensures left)
 
 pub returns-in-Ok-append-clause-history : goal.returns-in-Ok-append-clause-history
@@ -42,5 +42,5 @@ returns-in-Ok-begin-clause-taken g c = λ was is clean taken.
 pub returns-clause-taken : goal.returns-clause-taken
 returns-clause-taken g c = λ was is clean taken. (
   taken_begun _ _ was c.in-Err-begin.fault (c.in-Err-begin.ensures.cause was is clean) (sym c.from-in-Err-begin.ensures ∙ taken),
-  unless_written c.in-Err-begin.fault c.from-in-Err-begin.result (IsDurable g.D.Disk.seen g.D.Disk.may_leave g.D.Disk.is_usable was c.in-Err-begin.disk) c.from-in-Err-begin.ensures (λ write. cc (taken, write)) (λ sync. cc (taken, sync)) (c.in-Err-begin.ensures.untouched was is),
+  unless_written c.in-Err-begin.fault c.from-in-Err-begin.result (IsDurable g.D.Disk was c.in-Err-begin.disk) c.from-in-Err-begin.ensures (λ write. cc (taken, write)) (λ sync. cc (taken, sync)) (c.in-Err-begin.ensures.untouched was is),
 )

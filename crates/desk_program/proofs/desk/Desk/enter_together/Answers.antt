@@ -16,11 +16,11 @@ use Rattle.desk_program.proofs.desk.Desk.enter_together.Goals as goal
 
 -- want of memory while faults are looked for
 pub returns-in-Err-clause-promised : goal.returns-in-Err-clause-promised
-returns-in-Err-clause-promised g c = λ kept keeps faultless unstopped. none_promised g.D.Disk.seen g.D.Disk.may_leave g.D.Disk.is_usable c.args.self.now c.args.self.now kept keeps (lines_of c.args.input.now) _ _
+returns-in-Err-clause-promised g c = λ kept keeps faultless unstopped. none_promised g.D.Disk c.args.self.now c.args.self.now kept keeps (lines_of c.args.input.now) _ _
 
 -- lines that have faults
 pub returns-in-Err-list_faults-clause-crash : goal.returns-in-Err-list_faults-clause-crash
-returns-in-Err-list_faults-clause-crash g c = λ kept keeps. none_docket g.D.Disk.seen g.D.Disk.may_leave g.D.Disk.is_usable c.args.self.now c.args.self.now kept keeps (lines_of c.args.input.now)
+returns-in-Err-list_faults-clause-crash g c = λ kept keeps. none_docket g.D.Disk c.args.self.now c.args.self.now kept keeps (lines_of c.args.input.now)
 
 pub returns-in-Err-list_faults-clause-refused : goal.returns-in-Err-list_faults-clause-refused
 returns-in-Err-list_faults-clause-refused g c = λ kept count keeps is.
@@ -49,38 +49,38 @@ returns-in-Err-list_faults-clause-promised g c = λ kept keeps faultless unstopp
 
 -- a last line with no end
 pub returns-then-not-is_finished-clause-crash : goal.returns-then-not-is_finished-clause-crash
-returns-then-not-is_finished-clause-crash g c = λ kept keeps. none_docket g.D.Disk.seen g.D.Disk.may_leave g.D.Disk.is_usable c.args.self.now c.args.self.now kept keeps (lines_of c.args.input.now)
+returns-then-not-is_finished-clause-crash g c = λ kept keeps. none_docket g.D.Disk c.args.self.now c.args.self.now kept keeps (lines_of c.args.input.now)
 
 pub returns-then-not-is_finished-clause-promised : goal.returns-then-not-is_finished-clause-promised
 returns-then-not-is_finished-clause-promised g c = λ kept keeps faultless unstopped.
-    rw c.in-Ok-list_faults.ensures.none.1 (none_promised g.D.Disk.seen g.D.Disk.may_leave g.D.Disk.is_usable c.args.self.now c.args.self.now kept keeps (lines_of c.args.input.now) _ _)
+    rw c.in-Ok-list_faults.ensures.none.1 (none_promised g.D.Disk c.args.self.now c.args.self.now kept keeps (lines_of c.args.input.now) _ _)
 
 -- lines that are kept
 pub returns-in-Ok-None-clause-kept : goal.returns-in-Ok-None-clause-kept
 returns-in-Ok-None-clause-kept g c = λ kept keeps.
     let under = standing_at c.args.self.now in
     let none = none_at_fault c.deref.result.now _ (ap (map fault_in) c.deref.ensures.value ∙ c.in-Ok.ensures kept keeps.docketed.stands ∙ ap (λ (m : Bool). faults_of (standing_at c.args.self.now) kept (unmarked_lines m (numbered_lines c.args.input.now))) c.are_marked-marked.ensures) c.in-Ok-list_faults.ensures.none.0 in
-    kept_together g.D.Disk.seen g.D.Disk.may_leave g.D.Disk.is_usable c.args.self.now _ kept keeps refl c.args.keep_refused c.args.input.now _ _ none (c.is_finished.ensures.0 c.if-not-is_finished.false) (sym (c.in-Ok-None.ensures.stopped kept keeps.docketed.stands) ∙ ap (option_map stopped_in) c.in-Ok-None.field-0-is)
-    (subst (λ (w : Watched g.row.W.Denot). IsServed (leaves_at c.args.self.now) (answers_at c.args.self.now) (λ entries. IsKept g.D.Disk.seen g.D.Disk.may_leave g.D.Disk.is_usable entries c.serve_together.new.journal) (IsReadyAt under c.serve_together.new.register.register) kept (lines_of c.args.input.now) (g.W.Write.contents (watched w)) (g.W.Write.contents (watched c.serve_together.new.writer)))
+    kept_together g.D.Disk c.args.self.now _ kept keeps refl c.args.keep_refused c.args.input.now _ _ none (c.is_finished.ensures.0 c.if-not-is_finished.false) (sym (c.in-Ok-None.ensures.stopped kept keeps.docketed.stands) ∙ ap (option_map stopped_in) c.in-Ok-None.field-0-is)
+    (subst (λ (w : Watched g.row.W.Denot). IsServed (leaves_at c.args.self.now) (answers_at c.args.self.now) (λ entries. IsKept g.D.Disk entries c.serve_together.new.journal) (IsReadyAt under c.serve_together.new.register.register) kept (lines_of c.args.input.now) (g.W.Write.contents (watched w)) (g.W.Write.contents (watched c.serve_together.new.writer)))
     c.in-Ok-list_faults.ensures.none.1 (c.serve_together.ensures.served kept keeps.kept keeps.docketed.stands (c.in-Ok-None.is ∙ ap Ok c.in-Ok-None.field-0-is)))
 
 pub returns-in-Ok-None-clause-crash : goal.returns-in-Ok-None-clause-crash
 returns-in-Ok-None-clause-crash g c = λ kept keeps.
-    all_or_none_docket g.D.Disk.seen g.D.Disk.may_leave g.D.Disk.is_usable c.args.self.now c.args.self.now kept keeps (lines_of c.args.input.now) _ (c.serve_together.ensures.all_or_none kept keeps.kept keeps.docketed.stands)
+    all_or_none_docket g.D.Disk c.args.self.now c.args.self.now kept keeps (lines_of c.args.input.now) _ (c.serve_together.ensures.all_or_none kept keeps.kept keeps.docketed.stands)
 
 pub returns-in-Ok-None-clause-unwritten : goal.returns-in-Ok-None-clause-unwritten
 returns-in-Ok-None-clause-unwritten g c = λ kept keeps some. ap disk_of (c.serve_together.ensures.unwritten kept keeps.docketed.stands some)
 
 pub returns-in-Ok-Some-clause-crash : goal.returns-in-Ok-Some-clause-crash
 returns-in-Ok-Some-clause-crash g c = λ kept keeps.
-    all_or_none_docket g.D.Disk.seen g.D.Disk.may_leave g.D.Disk.is_usable c.args.self.now c.args.self.now kept keeps (lines_of c.args.input.now) _ (c.serve_together.ensures.all_or_none kept keeps.kept keeps.docketed.stands)
+    all_or_none_docket g.D.Disk c.args.self.now c.args.self.now kept keeps (lines_of c.args.input.now) _ (c.serve_together.ensures.all_or_none kept keeps.kept keeps.docketed.stands)
 
 pub returns-in-Ok-Some-clause-unwritten : goal.returns-in-Ok-Some-clause-unwritten
 returns-in-Ok-Some-clause-unwritten g c = λ kept keeps some. ap disk_of (c.serve_together.ensures.unwritten kept keeps.docketed.stands some)
 
 pub returns-clause-crash : goal.returns-clause-crash
 returns-clause-crash g c = λ kept keeps.
-    all_or_none_docket g.D.Disk.seen g.D.Disk.may_leave g.D.Disk.is_usable c.args.self.now c.args.self.now kept keeps (lines_of c.args.input.now) _ (c.serve_together.ensures.all_or_none kept keeps.kept keeps.docketed.stands)
+    all_or_none_docket g.D.Disk c.args.self.now c.args.self.now kept keeps (lines_of c.args.input.now) _ (c.serve_together.ensures.all_or_none kept keeps.kept keeps.docketed.stands)
 
 pub returns-clause-unwritten : goal.returns-clause-unwritten
 returns-clause-unwritten g c = λ kept keeps some. ap disk_of (c.serve_together.ensures.unwritten kept keeps.docketed.stands some)
@@ -88,14 +88,14 @@ returns-clause-unwritten g c = λ kept keeps some. ap disk_of (c.serve_together.
 pub returns-in-Ok-None-clause-promised : goal.returns-in-Ok-None-clause-promised
 returns-in-Ok-None-clause-promised g c = λ kept keeps faultless unstopped.
     let under = standing_at c.args.self.now in
-    promised_docket g.D.Disk.seen g.D.Disk.may_leave g.D.Disk.is_usable c.args.self.now c.args.self.now kept keeps (lines_of c.args.input.now) _ _ _ _
+    promised_docket g.D.Disk c.args.self.now c.args.self.now kept keeps (lines_of c.args.input.now) _ _ _ _
     (subst (λ (w : Watched g.row.W.Denot). IsPromised (leaves_at c.args.self.now) (answers_at c.args.self.now) kept (lines_of c.args.input.now) (g.W.Write.contents (watched w)) (g.W.Write.contents (watched c.serve_together.new.writer)) (has_failed c.serve_together.new.writer ≡ false) (g.D.Disk.may_leave (disk_of c.serve_together.new.journal)))
     c.in-Ok-list_faults.ensures.none.1 (c.serve_together.ensures.promised kept keeps.kept keeps.docketed.stands))
 
 pub returns-clause-promised : goal.returns-clause-promised
 returns-clause-promised g c = λ kept keeps faultless unstopped.
     let under = standing_at c.args.self.now in
-    promised_docket g.D.Disk.seen g.D.Disk.may_leave g.D.Disk.is_usable c.args.self.now c.args.self.now kept keeps (lines_of c.args.input.now) _ _ _ _
+    promised_docket g.D.Disk c.args.self.now c.args.self.now kept keeps (lines_of c.args.input.now) _ _ _ _
     (subst (λ (w : Watched g.row.W.Denot). IsPromised (leaves_at c.args.self.now) (answers_at c.args.self.now) kept (lines_of c.args.input.now) (g.W.Write.contents (watched w)) (g.W.Write.contents (watched c.serve_together.new.writer)) (has_failed c.serve_together.new.writer ≡ false) (g.D.Disk.may_leave (disk_of c.serve_together.new.journal)))
     c.in-Ok-list_faults.ensures.none.1 (c.serve_together.ensures.promised kept keeps.kept keeps.docketed.stands))
 
@@ -147,4 +147,4 @@ returns-clause-says g c = λ kept keeps.
     rw c.together_fault.ensures
     (says_unserved _ _ _ c.args.input.now c.in-Err-serve_together.fault c.in-Err-serve_together.ensures.fault
     (λ long. ap disk_of (c.serve_together.ensures.long (cc (c.in-Err-serve_together.is, long))))
-    (λ write file may. rest_kept g.D.Disk.seen g.D.Disk.may_leave g.D.Disk.is_usable c.serve_together.new.journal (kept ++ left_by (leaves_at c.args.self.now) kept (lines_of c.args.input.now)) (c.serve_together.ensures.unanswered kept keeps.kept keeps.docketed.stands (cc (c.in-Err-serve_together.is, write))) file may))
+    (λ write file may. rest_kept g.D.Disk c.serve_together.new.journal (kept ++ left_by (leaves_at c.args.self.now) kept (lines_of c.args.input.now)) (c.serve_together.ensures.unanswered kept keeps.kept keeps.docketed.stands (cc (c.in-Err-serve_together.is, write))) file may))

@@ -23,7 +23,7 @@ pub returns-in-Err-of-clause-crash : goal.returns-in-Err-of-clause-crash
 returns-in-Err-of-clause-crash g c = λ file entries was stands clean x left.
     let all = c.in-Ok.ensures.kept file was (subst (λ (d : g.row.D.Denot). IsTrue (g.D.Disk.is_clean d)) c.into_disk.ensures clean) in
     same_entries file x (batch_of c.in-Ok.opened.1.items) entries all.0 stands
-    (rest_kept g.D.Disk.seen g.D.Disk.may_leave g.D.Disk.is_usable c.in-Ok.opened.0 (batch_of c.in-Ok.opened.1.items) all.2 x
+    (rest_kept g.D.Disk c.in-Ok.opened.0 (batch_of c.in-Ok.opened.1.items) all.2 x
     (subst (λ (d : g.row.D.Denot). g.D.Disk.may_leave d x) c.into_disk.ensures left))
 
 pub returns-in-Ok-of-clause-whole : goal.returns-in-Ok-of-clause-whole
@@ -41,4 +41,4 @@ returns-in-Err-clause-cause g c = λ file was clean.
 
 pub returns-in-Err-clause-none : goal.returns-in-Err-clause-none
 returns-in-Err-clause-none g c = λ file was is.
-    unless_written c.in-Err.fault c.from.result (IsDurable g.D.Disk.seen g.D.Disk.may_leave g.D.Disk.is_usable file c.in-Err.disk) c.from.ensures (λ write. cc (is, write)) (λ sync. cc (is, sync)) (c.in-Err.ensures.untouched file was)
+    unless_written c.in-Err.fault c.from.result (IsDurable g.D.Disk file c.in-Err.disk) c.from.ensures (λ write. cc (is, write)) (λ sync. cc (is, sync)) (c.in-Err.ensures.untouched file was)

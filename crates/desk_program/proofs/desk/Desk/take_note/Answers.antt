@@ -14,7 +14,7 @@ pub returns-in-Ok-clause-kept : goal.returns-in-Ok-clause-kept
 returns-in-Ok-clause-kept g c = λ entries keeps stands short some comes.
     let entry : List ℕ = c.args.entry.items in
     record {
-      kept = subst (λ (b : List (List ℕ)). IsKept g.D.Disk.seen g.D.Disk.may_leave g.D.Disk.is_usable (entries ++ b) c.append.new.self) (ap batch_of c.deref.ensures.value ∙ c.in_ok-batch.ensures) (c.in-Ok.ensures.kept entries keeps.kept);
+      kept = subst (λ (b : List (List ℕ)). IsKept g.D.Disk (entries ++ b) c.append.new.self) (ap batch_of c.deref.ensures.value ∙ c.in_ok-batch.ensures) (c.in-Ok.ensures.kept entries keeps.kept);
       docketed = comes _ c.replace.ensures.after
           (subst (λ (register : DocketRegister). StandsAt c.args.standing register (entries ++ entry ∷ [])) (sym c.replace-in-Ok.ensures.after)
           (c.pass_note.ensures c.args.standing entries entry stands short some));

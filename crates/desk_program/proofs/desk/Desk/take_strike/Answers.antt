@@ -23,7 +23,7 @@ returns-clause-kept g c = λ entries row keeps is says more stands short.
     let says_them : said_in entry ≡ gave = ap said_in entry_is ∙ again.2 in
     on_ok_weaker c.take_note.result
     (λ kept. (
-      subst (λ e. KeepsDocket g.D.Disk.seen g.D.Disk.may_leave g.D.Disk.is_usable (entries ++ e ∷ []) c.take_note.new.self) entry_is kept,
+      subst (λ e. KeepsDocket g.D.Disk (entries ++ e ∷ []) c.take_note.new.self) entry_is kept,
       λ history. subst (λ e. IsHistory (entries ++ e ∷ [])) entry_is (history_more entries entry history (note_may_follow (docketed_at c.args.self.now) entries entry (row_struck c.args.strike.now) keeps.docketed noted again.1 says_them)),
     ))
     (c.take_note.ensures.kept entries keeps stands short (subst IsSome (sym noted) refl) (comes_by_note (docketed_at c.args.self.now) c.args.standing entries entry (row_struck c.args.strike.now) keeps.docketed noted again.1 says_them says more))
