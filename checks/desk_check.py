@@ -16,6 +16,7 @@ in its last COUNT / 2 bytes, as desk_damage.py does it. It needs Python
 """
 import random
 import re
+import subprocess
 import sys
 import tempfile
 
@@ -59,6 +60,28 @@ def check_folder(programs):
         ended = run([programs.docket, "check", parent + "/nowhere"])
         assert ended.status != 0 and not ended.output and ended.errors.count(b"\n") == 1, ended
     return "folders that are opened twice, aren't there, or get half a line"
+
+
+def check_long(programs):
+    """A line that is too long is a fault of its own, whatever its beginning says, and is answered before it ends."""
+    row, long, line = b"1,open,%d,2025-03-03\n", b"1,cancel,1," + b"0" * 65_550 + b"12\n", b"row %d fault 5 NotText\n"
+    with tempfile.TemporaryDirectory() as parent:
+        desk = Desk(programs, parent, SHORT_COURT)
+        ended = desk.call("enter", given=row % 1 + long + row % 2)
+        assert (ended.status, ended.output) == (FAULTY, b"1 1 opened\n" + line % 2 + b"2 1 opened\n"), ended
+        ended = desk.call("enter", TOGETHER, given=row % 3 + long)
+        assert ended.status == FAULTS and b"line 2 fault 5 NotText" in ended.errors and b"65535 bytes" in ended.errors, ended
+        with subprocess.Popen([programs.docket, "enter", desk.folder], stdin=subprocess.PIPE, stdout=subprocess.PIPE) as session:
+            for given, answer in ((b"x" * 70_000, line % 3), (b"x" * 70_000 + b"\n" + row % 3, b"3 1 opened\n")):
+                session.stdin.write(given)
+                session.stdin.flush()
+                assert session.stdout.readline() == answer, answer
+            session.stdin.close()
+            assert not session.stdout.read() and session.wait() == FAULTY
+        # A line of as many bytes as may be is read.
+        ended = desk.call("enter", given=b"1,open," + b"0" * 65_511 + b"4,2025-03-03\n")
+        assert ended.output in (b"4 1 opened\n", b"row 4 fault 4 BadField 3\n"), ended
+    return "lines that are too long, of which one has no end yet"
 
 
 def check_cut(programs):
@@ -351,7 +374,7 @@ def check_together(programs, draw):
                  b'line 3 fault 4 BadField 4: expected what FORMATS.md has under Rows\n'
                  b'line 4 fault 4 BadField 8: found "G", expected a kind of service, A to F, or nothing\n'
                  b'line 5 fault 4 BadField 3: found nothing, expected a number, as 7, or the number of a case that was opened, as 1:25-cv-01234\n'
-                 b'line 6 fault 5 NotText: expected text in UTF-8\n', b"6 lines have faults", FAULTS),
+                 b'line 6 fault 5 NotText: expected text in UTF-8, at most 65535 bytes a line\n', b"6 lines have faults", FAULTS),
                 (b"1,open,1,2025-03-03\n1,sheet,1", b"", b"no end", UNREAD),
                 (b"\n" * (LONGEST_INPUT + 1), b"", b"more than 16777216 bytes", UNREAD)):
             ended = desk.call("enter", TOGETHER, given=given)
@@ -555,7 +578,7 @@ def check_court(programs):
 def main(words):
     programs, (seed, count) = programs_of(words[:2]), seed_and_count(words[2:], 300)
     draw = random.Random(seed)
-    for check in (lambda: check_examples(programs, draw), lambda: check_folder(programs), lambda: check_cut(programs), lambda: check_unbegun(programs),
+    for check in (lambda: check_examples(programs, draw), lambda: check_folder(programs), lambda: check_long(programs), lambda: check_cut(programs), lambda: check_unbegun(programs),
                   lambda: check_changed(programs), lambda: check_second(programs),
                   lambda: check_trial(programs, draw), lambda: check_warnings(programs), lambda: check_choices(programs, draw), lambda: check_together(programs, draw),
                   lambda: check_refused(programs), lambda: check_faulty(programs), lambda: check_cases(programs),

@@ -9,10 +9,11 @@ that has the journal: the desk is refused, and the journal is as it was. A day o
 are written one after another to a pipe while the answers are read from another: the memory of the desk grows by less than
 4 MB after its first 10,000 rows. A folder with twice as many rows, more than an input may have: each report must say of it what
 it says of those rows alone that change the docket, and the answers must be there, each once. A journal is filled with rows up to
-ENTRIES entries (999,000 without it, after which none is taken). The row after the last is refused, the journal is opened again, and
-there is room for a question, a strike, a restore and another court's file. A journal of ROWS rows with a hundredth as many strikes at
-random places is written here; it must be opened in two seconds of a processor at most (the aim is one), and the sheets must have what
-isn't struck, with its numbers. A shorter one that is written so must be one to `docket check`. It needs Linux and Python 3.8 or later.
+ENTRIES entries (999,000 without it, after which none is kept). A command after the last is refused, a question is answered and isn't
+kept, the journal is opened again, and there is room for a strike, a restore and another court's file. A journal of ROWS rows with a
+hundredth as many strikes at random places is written here; it must be opened in two seconds of a processor at most (the aim is one),
+and the sheets must have what isn't struck, with its numbers. A shorter one that is written so must be one to `docket check`. It needs
+Linux and Python 3.8 or later.
 """
 import contextlib
 import json
@@ -231,17 +232,21 @@ def check_many(programs, draw, count):
 
 
 def check_full_journal(programs, count):
-    """A journal is filled with rows and opened again, and corrections still have room."""
-    opens, row = b"1,open,1,2025-03-03\n", b"1,compute,59e,2025-08-04,,,\n"
+    """A journal is filled with rows and opened again; questions are answered, and corrections still have room."""
+    opens, row, command = b"1,open,1,2025-03-03\n", b"1,compute,59e,2025-08-04,,,\n", b"1,open,2,2025-03-03\n"
     with tempfile.TemporaryDirectory() as parent:
         desk = Desk(programs, parent, SHORT_COURT)
-        ended = desk.call("enter", given=opens + row * (count - 1))
-        *_, last, beyond = ended.output.splitlines()
-        assert ended.status == FAULTY and last.startswith(b"%d 1 " % (count - 1)) and b"TooManyRows" in beyond, (last, beyond)
+        ended = desk.call("enter", given=opens + row * (count - 2) + command + row * 2)
+        *_, last, beyond, asked, again = ended.output.splitlines()
+        said = b" 1 last 2025-09-02"
+        assert ended.status == FAULTY and last == b"%d" % (count - 1) + said and b"TooManyRows" in beyond, (last, beyond)
+        assert asked == again == b"%d" % count + said, (asked, again)
         began = time.monotonic()
         ended = desk.call("check")
         seconds = time.monotonic() - began
         assert ended.status == 0, ended
+        ended = desk.call("enter", given=row)
+        assert ended.status == 0 and ended.output == asked + b"\n" and len(desk.read().entries) == count, ended
         size = desk.journal.stat().st_size
         ended = desk.call("ask", given=b"1,sheet,1\n")
         assert ended.status == 0 and ended.output.startswith(b"%d 1 sheet\ncase 1 " % count), ended

@@ -18,6 +18,7 @@ import os
 import pathlib
 import pwd
 import random
+import re
 import signal
 import socket
 import sys
@@ -36,8 +37,8 @@ SAME_COURT = SHORT_COURT + b"\n"
 DAY = 86_400
 # The court's clock in the days that are chosen.
 WINTER = datetime.timezone(datetime.timedelta(hours=-5))
-# The status with which a session ends some of whose rows had faults.
-FAULTS = 8
+# The status with which a session ends some of whose rows had faults, and that of a log with no entry of the row or the case.
+FAULTS, ABSENT = 8, 6
 
 
 def account():
@@ -51,8 +52,8 @@ def account():
 
 
 def shown(text):
-    """Bytes as they are shown, with no control character."""
-    return b"".join(b"\\x%02x" % byte if byte < 32 or byte == 127 else bytes([byte]) for byte in text)
+    """Bytes as they are shown, with no control character: those below 32, 127, and U+0080 to U+009F in UTF-8."""
+    return re.sub(b"[\0-\x1f\x7f]|\xc2[\x80-\x9f]", lambda found: b"\\x%02x" % found[0][-1], text)
 
 
 def moved_in(text):
@@ -152,7 +153,9 @@ def check_choices(desk, draw):
         for as_json in (False, True):
             ended = desk.call("log", *words, *["--json"][:as_json])
             wanted = log_of(journal, chosen, as_json)
-            assert ended.status == 0 and ended.output == wanted and not ended.errors, (words, ended, wanted)
+            absent = not wanted and {"--row", "--case"}.intersection(words)
+            assert ended.status == (ABSENT if absent else 0) and ended.output == wanted, (words, ended, wanted)
+            assert bool(ended.errors) == bool(absent) and (not absent or b"has no such entry" in ended.errors), (words, ended)
 
 
 def check_times(desk, draw):
@@ -214,7 +217,7 @@ def check_other(programs, draw):
         later = int(time.time()) + 9 * DAY
         first, *entries = desk.read().entries
         places = sorted(draw.randint(1_764_000_000, 1_765_500_000) for _ in entries)
-        whos = [draw.choice([account(), b"ames@registry (1001)", b"evil\x1b[2J\x7f@host (7)", b"", b"ames", bytes(200)]) for _ in entries]
+        whos = [draw.choice([account(), b"ames@registry (1001)", "evil\x1b[2J\x7f\x9b31m@h\u00f6st (7)".encode(), b"", b"ames", bytes(200)]) for _ in entries]
         stamps = [Stamp(0, b"init"), *map(Stamp, places[:-1] + [later], whos)]
         data = packed([[both] for both in zip(stamps, [first, *entries])])
         desk.journal.write_bytes(data)

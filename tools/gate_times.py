@@ -8,7 +8,10 @@ It runs `rt ci`, and prints what that prints. With --anew it takes nothing from 
 proving a crate took, building it by two compilers, proving its tests, its must-fail edits, and the runs of its program
 and tests. Processes that end within half a second may be missed. The table has the crates that took most first, and
 comes before the last line of `rt ci`, 'N passed, M failed'. The status is that of `rt ci`. Where there is no /proc, as on
-another system than Linux, there is no table. It needs Python 3.8 or later.
+another system than Linux, there is no table.
+By itself `rt ci` begins a crate only where some ten gigabytes are free for it, though few take more than three, so that
+processors wait. Here RT_JOBS says how many crates it works on at a time: as many as there are processors, or as fit into the
+memory that is free, unless it is set already. It needs Python 3.8 or later.
 """
 import collections
 import os
@@ -22,6 +25,7 @@ TOP = pathlib.Path(__file__).resolve().parent.parent
 KINDS = ("proof", "build", "tests", "edits", "runs")
 SECONDS_BETWEEN_LOOKS = 0.5
 PROCESSES = pathlib.Path("/proc/self/stat")
+MEMORY, GIGABYTES_A_CRATE = pathlib.Path("/proc/meminfo"), 4
 TICKS = os.sysconf("SC_CLK_TCK")
 
 
@@ -105,6 +109,14 @@ def gate_words(is_anew):
     return ["rt", "ci", "--anew"] if b"--anew" in told else ["rt", "ci"]
 
 
+def crates_at_a_time():
+    """How many crates are worked on side by side."""
+    processors = len(os.sched_getaffinity(0)) if hasattr(os, "sched_getaffinity") else os.cpu_count() or 1
+    lines = MEMORY.read_text().splitlines() if MEMORY.exists() else []
+    free = next((int(line.split()[1]) for line in lines if line.startswith("MemAvailable:")), None)
+    return processors if free is None else max(1, min(processors, free // (GIGABYTES_A_CRATE << 20)))
+
+
 class Passed(threading.Thread):
     """Passes on the lines of the gate as they come, each once the next is there; so the last is left to be printed."""
 
@@ -126,7 +138,8 @@ def main(words):
     if words not in ([], ["--anew"]):
         sys.exit("usage: gate_times.py [--anew]")
     began = time.monotonic()
-    gate = subprocess.Popen(gate_words(bool(words)), cwd=str(TOP), stdout=subprocess.PIPE)
+    places = {"RT_JOBS": str(crates_at_a_time()), **os.environ}
+    gate = subprocess.Popen(gate_words(bool(words)), cwd=str(TOP), stdout=subprocess.PIPE, env=places)
     times, passed = Times(gate.pid), Passed(gate.stdout)
     passed.start()
     try:
