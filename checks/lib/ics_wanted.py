@@ -174,6 +174,13 @@ def histories_of(rows, answers, judge):
     return known
 
 
+def named_order(rows, answers):
+    """The motions of which a row set, moved or took off the hearing, by their case and in the order in which rows name them first."""
+    keys = [(int(fields[2]), int(fields[3])) for number, fields in ((number, row.split(",")) for number, row in rows.items())
+            if fields[1] in ("book", "move", "cancel") and not answers.get(number, "").startswith("refused")]
+    return sorted(dict.fromkeys(keys), key=lambda key: key[0])
+
+
 def revisions_of(rows, answers):
     """The last row that changed the court's days (at 0), and the last that changed a deadline or a hearing of each case."""
     last = {}
@@ -213,7 +220,8 @@ def entries_wanted(names, docket, rows, answers, choice, lost=()):
     entries = [(item, False) for item in due if is_judged(item)]
     entries += [(item._replace(summary="Off this calendar: " + item.summary), True) for item in due
                 if item.kind == 0 and has_left(item.case)]
-    for key, (hearing, off) in sorted(histories.items()):
+    for key in filter(histories.__contains__, named_order(rows, answers)):
+        hearing, off = histories[key]
         item = hearing_item(names, *key, hearing)
         if off and is_chosen(item):
             entries.append((item._replace(summary="Cancelled: " + item.summary), True))
