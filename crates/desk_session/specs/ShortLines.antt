@@ -46,7 +46,7 @@ short_lines bytes = short_from 0 bytes
 abbrev pub short_remaining : {R : Type 0} → (remaining : R → Option (List ℕ)) → ShortLines R → Option (List ℕ)
 short_remaining remaining reader = option_map (short_from reader.count) (remaining reader.inner)
 
--- each line of bytes, and a last one that has no end, has at most so many bytes
+-- no line of bytes has more bytes than that, nor has a last one without an end
 pub record HasLinesWithin (most : ℕ) (bytes : List ℕ) : Type 0 where
   pub lines : All (λ line. length line ≤ most) (lines_of bytes)
   pub last : length (unfinished_of bytes) ≤ most

@@ -21,7 +21,7 @@ WithTally IsSo (Ok done) = (tally : Tally) × (tally.faults ≡ 0) × (tally.hel
 WithTally IsSo (Err (fault.Desk (Faulty tally))) = ((0 < tally.faults) ⊎ (0 < tally.held)) × IsSo tally
 WithTally IsSo (Err other) = Unit {0}
 
--- Some lines were read. What was written is a beginning of the answers to the first of them, and whatever a crash leaves has the entries
+-- This is so of some lines: what was written is a beginning of the answers to the first of them, and whatever a crash leaves has the entries
 -- of at least these, so that no answered row is lost.
 abbrev pub PromisesLines : (under : Standing) → (held : HeldBack) → (kept : List (List ℕ)) → (before after : Option (List ℕ)) → (HasWritten : Type 0) → (MayLeave : List ℕ → Type 0) → Type 0
 PromisesLines under held kept before after HasWritten MayLeave = (lines : List (List ℕ)) × IsPromisedDocket under held kept lines before after HasWritten MayLeave
