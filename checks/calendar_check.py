@@ -342,7 +342,7 @@ def made_words(chance, names, court, docket, sheets, reasons):
                 is_missing("{} isn't covered: the court's file covers {} to {}".format(of, court["from"], court["to"]))
         return ["week", "--judge", judge, "--of", str(of)], is_text(week_text(names, court, docket, judge, of))
     if chance.random() < 0.1:
-        asked_for = chance.choice([[name] for name in CHOOSING] + [["json", "--lines"], ["week", "--of", court["from"]]])
+        asked_for = chance.choice([[name] for name in CHOOSING] + [["week", "--of", court["from"]]])
         return asked_for + ["--judge", "Nobody"], is_missing("no judge is named 'Nobody' in the court's file")
     if chance.random() < 0.1:
         name = made_name(chance)

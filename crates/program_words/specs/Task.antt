@@ -1,5 +1,5 @@
 -- What a subcommand asks for with what it was given, and the faults of what it was given.
-use Rattle.std.specs.Prelude.{◌≡◌, ℤ, ◌&&◌, Bool, true, false, not, List, [], ◌∷◌, Option, None, Some, String, codes, is_some, option_map, string_bytes, if◌then◌else◌}
+use Rattle.std.specs.Prelude.{◌≡◌, ℤ, ◌&&◌, ◌||◌, Bool, true, false, not, List, [], ◌∷◌, Option, None, Some, String, codes, is_some, option_map, string_bytes, if◌then◌else◌}
 use Rattle.std.specs.Option.{option_and_then}
 use Rattle.std.specs.Str.{bytes_eq}
 use Rattle.std.specs.declared.alloc.Global.{Global}
@@ -32,7 +32,7 @@ use Rattle.program_words.specs.declared.task.Source.TheVariants as source
 use Rattle.program_words.specs.declared.task.Style.{Style}
 use Rattle.program_words.specs.declared.task.Task.{Task}
 use Rattle.program_words.specs.declared.task.Task.TheVariants as task
-use Rattle.program_words.specs.Given.{faults_beside, faults_if_given, faults_reading, faults_without, is_flag, line_of, order_of, year_of}
+use Rattle.program_words.specs.Given.{faults_beside, faults_if_given, faults_reading, faults_together, faults_without, is_flag, line_of, order_of, year_of}
 
 -- ---- which subcommand a name means
 
@@ -153,6 +153,14 @@ source_faults None None = MissingRequiredArgument ∷ []
 abbrev pub report_source_faults : List Row → Kinds
 report_source_faults given = or_else (report_as_of_faults given) (source_faults (first_of (codes "folder") given) (first_of (codes "input") given))
 
+-- a judge, a case or a day narrows what a report has
+abbrev pub is_narrowed : List Row → Bool
+is_narrowed given = ((is_some (first_of (codes "judge") given) || is_some (first_of (codes "case") given)) || is_some (first_of (codes "from") given)) || is_some (first_of (codes "to") given)
+
+-- the answers alone, as `--lines` gives them, aren't narrowed
+abbrev pub lines_alone_faults : List Row → Kinds
+lines_alone_faults given = faults_together (is_flag (first_of (codes "lines") given)) (is_narrowed given)
+
 -- The places of a sheet are those of a folder and a case; where an input is given, the first is that of the case.
 abbrev pub sheet_folder : (first second input : Option Text) → Option Text
 sheet_folder first second None = first
@@ -239,7 +247,7 @@ faults_given sub.Cases given = kept_faults given
 faults_given sub.Check given = faults_without (first_of (codes "folder") given)
 faults_given sub.Rows given = kept_faults given
 faults_given sub.Log given = or_else (faults_without (first_of (codes "folder") given)) (log_faults given)
-faults_given sub.Report given = or_else (report_source_faults given) (report_faults given)
+faults_given sub.Report given = or_else (report_source_faults given) (or_else (lines_alone_faults given) (report_faults given))
 faults_given sub.Memo given = or_else (report_source_faults given) (memo_faults given)
 faults_given sub.Sheet given = or_else (sheet_source_faults given) (faults_reading case_called (case_given given))
 faults_given sub.Court given = MissingRequiredArgument ∷ []

@@ -16,6 +16,10 @@ use std::alloc::Global;
 /// How the words call it.
 const SHOWN: &str = "--as-of <ROW|DAY|TIME>";
 
+/// What is said where it is given with an input.
+const NOT_OF_AN_INPUT: &str =
+    "'--as-of <ROW|DAY|TIME>' counts for a folder, and doesn't go with '--input <FILE>'";
+
 /// How a row, a day or a time is written.
 const HOW_SAID: &str =
     "write the number of a row, a day as 2025-09-15, today, yesterday or -3d, or a time as 2025-09-15T14:05 or 2025-09-15T14:05:09";
@@ -130,7 +134,7 @@ pub(crate) fn report_as_of(
     let has_as_of = is_given(given, "as-of");
     let has_input = is_given(given, "input");
     let (_, as_of) = both(
-        apart(alloc, has_as_of, SHOWN, has_input, "--input <FILE>"),
+        apart(alloc, has_as_of, has_input, NOT_OF_AN_INPUT),
         as_of_in(alloc, clock_time, given),
     )?;
     Ok(as_of)

@@ -105,22 +105,18 @@ pub(crate) fn beside(
     }
 }
 
-/// Whether what is given isn't together with the other option, with which it doesn't go. The words call them by these texts.
-/// BadWords where both are given.
+/// Whether what is given isn't together with another option, with which it doesn't go. BadWords where both are given: the text says so,
+/// without the end of its line.
 pub(crate) fn apart(
     alloc: Global,
     is_given: bool,
-    shown: &str,
     has_other: bool,
-    other: &str,
+    text: &str,
 ) -> Result<(), OptionsFault>
     ensures { IsAnswerFor (faults_together is_given has_other) result }
 {
     if !is_given || !has_other {
         return Ok(());
     }
-    match format!(in alloc; "'{shown}' counts for a folder, and doesn't go with '{other}'") {
-        Ok(text) => Err(mistake(alloc, text.as_str())),
-        Err(_) => Err(OptionsFault::OutOfMemory),
-    }
+    Err(mistake(alloc, text))
 }

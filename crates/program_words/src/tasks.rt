@@ -5,10 +5,10 @@ ghost use Rattle.clap.specs.Words.{Text, first_of, found_of, rows_of};
 ghost use Rattle.program_main.specs.Options.Words.{IsAnswerFor};
 ghost use Rattle.program_words.specs.declared.subcommand.Subcommand.{Subcommand};
 ghost use Rattle.program_words.specs.Given.{faults_without};
-ghost use Rattle.program_words.specs.Task.{IsCorrecting, IsSheetSource, IsSource, IsSourceOf, IsTask, correcting_faults, faults_given, report_source_faults, sheet_asked, sheet_case, sheet_folder, sheet_source_faults, source_faults};
+ghost use Rattle.program_words.specs.Task.{IsCorrecting, IsSheetSource, IsSource, IsSourceOf, IsTask, correcting_faults, faults_given, is_narrowed, lines_alone_faults, report_source_faults, sheet_asked, sheet_case, sheet_folder, sheet_source_faults, source_faults};
 
 use crate::as_of::report_as_of;
-use crate::given::{both, has_flag, mistake, needed, text_in};
+use crate::given::{apart, both, has_flag, is_given, mistake, needed, text_in};
 use crate::task::{AsOf, Correcting, Source, Task};
 use crate::values::{case_in, line_in, row_in};
 use clap::ArgMatches;
@@ -17,6 +17,10 @@ use office_texts::CaseCalled;
 use program_main::OptionsFault;
 use report_program::{Asked, Task as Written};
 use std::alloc::Global;
+
+// What is said where answers as lines are to be narrowed.
+const ALL_ANSWERS: &str =
+    "'--lines' gives the answers of all rows, and doesn't go with '--judge <NAME>', '--case <N>', '--from <DAY>' or '--to <DAY>'";
 
 /// The folder.
 pub(crate) fn folder_in(alloc: Global, given: &ArgMatches<'_>) -> Result<String, OptionsFault>
@@ -135,6 +139,28 @@ fn source_in(
     )
 }
 
+/// Whether a judge, a case or a day narrows what a report has.
+fn is_narrowed(given: &ArgMatches<'_>) -> bool
+    ensures { result ≡ is_narrowed (rows_of (found_of given.now)) }
+{
+    is_given(given, "judge")
+        || is_given(given, "case")
+        || is_given(given, "from")
+        || is_given(given, "to")
+}
+
+/// Whether answers as lines are asked for with nothing that would narrow them. BadWords where they are to be narrowed.
+fn lines_alone(alloc: Global, given: &ArgMatches<'_>) -> Result<(), OptionsFault>
+    ensures { IsAnswerFor (lines_alone_faults (rows_of (found_of given.now))) result }
+{
+    apart(
+        alloc,
+        has_flag(given, "lines"),
+        is_narrowed(given),
+        ALL_ANSWERS,
+    )
+}
+
 /// A report of that name, at the clock's time.
 pub(crate) fn report(
     alloc: Global,
@@ -145,9 +171,12 @@ pub(crate) fn report(
     ensures task { IfOk result (IsTask clock_time Subcommand.Report name.now (rows_of (found_of given.now))) }
     ensures faults { IsAnswerFor (faults_given Subcommand.Report (rows_of (found_of given.now))) result }
 {
-    let (source, asked) = both(
+    let (source, (_, asked)) = both(
         source_in(alloc, clock_time, given),
-        report_program::asked_by(alloc, clock_time, name, given),
+        both(
+            lines_alone(alloc, given),
+            report_program::asked_by(alloc, clock_time, name, given),
+        ),
     )?;
     Ok(Task::Report(source, asked))
 }
