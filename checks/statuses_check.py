@@ -63,12 +63,14 @@ def of_report(words):
     if name not in ("week", "sql") and "--case" not in words and "--lines" not in words:
         yield from ((words + " F --case " + case, b"", ABSENT) for case in ("2", "1:25-cv-1"))
         yield words + " F --case 4097", b"", WORDS
-    if name not in ("sql", "memo", "week"):
+    if "--lines" in words:
+        yield from ((words + " F --" + more, b"", WORDS) for more in ("judge Ames", "case 1", "from 2025-03-03", "to 2025-04-01", "judge Ames --case 1"))
+        yield words + " --input sound.txt --case 1", b"", WORDS
+    elif name not in ("sql", "memo", "week"):
         yield words + " F --judge Nobody", b"", ABSENT
         yield words + " F --from 2025-02-29", b"", WORDS
         yield from ((words + " F --today 2025-03-10 --from today --to=" + day, b"", 0) for day in ("tomorrow", "sunday", "+7d", "2025-04-01"))
-        if "--lines" not in words:
-            yield from ((words + " F --today 2025-03-10 --from=" + days, b"", ABSENT) for days in ("today --to=-3d", "2030-03-03", "today --to 2030-03-03"))
+        yield from ((words + " F --today 2025-03-10 --from=" + days, b"", ABSENT) for days in ("today --to=-3d", "2030-03-03", "today --to 2030-03-03"))
         yield from ((words + " F --from=" + day, b"", WORDS) for day in ("Today", "+d", "+7", "7d", "-7h", "+1000000000d", "", "mon"))
         yield words + " F --today today", b"", WORDS
 
@@ -227,7 +229,10 @@ class Place:
         is_as_it_was = [journal.read_bytes() for journal in journals] == before
         if session:
             session.communicate()
+        spare = sorted(str(path.relative_to(folder)) for path in folder.glob("*/journal-wal"))
         shutil.rmtree(folder)
+        if spare:
+            return "it left {}: {}".format(" ".join(spare), ended)
         if ended.status != status:
             return "it ended with {}".format(ended)
         if status not in (0, SOME) and not is_as_it_was and not text.startswith("enter F"):

@@ -9,18 +9,18 @@ use Rattle.desk_journal.proofs.CallerLemmas.{one_list, rest_kept}
 use Rattle.desk_session.proofs.CallerLemmas.{answered, unanswered}
 use Rattle.desk_session.specs.Words.{IsAllOrNone, IsPromised, IsServed, left_by, lines_of, told_to, unfinished_of}
 use Rattle.desk_numbers.specs.declared.said.Said.{Said}
-use Rattle.desk_numbers.specs.declared.strikes.restore.Restore.{Restore}
-use Rattle.desk_numbers.specs.declared.strikes.strike.Strike.{Strike}
-use Rattle.desk_numbers.specs.Strikes.Words.{restore_entry, strike_entry}
 use Rattle.desk_entries.specs.declared.standing.Standing.{Standing}
-use Rattle.desk_entries.specs.Words.{IsDocketed, IsHistory, IsReadyAt, StandsAfter, later_file, restore_for, strike_for}
+use Rattle.desk_entries.specs.Words.{IsDocketed, IsHistory, IsReadyAt, StandsAfter, later_file}
 use Rattle.desk_entries.proofs.CallerLemmas.{left_docketed}
 use Rattle.desk_warnings.specs.Words.{lines_taken}
 use Rattle.desk_warnings.proofs.CallerLemmas.{careful_history, keep_nothing}
 use Rattle.program_streams.specs.declared.watched.Watched.{Watched}
 use Rattle.program_streams.specs.Words.{AppendsFront, IsGiven, has_failed, watched}
 use Rattle.desk_program.specs.declared.desk.Desk.{Desk}
+use Rattle.desk_program.specs.declared.row_correction.RowCorrection.{RowCorrection}
+use Rattle.desk_program.specs.declared.row_correction.RowNote.{RowNote}
 use Rattle.desk_program.specs.Desk.{IsPromisedDocket, KeepsDocket, answers_at, disk_under, docketed_at, held_at, leaves_at, standing_at}
+use Rattle.desk_program.specs.RowCorrection.{note_entry, note_for}
 use Rattle.desk_program.specs.Together.{IsDocketAllOrNone, KeepsTogether, faults_in, stop_of}
 
 -- a writer that was given a text has taken a beginning of it
@@ -140,17 +140,11 @@ pub one_file : (c : List ℕ) (entries : List (List ℕ)) (file entry : List ℕ
 one_file c entries file entry says (inl stands) = inl stands
 one_file c entries file entry says (inr stands) = inr (entry, says, stands)
 
--- or a strike
-pub one_strike : (c : List ℕ) (under : Standing) (entries : List (List ℕ)) (row : ℕ) (strike : Strike) (said : List Said) (remark : List ℕ) → strike_for under entries row ≡ Ok strike → StandsFor c entries ⊎ StandsFor c (entries ++ strike_entry strike said remark ∷ [])
-    → StandsFor c entries ⊎ ((s : Strike) × (strike_for under entries row ≡ Ok s) × StandsFor c (entries ++ strike_entry s said remark ∷ []))
-one_strike c under entries row strike said remark is (inl stands) = inl stands
-one_strike c under entries row strike said remark is (inr stands) = inr (strike, is, stands)
-
--- or a restore
-pub one_restore : (c : List ℕ) (under : Standing) (entries : List (List ℕ)) (row : ℕ) (restore : Restore) (said : List Said) (remark : List ℕ) → restore_for under entries row ≡ Ok restore → StandsFor c entries ⊎ StandsFor c (entries ++ restore_entry restore said remark ∷ [])
-    → StandsFor c entries ⊎ ((r : Restore) × (restore_for under entries row ≡ Ok r) × StandsFor c (entries ++ restore_entry r said remark ∷ []))
-one_restore c under entries row restore said remark is (inl stands) = inl stands
-one_restore c under entries row restore said remark is (inr stands) = inr (restore, is, stands)
+-- what is appended is a strike, or a restore
+pub one_note : (c : List ℕ) (done : RowCorrection) (under : Standing) (entries : List (List ℕ)) (row : ℕ) (note : RowNote) (said : List Said) (remark : List ℕ) → note_for done under entries row ≡ Ok note → StandsFor c entries ⊎ StandsFor c (entries ++ note_entry note said remark ∷ [])
+    → StandsFor c entries ⊎ ((n : RowNote) × (note_for done under entries row ≡ Ok n) × StandsFor c (entries ++ note_entry n said remark ∷ []))
+one_note c done under entries row note said remark is (inl stands) = inl stands
+one_note c done under entries row note said remark is (inr stands) = inr (note, is, stands)
 
 -- what is appended is a docket's first court's file
 pub first_file : (c : List ℕ) (entries batch : List (List ℕ)) (file : List ℕ) → entries ≡ [] → batch ≡ file ∷ [] → StandsFor c [] ⊎ StandsFor c ([] ++ batch)

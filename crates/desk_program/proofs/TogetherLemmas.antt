@@ -9,8 +9,8 @@ use Rattle.desk_session.specs.declared.fault.SessionFault.{SessionFault}
 use Rattle.desk_session.specs.declared.fault.SessionFault.TheVariants as session
 use Rattle.desk_session.specs.Words.{Stopped, StopsBytes}
 use Rattle.std.specs.Prelude.{None, Option, Some}
-use Rattle.desk_program.specs.declared.fault.DeskFault.{DeskFault}
-use Rattle.desk_program.specs.declared.fault.DeskFault.TheVariants.{Faults, Held, OutOfMemory, Refused, Unkept}
+use Rattle.desk_program.specs.declared.faults.together.TogetherFault.{TogetherFault}
+use Rattle.desk_program.specs.declared.faults.together.TogetherFault.TheVariants.{Faults, Held, OutOfMemory, Refused, Unkept}
 use Rattle.desk_program.specs.Together.{SaysWhatIsKept, line_fault_text, line_faults_text, stopped_fault, together_fault}
 
 -- the text of faults, after one more
@@ -37,12 +37,12 @@ some_at_fault faults all is some none = some (no_faults faults (is ∙ none))
 
 -- what faults say is kept, by which they are
 module _ (AsItWas AllKept : Type 0) where
-  pub says_listed : (made : DeskFault) (count : ℕ) → AsItWas → (made ≡ OutOfMemory) ⊎ ((made ≡ Unkept session.Write) ⊎ (made ≡ Faults count)) → SaysWhatIsKept AsItWas AllKept made
+  pub says_listed : (made : TogetherFault) (count : ℕ) → AsItWas → (made ≡ OutOfMemory) ⊎ ((made ≡ Unkept session.Write) ⊎ (made ≡ Faults count)) → SaysWhatIsKept AsItWas AllKept made
   says_listed made count was (inl is) = subst (SaysWhatIsKept AsItWas AllKept) (sym is) tt
   says_listed made count was (inr (inl is)) = subst (SaysWhatIsKept AsItWas AllKept) (sym is) was
   says_listed made count was (inr (inr is)) = subst (SaysWhatIsKept AsItWas AllKept) (sym is) was
 
-  pub says_stopped : (made : DeskFault) (line : Stopped) → AsItWas → (made ≡ OutOfMemory) ⊎ ((made ≡ Unkept session.Write) ⊎ (made ≡ stopped_fault line)) → SaysWhatIsKept AsItWas AllKept made
+  pub says_stopped : (made : TogetherFault) (line : Stopped) → AsItWas → (made ≡ OutOfMemory) ⊎ ((made ≡ Unkept session.Write) ⊎ (made ≡ stopped_fault line)) → SaysWhatIsKept AsItWas AllKept made
   says_stopped made line was (inl is) = subst (SaysWhatIsKept AsItWas AllKept) (sym is) tt
   says_stopped made line was (inr (inl is)) = subst (SaysWhatIsKept AsItWas AllKept) (sym is) was
   says_stopped made line was (inr (inr is)) = subst (SaysWhatIsKept AsItWas AllKept) (sym is) (by line.held)
@@ -60,10 +60,10 @@ module _ (AsItWas AllKept : Type 0) where
   says_unserved failed input session.OutOfMemory why long write = tt
 
 -- a fault that isn't that lines have faults, nor that the list stops at a line
-abbrev pub IsOther : DeskFault → Type 0
+abbrev pub IsOther : TogetherFault → Type 0
 IsOther made = ((count : ℕ) → made ≢ Faults count) × ((number : ℕ) → made ≢ Refused number) × ((number : ℕ) → made ≢ Held number)
 
-pub unserved_other : (ended : SessionFault) (made : DeskFault) → made ≡ together_fault ended → IsOther made
+pub unserved_other : (ended : SessionFault) (made : TogetherFault) → made ≡ together_fault ended → IsOther made
 unserved_other (session.Journal cause) made is = (λ count e. cc (is, e), λ number e. cc (is, e), λ number e. cc (is, e))
 unserved_other session.Read made is = (λ count e. cc (is, e), λ number e. cc (is, e), λ number e. cc (is, e))
 unserved_other session.Write made is = (λ count e. cc (is, e), λ number e. cc (is, e), λ number e. cc (is, e))
@@ -72,13 +72,13 @@ unserved_other session.Unfinished made is = (λ count e. cc (is, e), λ number e
 unserved_other session.OutOfMemory made is = (λ count e. cc (is, e), λ number e. cc (is, e), λ number e. cc (is, e))
 
 -- that lines have faults isn't that the list stops at a line
-pub listed_not_stopped : (made : DeskFault) (count : ℕ) → (made ≡ OutOfMemory) ⊎ ((made ≡ Unkept session.Write) ⊎ (made ≡ Faults count)) → ((number : ℕ) → made ≢ Refused number) × ((number : ℕ) → made ≢ Held number)
+pub listed_not_stopped : (made : TogetherFault) (count : ℕ) → (made ≡ OutOfMemory) ⊎ ((made ≡ Unkept session.Write) ⊎ (made ≡ Faults count)) → ((number : ℕ) → made ≢ Refused number) × ((number : ℕ) → made ≢ Held number)
 listed_not_stopped made count (inl is) = (λ number e. cc (is, e), λ number e. cc (is, e))
 listed_not_stopped made count (inr (inl is)) = (λ number e. cc (is, e), λ number e. cc (is, e))
 listed_not_stopped made count (inr (inr is)) = (λ number e. cc (is, e), λ number e. cc (is, e))
 
 -- and the list stops at a line that is refused, or at one that is held back, as the fault says
-abbrev pub IsStopped : (line : Stopped) → (held : Bool) → (number : ℕ) → (made : DeskFault) → Type 0
+abbrev pub IsStopped : (line : Stopped) → (held : Bool) → (number : ℕ) → (made : TogetherFault) → Type 0
 IsStopped line held number made = (number ≡ line.number) × (held ≡ line.held) × (made ≡ stopped_fault line)
 
 stopped_refused : (line : Stopped) (held : Bool) (number : ℕ) → line.held ≡ held → cond held (Held line.number) (Refused line.number) ≡ Refused number → (number ≡ line.number) × (false ≡ line.held)
@@ -89,17 +89,17 @@ stopped_held : (line : Stopped) (held : Bool) (number : ℕ) → line.held ≡ h
 stopped_held line true number is e = (cc e, sym is)
 stopped_held line false number is e = absurd (cc e)
 
-pub as_refused : (made : DeskFault) (line : Stopped) (number : ℕ) → (made ≡ OutOfMemory) ⊎ ((made ≡ Unkept session.Write) ⊎ (made ≡ stopped_fault line)) → made ≡ Refused number → IsStopped line false number made
+pub as_refused : (made : TogetherFault) (line : Stopped) (number : ℕ) → (made ≡ OutOfMemory) ⊎ ((made ≡ Unkept session.Write) ⊎ (made ≡ stopped_fault line)) → made ≡ Refused number → IsStopped line false number made
 as_refused made line number (inl is) e = absurd (cc (is, e))
 as_refused made line number (inr (inl is)) e = absurd (cc (is, e))
 as_refused made line number (inr (inr is)) e = let (number_is, held_is) = stopped_refused line line.held number refl (sym is ∙ e) in (number_is, held_is, is)
 
-pub as_held : (made : DeskFault) (line : Stopped) (number : ℕ) → (made ≡ OutOfMemory) ⊎ ((made ≡ Unkept session.Write) ⊎ (made ≡ stopped_fault line)) → made ≡ Held number → IsStopped line true number made
+pub as_held : (made : TogetherFault) (line : Stopped) (number : ℕ) → (made ≡ OutOfMemory) ⊎ ((made ≡ Unkept session.Write) ⊎ (made ≡ stopped_fault line)) → made ≡ Held number → IsStopped line true number made
 as_held made line number (inl is) e = absurd (cc (is, e))
 as_held made line number (inr (inl is)) e = absurd (cc (is, e))
 as_held made line number (inr (inr is)) e = let (number_is, held_is) = stopped_held line line.held number refl (sym is ∙ e) in (number_is, held_is, is)
 
-pub stopped_no_faults : (made : DeskFault) (line : Stopped) (count : ℕ) → (made ≡ OutOfMemory) ⊎ ((made ≡ Unkept session.Write) ⊎ (made ≡ stopped_fault line)) → made ≢ Faults count
+pub stopped_no_faults : (made : TogetherFault) (line : Stopped) (count : ℕ) → (made ≡ OutOfMemory) ⊎ ((made ≡ Unkept session.Write) ⊎ (made ≡ stopped_fault line)) → made ≢ Faults count
 stopped_no_faults made line count (inl is) e = cc (is, e)
 stopped_no_faults made line count (inr (inl is)) e = cc (is, e)
 stopped_no_faults made line count (inr (inr is)) e = by line.held (sym is ∙ e)

@@ -14,8 +14,10 @@ use Rattle.desk_warnings.specs.declared.register.HeldBack.{HeldBack}
 use Rattle.desk_warnings.specs.Words.{careful_answers, careful_leaves, careful_outcome}
 use Rattle.program_runs.specs.Words.{court_part}
 use Rattle.desk_program.specs.declared.desk.Desk.{Desk}
-use Rattle.desk_program.specs.declared.fault.DeskFault.{DeskFault}
-use Rattle.desk_program.specs.declared.fault.DeskFault.TheVariants.{BadStrike, Busy, Court, Differs, Divided, Faults, Faulty, File, Foreign, Held, Journal, KeptCourt, LongInput, NoJournal, Other, OutOfMemory, Refused, Session, Taken, Unkept, Unstruck, Write}
+use Rattle.desk_program.specs.declared.faults.court_file.CourtFileFault.{CourtFileFault}
+use Rattle.desk_program.specs.declared.faults.court_file.CourtFileFault.TheVariants as court_file
+use Rattle.desk_program.specs.declared.faults.opening.OpenFault.{OpenFault}
+use Rattle.desk_program.specs.declared.faults.opening.OpenFault.TheVariants as opening
 
 -- the disk under a desk
 abbrev pub disk_under : {D : Type 0} → Desk D → D
@@ -58,14 +60,13 @@ HasNoDocket file fault = (entries : List (List ℕ)) × StandsFor file entries �
 
 -- Why the docket of a file isn't opened: its journal isn't, where the disk may have failed between these two counts of its faults; or
 -- its entries make no docket; or memory ran out.
-abbrev pub IsUnopened : (before after : ℕ) → (file : List ℕ) → DeskFault → Type 0
-IsUnopened before after file (Journal fault) = HasOpenFault before after file fault
-IsUnopened before after file NoJournal = HasNoDocket file history.NoCourt
-IsUnopened before after file (KeptCourt number cause) = HasNoDocket file (history.Court number cause)
-IsUnopened before after file (Other number) = HasNoDocket file (history.Other number)
-IsUnopened before after file (BadStrike number) = HasNoDocket file (history.Strike number)
-IsUnopened before after file OutOfMemory = Unit {0}
-IsUnopened before after file _ = ⊥
+abbrev pub IsUnopened : (before after : ℕ) → (file : List ℕ) → OpenFault → Type 0
+IsUnopened before after file (opening.Journal fault) = HasOpenFault before after file fault
+IsUnopened before after file opening.NoJournal = HasNoDocket file history.NoCourt
+IsUnopened before after file (opening.KeptCourt number cause) = HasNoDocket file (history.Court number cause)
+IsUnopened before after file (opening.Other number) = HasNoDocket file (history.Other number)
+IsUnopened before after file (opening.BadStrike number) = HasNoDocket file (history.Strike number)
+IsUnopened before after file opening.OutOfMemory = Unit {0}
 
 -- What a session promises of a docket, however it ends: what `IsPromised` says of its lines, each of which leaves its row
 -- with its answer, or is held back; and after whatever a crash leaves the same stands, and it is a history if the entries before were,
@@ -75,26 +76,7 @@ pub record IsPromisedDocket (under : Standing) (held : HeldBack) (kept lines : L
   pub opens : (file : List ℕ) → MayLeave file → (entries : List (List ℕ)) × StandsFor file entries × StandsAfter entries under × (IsHistory kept → IsHistory entries)
 
 -- why a file isn't taken as a court's
-abbrev pub HasCourtFault : (file : List ℕ) → DeskFault → Type 0
-HasCourtFault file (Court cause) = court_in file ≡ Err cause
-HasCourtFault file (Divided line) = court_part file ≢ file
-HasCourtFault file OutOfMemory = Unit {0}
-HasCourtFault file Taken = ⊥
-HasCourtFault file NoJournal = ⊥
-HasCourtFault file (KeptCourt number cause) = ⊥
-HasCourtFault file (Other number) = ⊥
-HasCourtFault file (Differs count) = ⊥
-HasCourtFault file (BadStrike number) = ⊥
-HasCourtFault file (Unstruck fault) = ⊥
-HasCourtFault file (Journal fault) = ⊥
-HasCourtFault file (Session fault) = ⊥
-HasCourtFault file (Unkept fault) = ⊥
-HasCourtFault file (Faults count) = ⊥
-HasCourtFault file (Refused line) = ⊥
-HasCourtFault file (Held line) = ⊥
-HasCourtFault file (Faulty tally) = ⊥
-HasCourtFault file LongInput = ⊥
-HasCourtFault file Busy = ⊥
-HasCourtFault file Foreign = ⊥
-HasCourtFault file (File name error) = ⊥
-HasCourtFault file Write = ⊥
+abbrev pub HasCourtFault : (file : List ℕ) → CourtFileFault → Type 0
+HasCourtFault file (court_file.Court cause) = court_in file ≡ Err cause
+HasCourtFault file (court_file.Divided line) = court_part file ≢ file
+HasCourtFault file court_file.OutOfMemory = Unit {0}

@@ -1,4 +1,4 @@
--- The faults of the crates below, as a desk's, and the statuses with which the program ends.
+-- The faults of the crates below, as those of the desk's tasks, and the statuses with which the program ends.
 use Rattle.std.specs.Prelude.{◌≡◌, ℕ, List, String, string_bytes}
 use Rattle.std.specs.declared.alloc.Global.{Global}
 use Rattle.std.specs.declared.io.Error.{Error}
@@ -9,33 +9,61 @@ use Rattle.desk_session.specs.declared.fault.SessionFault.{SessionFault}
 use Rattle.desk_session.specs.declared.fault.SessionFault.TheVariants as session
 use Rattle.desk_entries.specs.declared.fault.HistoryFault.{HistoryFault}
 use Rattle.desk_entries.specs.declared.fault.HistoryFault.TheVariants as history
-use Rattle.desk_program.specs.declared.fault.DeskFault.{DeskFault}
-use Rattle.desk_program.specs.declared.fault.DeskFault.TheVariants.{BadStrike, Busy, Court, Differs, Divided, Faults, Faulty, File, Foreign, Held, Journal, KeptCourt, LongInput, NoJournal, Other, OutOfMemory, Refused, Session, Taken, Unkept, Unstruck, Write}
+use Rattle.desk_program.specs.declared.faults.beginning.BeginFault.{BeginFault}
+use Rattle.desk_program.specs.declared.faults.beginning.BeginFault.TheVariants as beginning
+use Rattle.desk_program.specs.declared.faults.correcting.CorrectionFault.{CorrectionFault}
+use Rattle.desk_program.specs.declared.faults.correcting.CorrectionFault.TheVariants as correction
+use Rattle.desk_program.specs.declared.faults.correcting.StrikingFault.{StrikingFault}
+use Rattle.desk_program.specs.declared.faults.correcting.StrikingFault.TheVariants as striking
+use Rattle.desk_program.specs.declared.faults.court_file.CourtFileFault.{CourtFileFault}
+use Rattle.desk_program.specs.declared.faults.court_file.CourtFileFault.TheVariants as court_file
+use Rattle.desk_program.specs.declared.faults.desk.DeskFault.{DeskFault}
+use Rattle.desk_program.specs.declared.faults.desk.DeskFault.TheVariants as desk
+use Rattle.desk_program.specs.declared.faults.file.FileFault.{FileFault}
+use Rattle.desk_program.specs.declared.faults.file.FileFault.TheVariants as file
+use Rattle.desk_program.specs.declared.faults.opening.OpenFault.{OpenFault}
+use Rattle.desk_program.specs.declared.faults.opening.OpenFault.TheVariants as opening
+use Rattle.desk_program.specs.declared.faults.output.OutputFault.{OutputFault}
+use Rattle.desk_program.specs.declared.faults.output.OutputFault.TheVariants as output
+use Rattle.desk_program.specs.declared.faults.together.TogetherFault.{TogetherFault}
+use Rattle.desk_program.specs.declared.faults.together.TogetherFault.TheVariants as together
 
-abbrev pub journal_fault : JournalFault → DeskFault
-journal_fault (journal.Damaged number) = Journal (journal.Damaged number)
-journal_fault journal.Older = Journal journal.Older
-journal_fault journal.Full = Journal journal.Full
-journal_fault journal.NoEntries = NoJournal
-journal_fault journal.Taken = Taken
-journal_fault journal.Changed = Journal journal.Changed
-journal_fault journal.Read = Journal journal.Read
-journal_fault journal.Write = Journal journal.Write
-journal_fault journal.Sync = Journal journal.Sync
-journal_fault journal.OutOfMemory = OutOfMemory
+-- why a docket isn't opened, where its journal isn't
+abbrev pub unopened_journal : JournalFault → OpenFault
+unopened_journal journal.NoEntries = opening.NoJournal
+unopened_journal journal.OutOfMemory = opening.OutOfMemory
+unopened_journal fault = opening.Journal fault
 
-abbrev pub history_fault : HistoryFault → DeskFault
-history_fault history.NoCourt = NoJournal
-history_fault (history.Court number cause) = KeptCourt number cause
-history_fault (history.Other number) = Other number
-history_fault (history.Strike number) = BadStrike number
-history_fault history.OutOfMemory = OutOfMemory
+-- and where its entries make none
+abbrev pub history_fault : HistoryFault → OpenFault
+history_fault history.NoCourt = opening.NoJournal
+history_fault (history.Court number cause) = opening.KeptCourt number cause
+history_fault (history.Other number) = opening.Other number
+history_fault (history.Strike number) = opening.BadStrike number
+history_fault history.OutOfMemory = opening.OutOfMemory
+
+-- why a docket isn't begun, where its journal isn't
+abbrev pub unbegun_journal : JournalFault → BeginFault
+unbegun_journal journal.Taken = beginning.Taken
+unbegun_journal journal.OutOfMemory = beginning.OutOfMemory
+unbegun_journal fault = beginning.Journal fault
+
+-- why a correction isn't taken, where the journal isn't written
+abbrev pub untaken_journal : JournalFault → CorrectionFault
+untaken_journal journal.OutOfMemory = correction.OutOfMemory
+untaken_journal fault = correction.Journal fault
 
 -- the fault has the file's name and the error of the call on it
-abbrev pub IsNamed : (name : List ℕ) → Error → DeskFault → Type 0
-IsNamed name error fault = (held : String Global) × (string_bytes held ≡ name) × (fault ≡ File held error)
+abbrev pub IsNamed : (name : List ℕ) → Error → FileFault → Type 0
+IsNamed name error fault = (held : String Global) × (string_bytes held ≡ name) × (fault ≡ file.Named held error)
 
--- the status of a session that ended early: 4 for its input and output, 5 for want of memory, 10 for the journal
+-- The statuses: 2 for a court's file, 3 for rows, and for one that can't be struck, 4 for files and streams, 5 for want of memory, 7 for a
+-- correction that isn't taken since answers would differ, 8 for rows that had faults or were held back among others that were taken, 10 for
+-- the journal.
+abbrev pub journal_status : JournalFault → ℕ
+journal_status journal.OutOfMemory = 5
+journal_status _ = 10
+
 abbrev pub session_status : SessionFault → ℕ
 session_status (session.Journal fault) = 10
 session_status session.Read = 4
@@ -44,31 +72,66 @@ session_status session.LongLine = 4
 session_status session.Unfinished = 4
 session_status session.OutOfMemory = 5
 
--- the status of a fault: 2 for the court's file, 3 for rows, and for one that can't be struck, 4 for files and streams, 5 for want of memory,
--- 7 for a court's file or a strike that isn't taken since answers would differ, 8 for rows that had faults or were held back among others
--- that were taken, 10 for the journal
+abbrev pub court_file_status : CourtFileFault → ℕ
+court_file_status (court_file.Court court.OutOfMemory) = 5
+court_file_status (court_file.Court _) = 2
+court_file_status (court_file.Divided line) = 2
+court_file_status court_file.OutOfMemory = 5
+
+abbrev pub open_status : OpenFault → ℕ
+open_status opening.NoJournal = 10
+open_status (opening.KeptCourt number cause) = 10
+open_status (opening.Other number) = 10
+open_status (opening.BadStrike number) = 10
+open_status (opening.Journal fault) = journal_status fault
+open_status opening.OutOfMemory = 5
+
+abbrev pub begin_status : BeginFault → ℕ
+begin_status (beginning.CourtFile fault) = court_file_status fault
+begin_status beginning.Taken = 10
+begin_status (beginning.Journal fault) = journal_status fault
+begin_status beginning.OutOfMemory = 5
+
+abbrev pub correction_status : CorrectionFault → ℕ
+correction_status (correction.CourtFile fault) = court_file_status fault
+correction_status (correction.Differs count) = 7
+correction_status (correction.Journal fault) = journal_status fault
+correction_status correction.Write = 4
+correction_status correction.OutOfMemory = 5
+
+abbrev pub striking_status : StrikingFault → ℕ
+striking_status (striking.Unstruck fault) = 3
+striking_status (striking.Untaken fault) = correction_status fault
+
+abbrev pub together_status : TogetherFault → ℕ
+together_status (together.Faults count) = 3
+together_status (together.Refused line) = 3
+together_status (together.Held line) = 3
+together_status (together.Session fault) = session_status fault
+together_status (together.Unkept fault) = session_status fault
+together_status together.OutOfMemory = 5
+
+abbrev pub file_status : FileFault → ℕ
+file_status file.Busy = 10
+file_status file.Foreign = 10
+file_status (file.Named name error) = 4
+file_status file.OutOfMemory = 5
+
+abbrev pub output_status : OutputFault → ℕ
+output_status output.Write = 4
+output_status output.OutOfMemory = 5
+
 abbrev pub desk_status : DeskFault → ℕ
-desk_status (Court court.OutOfMemory) = 5
-desk_status (Court _) = 2
-desk_status (Divided line) = 2
-desk_status Taken = 10
-desk_status NoJournal = 10
-desk_status (KeptCourt number cause) = 10
-desk_status (Other number) = 10
-desk_status (BadStrike number) = 10
-desk_status (Differs count) = 7
-desk_status (Unstruck fault) = 3
-desk_status (Journal journal.OutOfMemory) = 5
-desk_status (Journal _) = 10
-desk_status (Session fault) = session_status fault
-desk_status (Unkept fault) = session_status fault
-desk_status (Faults count) = 3
-desk_status (Refused line) = 3
-desk_status (Held line) = 3
-desk_status (Faulty tally) = 8
-desk_status LongInput = 4
-desk_status Busy = 10
-desk_status Foreign = 10
-desk_status (File name error) = 4
-desk_status Write = 4
-desk_status OutOfMemory = 5
+desk_status (desk.Open fault) = open_status fault
+desk_status (desk.CourtFile fault) = court_file_status fault
+desk_status (desk.Begin fault) = begin_status fault
+desk_status (desk.Striking fault) = striking_status fault
+desk_status (desk.Change fault) = correction_status fault
+desk_status (desk.Together fault) = together_status fault
+desk_status (desk.Session fault) = session_status fault
+desk_status (desk.Unkept fault) = session_status fault
+desk_status (desk.Faulty tally) = 8
+desk_status desk.LongInput = 4
+desk_status (desk.File fault) = file_status fault
+desk_status (desk.Output fault) = output_status fault
+desk_status desk.OutOfMemory = 5

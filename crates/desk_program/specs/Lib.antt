@@ -11,11 +11,10 @@ pub mod Faults
 pub mod Log
 pub mod LogJson
 pub mod LogText
-pub mod Restore
 pub mod RowCase
+pub mod RowCorrection
 pub mod Rows
 pub mod Shown
-pub mod Strike
 pub mod Struck
 pub mod Together
 pub mod Trial

@@ -11,8 +11,8 @@ use Rattle.desk_entries.specs.declared.standing.Standing.{Standing}
 use Rattle.desk_entries.specs.Words.{FaultyLine, IsHistory, StandsAfter, faults_of, line_cause_text}
 use Rattle.desk_warnings.specs.declared.register.HeldBack.{HeldBack}
 use Rattle.desk_warnings.specs.Words.{are_marked, careful_answers, careful_leaves, careful_outcome}
-use Rattle.desk_program.specs.declared.fault.DeskFault.{DeskFault}
-use Rattle.desk_program.specs.declared.fault.DeskFault.TheVariants as desk
+use Rattle.desk_program.specs.declared.faults.together.TogetherFault.{TogetherFault}
+use Rattle.desk_program.specs.declared.faults.together.TogetherFault.TheVariants as together
 use Rattle.desk_program.specs.FaultWords.{cause_words}
 
 -- what is written of a line that has a fault: its number, the fault, and in words what was found and what is expected
@@ -27,8 +27,8 @@ abbrev pub stopped_text : Stopped → List ℕ
 stopped_text line = codes "line " ++ decimal line.number ++ codes " would be answered: " ++ line.answer
 
 -- why the list stops at a line, as the desk says it
-abbrev pub stopped_fault : Stopped → DeskFault
-stopped_fault line = if line.held then desk.Held line.number else desk.Refused line.number
+abbrev pub stopped_fault : Stopped → TogetherFault
+stopped_fault line = if line.held then together.Held line.number else together.Refused line.number
 
 -- the faults of an input's lines, each without its mark where lines may be marked
 abbrev pub faults_in : Standing → HeldBack → (kept : List (List ℕ)) → (input : List ℕ) → List FaultyLine
@@ -75,13 +75,13 @@ pub record IsDocketAllOrNone (under : Standing) (held : HeldBack) (kept lines : 
   pub opens : (file : List ℕ) → MayLeave file → (entries : List (List ℕ)) × StandsFor file entries × StandsAfter entries under × (IsHistory kept → IsHistory entries)
 
 -- why rows that came together aren't served, as the desk says it: of a line that is too long it is said that nothing is kept
-abbrev pub together_fault : SessionFault → DeskFault
-together_fault (session.Journal cause) = desk.Session (session.Journal cause)
-together_fault session.Read = desk.Session session.Read
-together_fault session.Write = desk.Session session.Write
-together_fault session.LongLine = desk.Unkept session.LongLine
-together_fault session.Unfinished = desk.Session session.Unfinished
-together_fault session.OutOfMemory = desk.Session session.OutOfMemory
+abbrev pub together_fault : SessionFault → TogetherFault
+together_fault (session.Journal cause) = together.Session (session.Journal cause)
+together_fault session.Read = together.Session session.Read
+together_fault session.Write = together.Session session.Write
+together_fault session.LongLine = together.Unkept session.LongLine
+together_fault session.Unfinished = together.Session session.Unfinished
+together_fault session.OutOfMemory = together.Session session.OutOfMemory
 
 -- What the words of a fault say is kept is so. Where the answers can't be written, all rows are kept; where the journal can't be
 -- written or memory ran out, nothing is said; and otherwise the disk is as it was.
@@ -93,26 +93,10 @@ SaysOfSession IsAsItWas AreAllKept session.LongLine = IsAsItWas
 SaysOfSession IsAsItWas AreAllKept session.Unfinished = IsAsItWas
 SaysOfSession IsAsItWas AreAllKept session.OutOfMemory = Unit {0}
 
-abbrev pub SaysWhatIsKept : (IsAsItWas AreAllKept : Type 0) → DeskFault → Type 0
-SaysWhatIsKept IsAsItWas AreAllKept (desk.Session ended) = SaysOfSession IsAsItWas AreAllKept ended
-SaysWhatIsKept IsAsItWas AreAllKept desk.OutOfMemory = Unit {0}
-SaysWhatIsKept IsAsItWas AreAllKept (desk.Faults count) = IsAsItWas
-SaysWhatIsKept IsAsItWas AreAllKept (desk.Refused line) = IsAsItWas
-SaysWhatIsKept IsAsItWas AreAllKept (desk.Held line) = IsAsItWas
-SaysWhatIsKept IsAsItWas AreAllKept (desk.Unkept ended) = IsAsItWas
-SaysWhatIsKept IsAsItWas AreAllKept (desk.Faulty tally) = IsAsItWas
-SaysWhatIsKept IsAsItWas AreAllKept desk.LongInput = IsAsItWas
-SaysWhatIsKept IsAsItWas AreAllKept desk.Write = IsAsItWas
-SaysWhatIsKept IsAsItWas AreAllKept (desk.Court cause) = IsAsItWas
-SaysWhatIsKept IsAsItWas AreAllKept (desk.Divided line) = IsAsItWas
-SaysWhatIsKept IsAsItWas AreAllKept desk.Taken = IsAsItWas
-SaysWhatIsKept IsAsItWas AreAllKept desk.NoJournal = IsAsItWas
-SaysWhatIsKept IsAsItWas AreAllKept (desk.KeptCourt number cause) = IsAsItWas
-SaysWhatIsKept IsAsItWas AreAllKept (desk.Other number) = IsAsItWas
-SaysWhatIsKept IsAsItWas AreAllKept (desk.BadStrike number) = IsAsItWas
-SaysWhatIsKept IsAsItWas AreAllKept (desk.Differs count) = IsAsItWas
-SaysWhatIsKept IsAsItWas AreAllKept (desk.Unstruck cause) = IsAsItWas
-SaysWhatIsKept IsAsItWas AreAllKept (desk.Journal cause) = IsAsItWas
-SaysWhatIsKept IsAsItWas AreAllKept desk.Busy = IsAsItWas
-SaysWhatIsKept IsAsItWas AreAllKept desk.Foreign = IsAsItWas
-SaysWhatIsKept IsAsItWas AreAllKept (desk.File name error) = IsAsItWas
+abbrev pub SaysWhatIsKept : (IsAsItWas AreAllKept : Type 0) → TogetherFault → Type 0
+SaysWhatIsKept IsAsItWas AreAllKept (together.Session ended) = SaysOfSession IsAsItWas AreAllKept ended
+SaysWhatIsKept IsAsItWas AreAllKept together.OutOfMemory = Unit {0}
+SaysWhatIsKept IsAsItWas AreAllKept (together.Faults count) = IsAsItWas
+SaysWhatIsKept IsAsItWas AreAllKept (together.Refused line) = IsAsItWas
+SaysWhatIsKept IsAsItWas AreAllKept (together.Held line) = IsAsItWas
+SaysWhatIsKept IsAsItWas AreAllKept (together.Unkept ended) = IsAsItWas

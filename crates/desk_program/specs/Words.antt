@@ -1,5 +1,5 @@
 -- The words for the crates above, from one place.
-pub use Rattle.desk_program.specs.Inside.Ask.{AnswersInPart, AnswersQuestions, EndsUnkept}
+pub use Rattle.desk_program.specs.Inside.Ask.{AnswersInPart, AnswersQuestions}
 pub use Rattle.desk_program.specs.AsOf.{HadCome, IsKeptAt, WhatComesLaterChangesNothing}
 pub use Rattle.desk_program.specs.Cases.{cases_text}
 pub use Rattle.desk_program.specs.Change.{IsChanged, RefusesFile, TakesFile}
@@ -9,10 +9,9 @@ pub use Rattle.desk_program.specs.Correction.{IsListed, IsOnlyListed, correction
 pub use Rattle.desk_program.specs.Desk.{HasNoDocket, IsPromisedDocket, IsUnopened, KeepsDocket, answers_at, disk_under, held_at, leaves_at, outcome_at, stamp_under, standing_at}
 pub use Rattle.desk_program.specs.Faults.{desk_status}
 pub use Rattle.desk_program.specs.Log.{log_text}
-pub use Rattle.desk_program.specs.Restore.{IsRestored, RefusesRestore, RestoresRow}
+pub use Rattle.desk_program.specs.RowCorrection.{CorrectsRow, IsCorrected, LeavesRow}
 pub use Rattle.desk_program.specs.Rows.{written_rows}
 pub use Rattle.desk_program.specs.Shown.{lines_shown}
-pub use Rattle.desk_program.specs.Strike.{IsStruck, RefusesStrike, StrikesRow}
 pub use Rattle.desk_program.specs.Struck.{struck_text}
 pub use Rattle.desk_program.specs.Together.{IsAtFault, IsDocketAllOrNone, KeepsTogether, RefusesLines, SaysWhatIsKept, StopsList, faults_in, line_faults_text, stop_of, stopped_text}
 pub use Rattle.desk_program.specs.Trial.{IsTried, IsTriedInPart}

@@ -1,13 +1,12 @@
 //! Questions on a docket that is only read.
 ghost use Rattle.std.specs.Prelude.{ℕ, List, ◌≡◌, [], false, IfErr, IfOk, IfSome, OnOk};
-ghost use Rattle.desk_session.specs.Words.{AfterBytes, lines_of, unfinished_of};
+ghost use Rattle.desk_session.specs.Words.{AfterBytes, EndsSession, lines_of, unfinished_of};
 ghost use Rattle.desk_entries.specs.Words.{IsDocketed};
 ghost use Rattle.program_streams.specs.Words.{has_failed, watched};
-ghost use Rattle.desk_program.specs.Inside.Ask.{AnswersInPart, AnswersQuestions, EndsUnkept};
+ghost use Rattle.desk_program.specs.Inside.Ask.{AnswersInPart, AnswersQuestions};
 
-use crate::fault::DeskFault;
 use desk_entries::{Docketed, Questions};
-use desk_session::{Tally, answer};
+use desk_session::{SessionFault, Tally, answer};
 use program_streams::Watched;
 use std::alloc::Global;
 use std::io::{Read, Write};
@@ -20,7 +19,7 @@ pub fn ask<R: Read, W: Write>(
     docketed: Docketed,
     reader: &mut Watched<R>,
     writer: &mut Watched<W>,
-) -> Result<Tally, DeskFault>
+) -> Result<Tally, SessionFault>
     requires writer_works { has_failed writer.old ≡ false }
     ensures answered { (entries : List (List ℕ)) → IsDocketed docketed entries → IfOk result (λ tally. IfSome (R.remaining (watched reader.old)) (λ input.
         AnswersQuestions entries (lines_of input) tally (W.contents (watched writer.old)) (W.contents (watched writer.new)))) }
@@ -28,12 +27,9 @@ pub fn ask<R: Read, W: Write>(
         AfterBytes (R.remaining (watched reader.old)) (R.remaining (watched reader.new)) (λ bytes.
         AnswersInPart entries (lines_of bytes) (W.contents (watched writer.old)) (W.contents (watched writer.new))) }
     ensures finished { OnOk result (IfSome (R.remaining (watched reader.old)) (λ input. unfinished_of input ≡ [])) }
-    ensures fault { IfErr result (λ fault. AfterBytes (R.remaining (watched reader.old)) (R.remaining (watched reader.new)) (λ bytes. EndsUnkept reader.new writer.new bytes fault)) }
+    ensures fault { IfErr result (λ fault. AfterBytes (R.remaining (watched reader.old)) (R.remaining (watched reader.new)) (λ bytes. EndsSession reader.new writer.new bytes fault)) }
 {
     let Docketed { standing, register } = docketed;
     let mut questions = Questions { register };
-    match answer(&standing, alloc, &mut questions, reader, writer) {
-        Ok(tally) => Ok(tally),
-        Err(fault) => Err(DeskFault::Unkept(fault)),
-    }
+    answer(&standing, alloc, &mut questions, reader, writer)
 }

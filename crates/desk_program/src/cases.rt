@@ -4,7 +4,7 @@ ghost use Rattle.std.specs.Io.KnownBytes.{Appends};
 ghost use Rattle.program_streams.specs.Words.{has_failed, watched};
 ghost use Rattle.desk_program.specs.Cases.{case_line, cases_text};
 
-use crate::fault::DeskFault;
+use crate::faults::OutputFault;
 use case_numbers::{Cases, NamedCase};
 use program_streams::{Watched, write_all};
 use std::alloc::{AllocError, Global};
@@ -36,14 +36,14 @@ pub fn write_cases<W: Write>(
     alloc: Global,
     cases: &Cases,
     writer: &mut Watched<W>,
-) -> Result<(), DeskFault>
+) -> Result<(), OutputFault>
     requires works { has_failed writer.old ≡ false }
     ensures written { OnOk result (Appends (W.contents (watched writer.old)) (W.contents (watched writer.new)) (cases_text cases.now.named)) }
 {
     let mut text = String::new(alloc);
     push_cases(&mut text, cases.named())?;
     if write_all(writer, text.as_bytes()).is_err() {
-        return Err(DeskFault::Write);
+        return Err(OutputFault::Write);
     }
     Ok(())
 }

@@ -1,6 +1,5 @@
 //! Another court's file for a docket.
-ghost use Rattle.std.specs.Prelude.{◌≡◌, ◌≢◌, ◌≤◌, ◌<◌, ◌⊎◌, ◌++◌, ◌∷◌, [], ℕ, List, length, false, Err, Some, IfOk, OnOk};
-ghost use Rattle.desk_entries.specs.declared.fault.StrikeFault.{StrikeFault as StrikeFaultOf};
+ghost use Rattle.std.specs.Prelude.{◌≡◌, ◌≤◌, ◌<◌, ◌⊎◌, ◌++◌, ◌∷◌, [], ℕ, List, length, false, Err, Some, IfOk, OnOk};
 ghost use Rattle.desk_journal.specs.Words.{StandsFor, batch_of};
 ghost use Rattle.desk_entries.specs.Words.{IsHistory, SaysCourt, SaysNumbers, StandsAt, corrections_then, later_file, most_entries};
 ghost use Rattle.program_streams.specs.Words.{has_failed, watched};
@@ -9,7 +8,7 @@ use crate::correction::reviewed;
 use crate::court::court_of;
 use crate::desk::Desk;
 use crate::entry_kind::EntryKind;
-use crate::fault::DeskFault;
+use crate::faults::{CorrectionFault, CourtFileFault};
 use desk_entries::{DocketRegister, MOST_ENTRIES, Standing, court_entry};
 use desk_journal::JournalFault;
 use program_streams::Watched;
@@ -28,14 +27,12 @@ impl<D: Disk> Desk<D> {
         standing: Standing,
         register: DocketRegister,
         file: &[u8],
-    ) -> Result<(), DeskFault>
+    ) -> Result<(), JournalFault>
         ensures kept { (entries : List (List ℕ)) → KeepsDocket D.Disk entries self.old → SaysCourt file.now standing.court → standing.corrections ≡ corrections_then (standing_at self.old) entries (standing_at self.old).corrections.struck → StandsAt standing register entries → length entries < most_entries
             → OnOk result ((entry : List ℕ) × (later_file entry ≡ Some file.now) × SaysNumbers (standing_at self.old) entries entry × KeepsDocket D.Disk (entries ++ entry ∷ []) self.new
             × (IsHistory entries → IsHistory (entries ++ entry ∷ []))) }
         ensures crash { (entries : List (List ℕ)) → KeepsDocket D.Disk entries self.old → (c : List ℕ) → D.Disk.may_leave (disk_under self.new) c
             → StandsFor c entries ⊎ ((entry : List ℕ) × (later_file entry ≡ Some file.now) × StandsFor c (entries ++ entry ∷ [])) }
-        ensures fault { (count : ℕ) → result ≢ Err (DeskFault.Differs count) }
-        ensures unstruck { (fault : StrikeFaultOf) → result ≢ Err (DeskFault.Unstruck fault) }
     {
         let said = self.careful.register.unsaid(alloc, &self.setup.standing)?;
         let entry = court_entry(alloc, &said, file)?;
@@ -43,11 +40,9 @@ impl<D: Disk> Desk<D> {
     }
 
     // What would stand by a court's file.
-    pub(crate) fn standing_by(&self, alloc: Global, file: &[u8]) -> Result<Standing, DeskFault>
+    pub(crate) fn standing_by(&self, alloc: Global, file: &[u8]) -> Result<Standing, CourtFileFault>
         ensures court { IfOk result (λ standing. SaysCourt file.now standing.court) }
         ensures corrections { (entries : List (List ℕ)) → KeepsDocket D.Disk entries self.now → IfOk result (λ standing. standing.corrections ≡ corrections_then (standing_at self.now) entries (standing_at self.now).corrections.struck) }
-        ensures fault { (count : ℕ) → result ≢ Err (DeskFault.Differs count) }
-        ensures unstruck { (fault : StrikeFaultOf) → result ≢ Err (DeskFault.Unstruck fault) }
     {
         let corrections = self
             .careful
@@ -68,23 +63,23 @@ impl<D: Disk> Desk<D> {
         file: &[u8],
         accept: bool,
         writer: &mut Watched<W>,
-    ) -> Result<(), DeskFault>
+    ) -> Result<(), CorrectionFault>
         requires some { 0 < length entries.now }
         requires few { length entries.now ≤ most_entries }
         requires writer_works { has_failed writer.old ≡ false }
         ensures taken { KeepsDocket D.Disk (batch_of entries.now) self.old → OnOk result
             (TakesFile (standing_at self.old) (batch_of entries.now) file.now accept (W.contents (watched writer.old)) (W.contents (watched writer.new)) (λ kept. KeepsDocket D.Disk kept self.new)) }
-        ensures refused { (count : ℕ) → KeepsDocket D.Disk (batch_of entries.now) self.old → result ≡ Err (DeskFault.Differs count)
+        ensures refused { (count : ℕ) → KeepsDocket D.Disk (batch_of entries.now) self.old → result ≡ Err (CorrectionFault.Differs count)
             → RefusesFile (standing_at self.old) (batch_of entries.now) file.now count (W.contents (watched writer.old)) (W.contents (watched writer.new)) × (self.new ≡ self.old) }
         ensures crash { KeepsDocket D.Disk (batch_of entries.now) self.old → (c : List ℕ) → D.Disk.may_leave (disk_under self.new) c
             → StandsFor c (batch_of entries.now) ⊎ ((entry : List ℕ) × (later_file entry ≡ Some file.now) × StandsFor c (batch_of entries.now ++ entry ∷ [])) }
     {
         if entries.len() >= MOST_ENTRIES as usize {
-            return Err(DeskFault::Journal(JournalFault::Full));
+            return Err(CorrectionFault::Journal(JournalFault::Full));
         }
         let standing = match self.standing_by(alloc, file) {
             Ok(standing) => standing,
-            Err(fault) => return Err(fault),
+            Err(fault) => return Err(CorrectionFault::CourtFile(fault)),
         };
         let now = &self.setup.standing;
         match reviewed(
@@ -96,7 +91,10 @@ impl<D: Disk> Desk<D> {
             accept,
             writer,
         ) {
-            Ok(register) => self.take_file(alloc, standing, register, file),
+            Ok(register) => match self.take_file(alloc, standing, register, file) {
+                Ok(()) => Ok(()),
+                Err(fault) => Err(CorrectionFault::from(fault)),
+            },
             Err(fault) => Err(fault),
         }
     }

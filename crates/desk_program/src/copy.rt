@@ -3,7 +3,7 @@ ghost use Rattle.std.specs.Prelude.{◌≡◌, [], ℕ, List, IsTrue, IfErr, IfO
 ghost use Rattle.desk_journal.specs.Words.{IsDurable, IsWhole, StandsFor};
 
 use crate::desk::Desk;
-use crate::fault::DeskFault;
+use crate::faults::OpenFault;
 use desk_journal::Stamp;
 use sqlite_disk::Disk;
 use std::alloc::Global;
@@ -26,7 +26,7 @@ impl<D: Disk> Desk<D> {
 
     /// Opens the docket of a journal's file on a copy of it, which goes to an empty disk. The file itself is only read. A disk
     /// in memory fails only for want of memory, so where the copy can't be written that is the fault.
-    pub fn copied(alloc: Global, mut disk: D, file: &[u8]) -> Result<Desk<D>, (DeskFault, D)>
+    pub fn copied(alloc: Global, mut disk: D, file: &[u8]) -> Result<Desk<D>, (OpenFault, D)>
         requires usable { IsTrue (D.Disk.is_usable disk) }
         requires empty { D.Disk.seen disk ≡ [] }
         ensures opened { IfOk result (λ desk. IsTrue (D.Disk.is_clean (disk_under desk))
@@ -36,7 +36,7 @@ impl<D: Disk> Desk<D> {
     {
         match write_copy(&mut disk, file) {
             Ok(()) => {}
-            Err(_) => return Err((DeskFault::OutOfMemory, disk)),
+            Err(_) => return Err((OpenFault::OutOfMemory, disk)),
         }
         let nobody = Stamp::new(0, Vec::new(alloc));
         match Desk::open(alloc, disk, nobody) {

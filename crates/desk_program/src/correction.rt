@@ -5,7 +5,6 @@ ghost use Rattle.docket_rows.specs.Words.{setup_of};
 ghost use Rattle.office_texts.specs.Run.Words.{Holds};
 ghost use Rattle.docket_shifts.specs.Words.{rows_shown, shifts};
 ghost use Rattle.desk_journal.specs.Words.{batch_of};
-ghost use Rattle.desk_entries.specs.declared.fault.StrikeFault.{StrikeFault as StrikeFaultOf};
 ghost use Rattle.desk_entries.specs.Words.{StandsAt, docketed_by, most_entries};
 ghost use Rattle.program_streams.specs.Words.{has_failed, watched};
 ghost use Rattle.desk_program.specs.Changed.{changes_between};
@@ -14,7 +13,7 @@ ghost use Rattle.desk_program.specs.Correction.{IsListed, IsOnlyListed, correcti
 
 use crate::changed_text::push_changed;
 use crate::entry_kind::EntryKind;
-use crate::fault::DeskFault;
+use crate::faults::CorrectionFault;
 use crate::log_text::{kind_text, push_indented};
 use desk_entries::{DocketRegister, Review, Standing, decided_again, entry_at};
 use docket_shifts::{Compared, push_shifts};
@@ -127,19 +126,18 @@ fn write_listing<W: Write>(
     count: usize,
     accept: bool,
     writer: &mut Watched<W>,
-) -> Result<(), DeskFault>
+) -> Result<(), CorrectionFault>
     requires { has_failed writer.old ≡ false }
     ensures written { OnOk result (Appends (W.contents (watched writer.old)) (W.contents (watched writer.new)) text.now) }
     ensures without_leave { accept ≡ false → OnOk result (count ≡ 0) }
-    ensures differs { (rows : ℕ) → result ≡ Err (DeskFault.Differs rows) → (rows ≡ count) × (count ≢ 0)
+    ensures differs { (rows : ℕ) → result ≡ Err (CorrectionFault.Differs rows) → (rows ≡ count) × (count ≢ 0)
         × Appends (W.contents (watched writer.old)) (W.contents (watched writer.new)) text.now }
-    ensures unstruck { (fault : StrikeFaultOf) → result ≢ Err (DeskFault.Unstruck fault) }
 {
     if write_all(writer, text).is_err() {
-        return Err(DeskFault::Write);
+        return Err(CorrectionFault::Write);
     }
     if !accept && count != 0 {
-        return Err(DeskFault::Differs(count));
+        return Err(CorrectionFault::Differs(count));
     }
     Ok(())
 }
@@ -172,18 +170,17 @@ fn list<W: Write>(
     kind: EntryKind,
     accept: bool,
     writer: &mut Watched<W>,
-) -> Result<(), DeskFault>
+) -> Result<(), CorrectionFault>
     requires some { 0 < length entries.now }
     requires few { length entries.now ≤ most_entries }
     requires writer_works { has_failed writer.old ≡ false }
     ensures listed { IsReview after.now (batch_of entries.now) review.now → OnOk result (IsListed now.now after.now (batch_of entries.now) kind accept (W.contents (watched writer.old)) (W.contents (watched writer.new))) }
     ensures differs { (count : ℕ) → IsReview after.now (batch_of entries.now) review.now
-        → result ≡ Err (DeskFault.Differs count) → IsOnlyListed now.now after.now (batch_of entries.now) kind count (W.contents (watched writer.old)) (W.contents (watched writer.new)) }
-    ensures unstruck { (fault : StrikeFaultOf) → result ≢ Err (DeskFault.Unstruck fault) }
+        → result ≡ Err (CorrectionFault.Differs count) → IsOnlyListed now.now after.now (batch_of entries.now) kind count (W.contents (watched writer.old)) (W.contents (watched writer.new)) }
 {
     match listed_after(alloc, now, after, review, entries, kind) {
         Ok(Listing { text, count }) => write_listing(&text, count, accept, writer),
-        Err(_) => Err(DeskFault::OutOfMemory),
+        Err(_) => Err(CorrectionFault::OutOfMemory),
     }
 }
 
@@ -197,18 +194,17 @@ pub(crate) fn reviewed<W: Write>(
     kind: EntryKind,
     accept: bool,
     writer: &mut Watched<W>,
-) -> Result<DocketRegister, DeskFault>
+) -> Result<DocketRegister, CorrectionFault>
     requires some { 0 < length entries.now }
     requires few { length entries.now ≤ most_entries }
     requires writer_works { has_failed writer.old ≡ false }
     ensures stands { IfOk result (λ register. StandsAt after.now register (batch_of entries.now)) }
     ensures listed { OnOk result (IsListed now.now after.now (batch_of entries.now) kind accept (W.contents (watched writer.old)) (W.contents (watched writer.new))) }
-    ensures differs { (count : ℕ) → result ≡ Err (DeskFault.Differs count) → IsOnlyListed now.now after.now (batch_of entries.now) kind count (W.contents (watched writer.old)) (W.contents (watched writer.new)) }
-    ensures unstruck { (fault : StrikeFaultOf) → result ≢ Err (DeskFault.Unstruck fault) }
+    ensures differs { (count : ℕ) → result ≡ Err (CorrectionFault.Differs count) → IsOnlyListed now.now after.now (batch_of entries.now) kind count (W.contents (watched writer.old)) (W.contents (watched writer.new)) }
 {
     let review = match decided_again(alloc, after, entries) {
         Ok(review) => review,
-        Err(_) => return Err(DeskFault::OutOfMemory),
+        Err(_) => return Err(CorrectionFault::OutOfMemory),
     };
     match list(alloc, now, after, &review, entries, kind, accept, writer) {
         Ok(()) => Ok(review.register),

@@ -5,7 +5,7 @@ ghost use Rattle.desk_entries.specs.Words.{SaysCourt};
 ghost use Rattle.program_runs.specs.Words.{court_part};
 ghost use Rattle.desk_program.specs.Desk.{HasCourtFault};
 
-use crate::fault::DeskFault;
+use crate::faults::CourtFileFault;
 use court_days::Court;
 use court_file_text::CourtFault;
 use program_runs::divide;
@@ -23,24 +23,24 @@ fn next_line(bytes: &[u8]) -> usize {
 }
 
 /// The court that a file says, which has no line `%%`: before the rows of its docket such a line would divide the file.
-pub fn court_of(alloc: Global, file: &[u8]) -> Result<Court, DeskFault>
+pub fn court_of(alloc: Global, file: &[u8]) -> Result<Court, CourtFileFault>
     ensures court { IfOk result (λ court. SaysCourt file.now court) }
     ensures whole { IfOk result (λ _. court_part file.now ≡ file.now) }
     ensures cause { IfErr result (HasCourtFault file.now) }
 {
     let (before, _) = divide(file);
     if before != file {
-        return Err(DeskFault::Divided(next_line(before)));
+        return Err(CourtFileFault::Divided(next_line(before)));
     }
     match Court::from_bytes(alloc, file) {
         Ok(court) => Ok(court),
-        Err(CourtFault::OutOfMemory) => Err(DeskFault::OutOfMemory),
-        Err(fault) => Err(DeskFault::Court(fault)),
+        Err(CourtFault::OutOfMemory) => Err(CourtFileFault::OutOfMemory),
+        Err(fault) => Err(CourtFileFault::Court(fault)),
     }
 }
 
 /// Looks whether a file can be taken as a court's.
-pub fn check_court(alloc: Global, file: &[u8]) -> Result<(), DeskFault>
+pub fn check_court(alloc: Global, file: &[u8]) -> Result<(), CourtFileFault>
     ensures court { OnOk result ((court : CourtView) × SaysCourt file.now court) }
     ensures whole { OnOk result (court_part file.now ≡ file.now) }
     ensures cause { IfErr result (HasCourtFault file.now) }

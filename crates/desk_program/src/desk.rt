@@ -7,7 +7,7 @@ ghost use Rattle.desk_warnings.specs.declared.register.HeldBack.TheVariants.{Not
 ghost use Rattle.program_streams.specs.Words.{has_failed, watched};
 
 use crate::court::check_court;
-use crate::fault::DeskFault;
+use crate::faults::{BeginFault, OpenFault};
 use case_numbers::Cases;
 use court_days::Court;
 use desk_entries::{Docketed, Standing};
@@ -49,7 +49,7 @@ impl<D: Disk> Desk<D> {
         alloc: Global,
         disk: D,
         stamp: Stamp,
-    ) -> Result<(Desk<D>, Vec<Vec<u8>>), (DeskFault, D)>
+    ) -> Result<(Desk<D>, Vec<Vec<u8>>), (OpenFault, D)>
         ensures opened { (file : List ℕ) → IsDurable D.Disk file disk → IfOk result (λ opened. IsTrue (D.Disk.is_clean (disk_under opened.0))
             → StandsFor file (batch_of opened.1.items) × KeepsDocket D.Disk (batch_of opened.1.items) opened.0) }
         ensures whole { (file : List ℕ) → IsDurable D.Disk file disk → IfOk result (λ opened. IsTrue (D.Disk.is_clean (disk_under opened.0)) → IsWhole file) }
@@ -63,16 +63,16 @@ impl<D: Disk> Desk<D> {
             → IfErr result (λ e. IsTrue (D.Disk.is_clean e.1) → IsUnopened (D.Disk.faults disk) (D.Disk.faults e.1) file e.0) }
         // Where an entry is damaged, or the journal is of an earlier format, nothing is written.
         ensures untouched { (file : List ℕ) (number : ℕ) → IsDurable D.Disk file disk
-            → IfErr result (λ e. e.0 ≡ DeskFault.Journal (JournalFault.Damaged number) → IsDurable D.Disk file e.1) }
+            → IfErr result (λ e. e.0 ≡ OpenFault.Journal (JournalFault.Damaged number) → IsDurable D.Disk file e.1) }
         ensures older { (file : List ℕ) → IsDurable D.Disk file disk
-            → IfErr result (λ e. e.0 ≡ DeskFault.Journal JournalFault.Older → IsDurable D.Disk file e.1) }
+            → IfErr result (λ e. e.0 ≡ OpenFault.Journal JournalFault.Older → IsDurable D.Disk file e.1) }
         // So it is where the file has no entries.
         ensures none { (file : List ℕ) → IsDurable D.Disk file disk
-            → IfErr result (λ e. e.0 ≡ DeskFault.NoJournal → IsDurable D.Disk file e.1) }
+            → IfErr result (λ e. e.0 ≡ OpenFault.NoJournal → IsDurable D.Disk file e.1) }
     {
         let (journal, entries) = match Journal::open(alloc, disk, stamp) {
             Ok(opened) => opened,
-            Err((fault, disk)) => return Err((DeskFault::from(fault), disk)),
+            Err((fault, disk)) => return Err((OpenFault::from(fault), disk)),
         };
         match Docketed::of(alloc, &entries) {
             Ok(Docketed { standing, register }) => Ok((
@@ -86,13 +86,13 @@ impl<D: Disk> Desk<D> {
                 },
                 entries,
             )),
-            Err(fault) => Err((DeskFault::from(fault), journal.into_disk())),
+            Err(fault) => Err((OpenFault::from(fault), journal.into_disk())),
         }
     }
 
     /// Makes the docket of a court on a disk that has no entries: its file is the first, with this stamp. At an `Err` a crash leaves what
     /// stands for the entries that the disk had or, where it had none, also for the file alone.
-    pub fn begin(alloc: Global, disk: D, file: Vec<u8>, stamp: Stamp) -> Result<D, (DeskFault, D)>
+    pub fn begin(alloc: Global, disk: D, file: Vec<u8>, stamp: Stamp) -> Result<D, (BeginFault, D)>
         ensures empty { (was : List ℕ) (entries : List (List ℕ)) → IsDurable D.Disk was disk → StandsFor was entries
             → IfOk result (λ d. IsTrue (D.Disk.is_clean d) → entries ≡ []) }
         ensures begun { (was : List ℕ) → IsDurable D.Disk was disk
@@ -102,22 +102,22 @@ impl<D: Disk> Desk<D> {
             → IfErr result (λ e. IsTrue (D.Disk.is_clean e.1) → (c : List ℕ) → D.Disk.may_leave e.1 c → StandsFor c entries ⊎ ((entries ≡ []) × StandsFor c (file.items ∷ []))) }
         // It is taken only where it has entries, and then nothing is written.
         ensures taken { (was : List ℕ) → IsDurable D.Disk was disk
-            → IfErr result (λ e. IsTrue (D.Disk.is_clean e.1) → e.0 ≡ DeskFault.Taken → HasEntries was × IsDurable D.Disk was e.1) }
+            → IfErr result (λ e. IsTrue (D.Disk.is_clean e.1) → e.0 ≡ BeginFault.Taken → HasEntries was × IsDurable D.Disk was e.1) }
     {
         match check_court(alloc, &file) {
             Ok(()) => {}
-            Err(fault) => return Err((fault, disk)),
+            Err(fault) => return Err((BeginFault::CourtFile(fault), disk)),
         }
         let batch = match batch_with(alloc, file) {
             Ok(batch) => batch,
-            Err(_) => return Err((DeskFault::OutOfMemory, disk)),
+            Err(_) => return Err((BeginFault::OutOfMemory, disk)),
         };
         match Journal::begin(alloc, disk, stamp) {
             Ok(mut journal) => match journal.append(&batch) {
                 Ok(()) => Ok(journal.into_disk()),
-                Err(fault) => Err((DeskFault::from(fault), journal.into_disk())),
+                Err(fault) => Err((BeginFault::from(fault), journal.into_disk())),
             },
-            Err((fault, disk)) => Err((DeskFault::from(fault), disk)),
+            Err((fault, disk)) => Err((BeginFault::from(fault), disk)),
         }
     }
 

@@ -9,7 +9,7 @@ ghost use Rattle.desk_program.specs.EntryKind.{kind_of};
 ghost use Rattle.desk_program.specs.Log.{cases_looked_up, entry_case, entry_log, first_log, first_stamp, is_account_asked, is_case_asked, is_entry_asked, is_from, is_row_asked, is_stamp_asked, is_up_to, log_text, said_of};
 
 use crate::entry_kind::{EntryKind, kind_of};
-use crate::fault::DeskFault;
+use crate::faults::OutputFault;
 use crate::log_json::push_entry_json;
 use crate::log_text::push_entry_text;
 use crate::row_case::cases_named;
@@ -272,7 +272,7 @@ pub fn write_log<W: Write>(
     stamps: &[Stamp],
     choice: &LogChoice,
     writer: &mut Watched<W>,
-) -> Result<bool, DeskFault>
+) -> Result<bool, OutputFault>
     requires works { has_failed writer.old ≡ false }
     ensures written { OnOk result (Appends (W.contents (watched writer.old)) (W.contents (watched writer.new)) (log_text (names_of court.now) choice.now (batch_of entries.now) stamps.now)) }
     ensures some { IfOk result (λ some. some ≡ nat_lt 0 (length (log_text (names_of court.now) choice.now (batch_of entries.now) stamps.now))) }

@@ -6,7 +6,7 @@ ghost use Rattle.program_streams.specs.Words.{has_failed, watched};
 ghost use Rattle.desk_entries.specs.Words.{HasHistoryFault, IsHistory, most_entries, note_in, row_entries, row_only, rows_written};
 ghost use Rattle.desk_program.specs.Rows.{count_text, ended, head_of, written_rows};
 
-use crate::fault::DeskFault;
+use crate::faults::OutputFault;
 use csv::StringRecord;
 use desk_entries::{Docketed, HistoryFault, Standing, is_row, push_row, standing_file};
 use desk_numbers::MovedNumbers;
@@ -18,14 +18,14 @@ use std::io::Write;
 const ROOM: usize = 65_536;
 
 // Writes what was gathered, and begins anew.
-pub(crate) fn put<W: Write>(writer: &mut Watched<W>, text: &mut Vec<u8>) -> Result<(), DeskFault>
+pub(crate) fn put<W: Write>(writer: &mut Watched<W>, text: &mut Vec<u8>) -> Result<(), OutputFault>
     requires { has_failed writer.old ≡ false }
     ensures written { OnOk result (Appends (W.contents (watched writer.old)) (W.contents (watched writer.new)) text.old.items) }
     ensures empty { OnOk result (text.new.items ≡ []) }
     ensures working { OnOk result (has_failed writer.new ≡ false) }
 {
     if write_all(writer, text).is_err() {
-        return Err(DeskFault::Write);
+        return Err(OutputFault::Write);
     }
     text.clear();
     Ok(())
@@ -35,7 +35,7 @@ pub(crate) fn put<W: Write>(writer: &mut Watched<W>, text: &mut Vec<u8>) -> Resu
 pub(crate) fn put_if_long<W: Write>(
     writer: &mut Watched<W>,
     text: &mut Vec<u8>,
-) -> Result<(), DeskFault>
+) -> Result<(), OutputFault>
     requires { has_failed writer.old ≡ false }
     ensures written { OnOk result ((front : List ℕ) × Appends (W.contents (watched writer.old)) (W.contents (watched writer.new)) front × (text.old.items ≡ front ++ text.new.items)) }
     ensures working { OnOk result (has_failed writer.new ≡ false) }
@@ -97,7 +97,7 @@ pub fn write_rows<W: Write>(
     moved: &MovedNumbers,
     entries: &[Vec<u8>],
     writer: &mut Watched<W>,
-) -> Result<(), DeskFault>
+) -> Result<(), OutputFault>
     requires few { length entries.now ≤ most_entries }
     requires works { has_failed writer.old ≡ false }
     ensures written { OnOk result (Appends (W.contents (watched writer.old)) (W.contents (watched writer.new)) (written_rows under.now moved.now (batch_of entries.now))) }
@@ -139,13 +139,13 @@ pub fn write_count<W: Write>(
     alloc: Global,
     count: u32,
     writer: &mut Watched<W>,
-) -> Result<(), DeskFault>
+) -> Result<(), OutputFault>
     requires works { has_failed writer.old ≡ false }
     ensures written { OnOk result (Appends (W.contents (watched writer.old)) (W.contents (watched writer.new)) (count_text count)) }
 {
     let line = format!(in alloc; "rows kept: {count}, and each is answered as it was\n")?;
     if write_all(writer, line.as_bytes()).is_err() {
-        return Err(DeskFault::Write);
+        return Err(OutputFault::Write);
     }
     Ok(())
 }

@@ -6,7 +6,7 @@ ghost use Rattle.desk_numbers.specs.Strikes.Words.{is_among, restore_in};
 ghost use Rattle.program_streams.specs.Words.{has_failed, watched};
 ghost use Rattle.desk_program.specs.Struck.{restored_as, rows_restored, struck_line, struck_text};
 
-use crate::fault::DeskFault;
+use crate::faults::OutputFault;
 use desk_numbers::{remark_in, restore_in, strike_in};
 use program_streams::{Watched, write_all};
 use std::alloc::{AllocError, Global};
@@ -99,13 +99,13 @@ pub fn write_struck<W: Write>(
     alloc: Global,
     entries: &[Vec<u8>],
     writer: &mut Watched<W>,
-) -> Result<(), DeskFault>
+) -> Result<(), OutputFault>
     requires works { has_failed writer.old ≡ false }
     ensures written { OnOk result (Appends (W.contents (watched writer.old)) (W.contents (watched writer.new)) (struck_text (batch_of entries.now))) }
 {
     let text = struck_text(alloc, entries)?;
     if write_all(writer, &text).is_err() {
-        return Err(DeskFault::Write);
+        return Err(OutputFault::Write);
     }
     Ok(())
 }

@@ -8,8 +8,8 @@ ghost use Rattle.program_streams.specs.Words.{has_failed, watched};
 ghost use Rattle.desk_program.specs.Together.{line_fault_text, line_faults_text, stopped_fault, stopped_text, together_fault};
 
 use crate::desk::Desk;
-use crate::fault::DeskFault;
 use crate::fault_words::push_cause_words;
+use crate::faults::TogetherFault;
 use desk_entries::LineFault;
 use desk_session::{SessionFault, StoppedLine, is_finished, serve_together};
 use program_streams::{Watched, write_all};
@@ -46,24 +46,24 @@ fn list_faults<W: Write>(
     alloc: Global,
     faults: &[LineFault],
     writer: &mut Watched<W>,
-) -> Result<(), DeskFault>
+) -> Result<(), TogetherFault>
     requires { has_failed writer.old ≡ false }
     ensures none { OnOk result ((faults.now ≡ []) × (writer.new ≡ writer.old)) }
-    ensures some { (count : ℕ) → result ≡ Err (DeskFault.Faults count) → (count ≡ length faults.now) × (faults.now ≢ [])
+    ensures some { (count : ℕ) → result ≡ Err (TogetherFault.Faults count) → (count ≡ length faults.now) × (faults.now ≢ [])
         × Appends (W.contents (watched writer.old)) (W.contents (watched writer.new)) (line_faults_text (map fault_in faults.now)) }
-    ensures fault { IfErr result (λ fault. (faults.now ≢ []) × ((fault ≡ DeskFault.OutOfMemory) ⊎ ((fault ≡ DeskFault.Unkept SessionFault.Write) ⊎ (fault ≡ DeskFault.Faults (length faults.now))))) }
+    ensures fault { IfErr result (λ fault. (faults.now ≢ []) × ((fault ≡ TogetherFault.OutOfMemory) ⊎ ((fault ≡ TogetherFault.Unkept SessionFault.Write) ⊎ (fault ≡ TogetherFault.Faults (length faults.now))))) }
 {
     if faults.is_empty() {
         return Ok(());
     }
     let text = match faults_listed(alloc, faults) {
         Ok(text) => text,
-        Err(_) => return Err(DeskFault::OutOfMemory),
+        Err(_) => return Err(TogetherFault::OutOfMemory),
     };
     if write_all(writer, &text).is_err() {
-        return Err(DeskFault::Unkept(SessionFault::Write));
+        return Err(TogetherFault::Unkept(SessionFault::Write));
     }
-    Err(DeskFault::Faults(faults.len()))
+    Err(TogetherFault::Faults(faults.len()))
 }
 
 // What is written of a line at which the list stops.
@@ -78,42 +78,46 @@ fn stopped_said(alloc: Global, line: &StoppedLine) -> Result<Vec<u8>, AllocError
 }
 
 // The fault that says at which line the list stops, and why.
-fn stopped_fault(line: &StoppedLine) -> DeskFault
+fn stopped_fault(line: &StoppedLine) -> TogetherFault
     ensures { result ≡ stopped_fault (stopped_in line.now) }
 {
     if line.held {
-        DeskFault::Held(line.number)
+        TogetherFault::Held(line.number)
     } else {
-        DeskFault::Refused(line.number)
+        TogetherFault::Refused(line.number)
     }
 }
 
 // Writes the answer that a line would have at which the list stops, and gives the fault that says so.
-fn tell_stopped<W: Write>(alloc: Global, line: &StoppedLine, writer: &mut Watched<W>) -> DeskFault
+fn tell_stopped<W: Write>(
+    alloc: Global,
+    line: &StoppedLine,
+    writer: &mut Watched<W>,
+) -> TogetherFault
     requires { has_failed writer.old ≡ false }
     ensures told { result ≡ stopped_fault (stopped_in line.now)
         → Appends (W.contents (watched writer.old)) (W.contents (watched writer.new)) (stopped_text (stopped_in line.now)) }
-    ensures fault { (result ≡ DeskFault.OutOfMemory) ⊎ ((result ≡ DeskFault.Unkept SessionFault.Write) ⊎ (result ≡ stopped_fault (stopped_in line.now))) }
+    ensures fault { (result ≡ TogetherFault.OutOfMemory) ⊎ ((result ≡ TogetherFault.Unkept SessionFault.Write) ⊎ (result ≡ stopped_fault (stopped_in line.now))) }
 {
     match stopped_said(alloc, line) {
         Ok(text) => {
             if write_all(writer, &text).is_err() {
-                DeskFault::Unkept(SessionFault::Write)
+                TogetherFault::Unkept(SessionFault::Write)
             } else {
                 stopped_fault(line)
             }
         }
-        Err(_) => DeskFault::OutOfMemory,
+        Err(_) => TogetherFault::OutOfMemory,
     }
 }
 
 // Why rows that came together aren't served, as the desk says it.
-fn together_fault(fault: SessionFault) -> DeskFault
+fn together_fault(fault: SessionFault) -> TogetherFault
     ensures { result ≡ together_fault fault }
 {
     match fault {
-        SessionFault::LongLine => DeskFault::Unkept(SessionFault::LongLine),
-        _ => DeskFault::Session(fault),
+        SessionFault::LongLine => TogetherFault::Unkept(SessionFault::LongLine),
+        _ => TogetherFault::Session(fault),
     }
 }
 
@@ -131,15 +135,15 @@ impl<D: Disk> Desk<D> {
         input: &[u8],
         keep_refused: bool,
         writer: &mut Watched<W>,
-    ) -> Result<(), DeskFault>
+    ) -> Result<(), TogetherFault>
         requires writer_works { has_failed writer.old ≡ false }
         ensures kept { (kept : List (List ℕ)) → KeepsDocket D.Disk kept self.old → OnOk result
             (KeepsTogether (standing_at self.old) (held_at self.old) keep_refused kept input.now (W.contents (watched writer.old)) (W.contents (watched writer.new)) (λ entries. KeepsDocket D.Disk entries self.new)) }
-        ensures refused { (kept : List (List ℕ)) (count : ℕ) → KeepsDocket D.Disk kept self.old → result ≡ Err (DeskFault.Faults count)
+        ensures refused { (kept : List (List ℕ)) (count : ℕ) → KeepsDocket D.Disk kept self.old → result ≡ Err (TogetherFault.Faults count)
             → RefusesLines (standing_at self.old) (held_at self.old) kept input.now count (W.contents (watched writer.old)) (W.contents (watched writer.new)) }
-        ensures stopped { (kept : List (List ℕ)) (number : ℕ) → KeepsDocket D.Disk kept self.old → result ≡ Err (DeskFault.Refused number)
+        ensures stopped { (kept : List (List ℕ)) (number : ℕ) → KeepsDocket D.Disk kept self.old → result ≡ Err (TogetherFault.Refused number)
             → StopsList (standing_at self.old) (held_at self.old) keep_refused kept input.now number false (W.contents (watched writer.old)) (W.contents (watched writer.new)) }
-        ensures held { (kept : List (List ℕ)) (number : ℕ) → KeepsDocket D.Disk kept self.old → result ≡ Err (DeskFault.Held number)
+        ensures held { (kept : List (List ℕ)) (number : ℕ) → KeepsDocket D.Disk kept self.old → result ≡ Err (TogetherFault.Held number)
             → StopsList (standing_at self.old) (held_at self.old) keep_refused kept input.now number true (W.contents (watched writer.old)) (W.contents (watched writer.new)) }
         ensures untouched { (kept : List (List ℕ)) → KeepsDocket D.Disk kept self.old → IsAtFault (standing_at self.old) (held_at self.old) kept input.now → self.new ≡ self.old }
         ensures unwritten { (kept : List (List ℕ)) → KeepsDocket D.Disk kept self.old → stop_of (standing_at self.old) (held_at self.old) keep_refused kept input.now ≢ None → disk_under self.new ≡ disk_under self.old }
@@ -158,14 +162,14 @@ impl<D: Disk> Desk<D> {
             .line_faults(alloc, &self.setup.standing, marked, input)
         {
             Ok(faults) => faults,
-            Err(_) => return Err(DeskFault::OutOfMemory),
+            Err(_) => return Err(TogetherFault::OutOfMemory),
         };
         match list_faults(alloc, &faults, writer) {
             Ok(()) => {}
             Err(fault) => return Err(fault),
         }
         if !is_finished(input) {
-            return Err(DeskFault::Unkept(SessionFault::Unfinished));
+            return Err(TogetherFault::Unkept(SessionFault::Unfinished));
         }
         match serve_together(
             &self.setup,

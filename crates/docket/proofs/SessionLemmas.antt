@@ -11,7 +11,7 @@ use Rattle.desk_warnings.specs.declared.register.HeldBack.{HeldBack}
 use Rattle.desk_program.specs.declared.desk.Desk.{Desk as DeskOver}
 use Rattle.desk_program.specs.Words.{KeepsDocket, KeepsTogether, answers_at, disk_under, held_at, leaves_at, standing_at}
 use Rattle.desk_program.proofs.CallerLemmas.{answered_docket, none_promised}
-use Rattle.desk_program.specs.declared.fault.DeskFault.TheVariants.{Faulty}
+use Rattle.desk_program.specs.declared.faults.desk.DeskFault.TheVariants.{Faulty}
 use Rattle.docket.specs.declared.fault.Fault.{Fault}
 use Rattle.docket.specs.declared.fault.Fault.TheVariants.{Desk}
 use Rattle.docket.specs.Sessions.{PromisesLines, PromisesSession, WithTally}

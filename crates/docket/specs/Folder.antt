@@ -4,8 +4,8 @@ use Rattle.sqlite_disk.specs.declared.Disk as disk
 use Rattle.desk_journal.specs.declared.fault.JournalFault.TheVariants as journal
 use Rattle.desk_journal.specs.Words.{IsWhole, StandsFor}
 use Rattle.desk_program.specs.declared.desk.Desk.{Desk}
-use Rattle.desk_program.specs.declared.fault.DeskFault.{DeskFault}
-use Rattle.desk_program.specs.declared.fault.DeskFault.TheVariants.{Journal, OutOfMemory}
+use Rattle.desk_program.specs.declared.faults.opening.OpenFault.{OpenFault}
+use Rattle.desk_program.specs.declared.faults.opening.OpenFault.TheVariants.{Journal, OutOfMemory}
 use Rattle.desk_program.specs.Words.{KeepsDocket, disk_under}
 
 -- Unless a wrong answer of the disk was taken as true, none of the file's entries is damaged, it stands for these entries, and they are
@@ -22,7 +22,7 @@ abbrev pub spare_name : (folder : List ℕ) → List ℕ
 spare_name folder = folder ++ codes "/journal-wal"
 
 -- the same fault, but that a disk in memory fails for want of memory alone
-abbrev pub fault_in_memory : DeskFault → DeskFault
+abbrev pub fault_in_memory : OpenFault → OpenFault
 fault_in_memory (Journal journal.Read) = OutOfMemory
 fault_in_memory (Journal journal.Write) = OutOfMemory
 fault_in_memory (Journal journal.Sync) = OutOfMemory

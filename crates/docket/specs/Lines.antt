@@ -2,7 +2,8 @@
 use Rattle.std.specs.Prelude.{ℕ, Bool, false, List, if◌then◌else◌}
 use Rattle.program_words.specs.declared.task.Lines.{Lines}
 use Rattle.program_words.specs.declared.task.Lines.TheVariants.{AsWritten, Plain}
-use Rattle.desk_program.specs.declared.fault.DeskFault.TheVariants.{Faults}
+use Rattle.desk_program.specs.declared.faults.desk.DeskFault.TheVariants.{Together}
+use Rattle.desk_program.specs.declared.faults.together.TogetherFault.TheVariants.{Faults}
 use Rattle.docket.specs.declared.fault.Fault.{Fault}
 use Rattle.docket.specs.declared.fault.Fault.TheVariants.{Desk, Told}
 
@@ -13,4 +14,4 @@ is_json (AsWritten style) = style.json
 
 -- the fault of so many lines: where it is told as JSON, standard error has all of it
 abbrev pub lines_fault : (json : Bool) → (count : ℕ) → Fault
-lines_fault json count = if json then Told 3 else Desk (Faults count)
+lines_fault json count = if json then Told 3 else Desk (Together (Faults count))

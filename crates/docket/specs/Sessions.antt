@@ -10,7 +10,9 @@ use Rattle.program_main.specs.Texts.Words.{today_by}
 use Rattle.program_words.specs.declared.task.Correcting.{Correcting}
 use Rattle.desk_session.specs.declared.outcome.Tally.{Tally}
 use Rattle.desk_program.specs.declared.desk.Desk.{Desk}
-use Rattle.desk_program.specs.declared.fault.DeskFault.TheVariants.{Faulty}
+use Rattle.desk_program.specs.declared.faults.desk.DeskFault.TheVariants.{Faulty}
+use Rattle.desk_program.specs.declared.row_correction.RowCorrection.{RowCorrection}
+use Rattle.desk_program.specs.declared.row_correction.RowCorrection.TheVariants as done
 use Rattle.desk_program.specs.Words.{IsPromisedDocket, KeepsDocket, disk_under, standing_at}
 use Rattle.docket.specs.declared.fault.Fault.{Fault}
 use Rattle.docket.specs.declared.fault.Fault.TheVariants as fault
@@ -44,6 +46,10 @@ pub record EntersFile (file : List ℕ) (held : HeldBack) (before after : Option
 -- what was done with a row, struck or restored, when, by which account and why
 unfoldable pub remark_text : (done : List ℕ) → (day : ℤ) → (account reason : List ℕ) → List ℕ
 remark_text done day account reason = done ++ codes " " ++ day_text day ++ codes " by " ++ account ++ codes ": " ++ reason ++ codes "\n"
+
+abbrev pub done_text : RowCorrection → List ℕ
+done_text done.Strike = codes "struck"
+done_text done.Restore = codes "restored"
 
 -- it is done on the day that the court's clock shows
 abbrev pub remark_by : (done : List ℕ) → Standing → (account : List ℕ) → Correcting → List ℕ

@@ -3,8 +3,8 @@ ghost use Rattle.std.specs.Prelude.{◌≡◌, ◌<◌, ◌≤◌, ◌++◌, cod
 ghost use Rattle.court_clock.specs.Words.{day_text};
 ghost use Rattle.desk_entries.specs.declared.standing.Standing.{Standing};
 ghost use Rattle.desk_journal.specs.Words.{batch_of};
-ghost use Rattle.desk_program.specs.Words.{KeepsDocket, RestoresRow, StrikesRow, standing_at};
-ghost use Rattle.docket.specs.Sessions.{remark_by, remark_text};
+ghost use Rattle.desk_program.specs.Words.{CorrectsRow, KeepsDocket, standing_at};
+ghost use Rattle.docket.specs.Sessions.{done_text, remark_by, remark_text};
 ghost use Rattle.program_streams.specs.Words.{has_failed, watched};
 
 use crate::fault::Fault;
@@ -12,7 +12,7 @@ use crate::folder::{end_desk, make_folder, opened, read_file, remove_spare, stam
 use crate::journal_file::{check_place, journal_name};
 use court_clock::Day;
 use court_days::Court;
-use desk_program::{Desk, DeskFault, check_court, open_file};
+use desk_program::{Desk, DeskFault, RowCorrection, StrikingFault, check_court, open_file};
 use desk_session::account_of;
 use program_main::today_by;
 use program_streams::Watched;
@@ -39,7 +39,11 @@ pub fn init(rt: &HostRuntime, folder: &str, court: &str) -> Result<(), Fault> {
             remove_spare(rt, folder);
             Ok(sync_made(rt, folder)?)
         }
-        Err((fault, _)) => Err(Fault::Desk(fault)),
+        Err((fault, disk)) => {
+            remove_spare(rt, folder);
+            drop(disk);
+            Err(Fault::Desk(DeskFault::Begin(fault)))
+        }
     }
 }
 
@@ -84,26 +88,38 @@ fn remark_by(
     remark_of(alloc, done, day, account, correcting.reason.as_str())
 }
 
-// Strikes a row.
-fn stricken<D: Disk, W: Write>(
+// What is said to be done with a row.
+fn done_text(done: RowCorrection) -> &'static str
+    ensures { result.now ≡ done_text done }
+{
+    match done {
+        RowCorrection::Strike => "struck",
+        RowCorrection::Restore => "restored",
+    }
+}
+
+// Strikes a row, or restores one that is struck.
+fn corrected<D: Disk, W: Write>(
     alloc: Global,
     writer: &mut Watched<W>,
     desk: &mut Desk<D>,
     entries: &[Vec<u8>],
+    done: RowCorrection,
     account: &[u8],
     correcting: &Correcting,
-) -> Result<(), DeskFault>
+) -> Result<(), StrikingFault>
     requires works { has_failed writer.old ≡ false }
     requires some { 0 < length entries.now }
     requires few { length entries.now ≤ 1000000 }
     ensures { KeepsDocket D.Disk (batch_of entries.now) desk.old → OnOk result
-        (StrikesRow (standing_at desk.old) (batch_of entries.now) correcting.now.row (remark_by (codes "struck") (standing_at desk.old) account.now correcting.now) correcting.now.accept (W.contents (watched writer.old)) (W.contents (watched writer.new))
+        (CorrectsRow done (standing_at desk.old) (batch_of entries.now) correcting.now.row (remark_by (done_text done) (standing_at desk.old) account.now correcting.now) correcting.now.accept (W.contents (watched writer.old)) (W.contents (watched writer.new))
         (λ kept. KeepsDocket D.Disk kept desk.new)) }
 {
-    let remark = remark_by(alloc, "struck", desk.court(), account, correcting)?;
-    desk.strike(
+    let remark = remark_by(alloc, done_text(done), desk.court(), account, correcting)?;
+    desk.correct_row(
         alloc,
         entries,
+        done,
         correcting.row,
         remark.as_slice(),
         correcting.accept,
@@ -111,74 +127,26 @@ fn stricken<D: Disk, W: Write>(
     )
 }
 
-// Restores a row that is struck.
-fn restored<D: Disk, W: Write>(
-    alloc: Global,
-    writer: &mut Watched<W>,
-    desk: &mut Desk<D>,
-    entries: &[Vec<u8>],
-    account: &[u8],
-    correcting: &Correcting,
-) -> Result<(), DeskFault>
-    requires works { has_failed writer.old ≡ false }
-    requires some { 0 < length entries.now }
-    requires few { length entries.now ≤ 1000000 }
-    ensures { KeepsDocket D.Disk (batch_of entries.now) desk.old → OnOk result
-        (RestoresRow (standing_at desk.old) (batch_of entries.now) correcting.now.row (remark_by (codes "restored") (standing_at desk.old) account.now correcting.now) correcting.now.accept (W.contents (watched writer.old)) (W.contents (watched writer.new))
-        (λ kept. KeepsDocket D.Disk kept desk.new)) }
-{
-    let remark = remark_by(alloc, "restored", desk.court(), account, correcting)?;
-    desk.restore(
-        alloc,
-        entries,
-        correcting.row,
-        remark.as_slice(),
-        correcting.accept,
-        writer,
-    )
-}
-
-/// Writes what would change without a row, and strikes it if no answer would, or where that is accepted.
-pub fn strike<H: Threads + Wait + Sync, W: Write>(
+/// Writes what would change without a row, or with one that is struck, and strikes or restores it if no answer would, or where that is
+/// accepted.
+pub fn correct<H: Threads + Wait + Sync, W: Write>(
     rt: &HostRuntime,
     threads: &H,
     writer: &mut Watched<W>,
     folder: &str,
+    done: RowCorrection,
     correcting: &Correcting,
 ) -> Result<(), Fault>
     requires { has_failed writer.old ≡ false }
 {
     let account = account_of(rt)?;
     let (mut desk, entries) = opened(rt, threads, folder, Wary)?;
-    let ended = stricken(
+    let ended = corrected(
         rt.alloc(),
         writer,
         &mut desk,
         &entries,
-        &account,
-        correcting,
-    );
-    end_desk(rt, folder, desk);
-    Ok(ended?)
-}
-
-/// Writes what would change with a row that is struck, and restores it if no answer would, or where that is accepted.
-pub fn restore<H: Threads + Wait + Sync, W: Write>(
-    rt: &HostRuntime,
-    threads: &H,
-    writer: &mut Watched<W>,
-    folder: &str,
-    correcting: &Correcting,
-) -> Result<(), Fault>
-    requires { has_failed writer.old ≡ false }
-{
-    let account = account_of(rt)?;
-    let (mut desk, entries) = opened(rt, threads, folder, Wary)?;
-    let ended = restored(
-        rt.alloc(),
-        writer,
-        &mut desk,
-        &entries,
+        done,
         &account,
         correcting,
     );

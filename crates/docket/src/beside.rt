@@ -15,8 +15,8 @@ use crate::input::{reading_of, rows_of};
 use crate::progress::told_while;
 use desk_entries::Docketed;
 use desk_program::{
-    Desk, DeskFault, ask as answer, checked_rows, write_cases, write_count, write_rows,
-    write_struck,
+    Desk, DeskFault, OutputFault, ask as answer, checked_rows, write_cases, write_count,
+    write_rows, write_struck,
 };
 use desk_session::ShortLines;
 use desk_warnings::HeldBack;
@@ -101,7 +101,7 @@ fn answered<R: Read + Drop, W: Write>(
     let mut reader = Watched::new(reader);
     match answer(alloc, docketed, &mut reader, writer) {
         Ok(tally) => taken(tally),
-        Err(fault) => Err(Fault::Desk(fault)),
+        Err(fault) => Err(Fault::Desk(DeskFault::Unkept(fault))),
     }
 }
 
@@ -148,7 +148,7 @@ fn put_cases<W: Write>(
     alloc: Global,
     writer: &mut Watched<W>,
     docketed: &Docketed,
-) -> Result<(), DeskFault>
+) -> Result<(), OutputFault>
     requires { has_failed writer.old ≡ false }
     ensures { (entries : List (List ℕ)) → IsDocketed docketed.now entries → OnOk result (WritesCases entries (W.contents (watched writer.old)) (W.contents (watched writer.new))) }
 {
@@ -205,7 +205,7 @@ fn put_rows<W: Write>(
     writer: &mut Watched<W>,
     docketed: &Docketed,
     entries: &[Vec<u8>],
-) -> Result<(), DeskFault>
+) -> Result<(), OutputFault>
     requires works { has_failed writer.old ≡ false }
     requires few { length entries.now ≤ most_entries }
     ensures { IsDocketed docketed.now (batch_of entries.now) → OnOk result (WritesRows (batch_of entries.now) (W.contents (watched writer.old)) (W.contents (watched writer.new))) }

@@ -13,7 +13,7 @@ use crate::journal_file::journal_name;
 use crate::place::{GuardedInput, Place, is_replaced, place_of};
 use crate::session_mark::{begin_session, end_session};
 use desk_journal::JournalFault;
-use desk_program::{Desk, DeskFault, file_fault, status_of};
+use desk_program::{Desk, DeskFault, FileFault, TogetherFault, file_fault, status_of};
 use desk_session::{SessionFault, ShortLines};
 use desk_warnings::HeldBack;
 use program_streams::{Watched, write_all};
@@ -110,17 +110,20 @@ fn kept_together<D: Disk, W: Write, E: Write>(
             }
             Ok(())
         }
-        Err(DeskFault::Write | DeskFault::Unkept(SessionFault::Write)) => {
+        Err(TogetherFault::Unkept(SessionFault::Write)) => {
             Err(Fault::Desk(DeskFault::OutOfMemory))
         }
-        Err(fault) => Err(told_refusal(alloc, errors, lines, said.inner(), fault)?),
+        Err(fault) => {
+            let fault = DeskFault::Together(fault);
+            Err(told_refusal(alloc, errors, lines, said.inner(), fault)?)
+        }
     }
 }
 
 // Looks whether a journal's name still leads to the file that is open. Rows that would be kept in another file are lost with the name.
 fn check_stays(rt: &HostRuntime, name: &str, place: Place) -> Result<(), DeskFault> {
     if is_replaced(rt, name, place) {
-        return Err(DeskFault::Journal(JournalFault::Changed));
+        return Err(DeskFault::Session(SessionFault::Journal(JournalFault::Changed)));
     }
     Ok(())
 }
@@ -181,7 +184,7 @@ fn kept<D: Disk, W: Write, E: Write>(
 {
     let place = match place_of(rt, name) {
         Ok(place) => place,
-        Err(error) => return Err(Fault::Desk(file_fault(rt.alloc(), name, error))),
+        Err(error) => return Err(Fault::from(file_fault(rt.alloc(), name, error))),
     };
     let rows = rows_of(rt, errors, desk.court(), lines, marked)?;
     match (keeping, rows) {
@@ -211,12 +214,21 @@ fn is_answered_at(fault: &SessionFault) -> bool {
     }
 }
 
+// The same of rows that were to be kept together.
+fn is_answered_together(fault: &TogetherFault) -> bool {
+    match fault {
+        TogetherFault::Session(fault) => is_answered_at(fault),
+        TogetherFault::OutOfMemory => false,
+        _ => true,
+    }
+}
+
 // The same, where the desk says so.
 fn is_answered_by(fault: &DeskFault) -> bool {
     match fault {
-        DeskFault::Journal(fault) => is_unchanged_by(fault),
         DeskFault::Session(fault) => is_answered_at(fault),
-        DeskFault::OutOfMemory => false,
+        DeskFault::Together(fault) => is_answered_together(fault),
+        DeskFault::File(FileFault::OutOfMemory) | DeskFault::OutOfMemory => false,
         _ => true,
     }
 }

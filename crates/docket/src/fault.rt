@@ -3,12 +3,15 @@ ghost use Rattle.std.specs.Prelude.{◌≡◌, ◌<◌, ◌⊎◌, IfErr, OnOk};
 ghost use Rattle.docket.specs.Endings.{IsTold, write_status};
 ghost use Rattle.docket.specs.declared.fault.Fault.TheVariants.{Desk, Input};
 ghost use Rattle.desk_program.specs.Words.{lines_shown};
-ghost use Rattle.desk_program.specs.declared.fault.DeskFault.TheVariants.{Faulty, OutOfMemory};
+ghost use Rattle.desk_program.specs.declared.faults.desk.DeskFault.TheVariants.{Change, CourtFile, Faulty, File, OutOfMemory, Output, Striking};
 ghost use Rattle.program_streams.specs.Words.{IsGiven};
 
 use court_writing::WriteFault;
 use desk_entries::HistoryFault;
-use desk_program::{DeskFault, all_taken, ended_by, lines_shown};
+use desk_program::{
+    CorrectionFault, CourtFileFault, DeskFault, FileFault, OpenFault, OutputFault, StrikingFault,
+    all_taken, ended_by, lines_shown,
+};
 use desk_session::Tally;
 use program_runs::{self as runs, OfficeFault, missing, refused};
 use program_streams::{Watched, write_all};
@@ -40,13 +43,54 @@ impl From<DeskFault> for Fault {
     }
 }
 
+impl From<CourtFileFault> for Fault {
+    ghost from_gives = { λ fault e. e ≡ Desk (CourtFile fault) };
+
+    fn from(fault: CourtFileFault) -> Fault {
+        Fault::Desk(DeskFault::CourtFile(fault))
+    }
+}
+
+impl From<StrikingFault> for Fault {
+    ghost from_gives = { λ fault e. e ≡ Desk (Striking fault) };
+
+    fn from(fault: StrikingFault) -> Fault {
+        Fault::Desk(DeskFault::Striking(fault))
+    }
+}
+
+impl From<CorrectionFault> for Fault {
+    ghost from_gives = { λ fault e. e ≡ Desk (Change fault) };
+
+    fn from(fault: CorrectionFault) -> Fault {
+        Fault::Desk(DeskFault::Change(fault))
+    }
+}
+
+impl From<FileFault> for Fault {
+    ghost from_gives = { λ fault e. e ≡ Desk (File fault) };
+
+    fn from(fault: FileFault) -> Fault {
+        Fault::Desk(DeskFault::File(fault))
+    }
+}
+
+impl From<OutputFault> for Fault {
+    ghost from_gives = { λ fault e. e ≡ Desk (Output fault) };
+
+    fn from(fault: OutputFault) -> Fault {
+        Fault::Desk(DeskFault::Output(fault))
+    }
+}
+
 impl From<HistoryFault> for Fault {
     ghost use Rattle.desk_program.specs.Faults.{history_fault};
+    ghost use Rattle.desk_program.specs.declared.faults.desk.DeskFault.TheVariants.{Open};
 
-    ghost from_gives = { λ fault e. e ≡ Desk (history_fault fault) };
+    ghost from_gives = { λ fault e. e ≡ Desk (Open (history_fault fault)) };
 
     fn from(fault: HistoryFault) -> Fault {
-        Fault::Desk(DeskFault::from(fault))
+        Fault::Desk(DeskFault::Open(OpenFault::from(fault)))
     }
 }
 
@@ -81,7 +125,7 @@ pub fn taken(tally: Tally) -> Result<(), Fault>
 {
     match all_taken(tally) {
         Ok(()) => Ok(()),
-        Err(fault) => Err(Fault::Desk(fault)),
+        Err(tally) => Err(Fault::Desk(DeskFault::Faulty(tally))),
     }
 }
 

@@ -11,7 +11,7 @@ use crate::progress::told_while;
 use crate::saved::save_tail;
 use crate::times::until;
 use desk_journal::{JournalFault, Stamp, stamped_in};
-use desk_program::{Desk, DeskFault, file_fault, open_file};
+use desk_program::{Desk, DeskFault, FileFault, OpenFault, OutputFault, file_fault, open_file};
 use desk_session::{account_of, second_of};
 use program_streams::{Watched, write_all};
 use program_words::AsOf;
@@ -27,19 +27,19 @@ use std::thread::Threads;
 pub type FolderDesk = Desk<FileFrom<Wary>>;
 
 /// Writes bytes, in full.
-pub fn put<W: Write>(writer: &mut Watched<W>, bytes: &[u8]) -> Result<(), DeskFault>
+pub fn put<W: Write>(writer: &mut Watched<W>, bytes: &[u8]) -> Result<(), OutputFault>
     requires { has_failed writer.old ≡ false }
     ensures written { OnOk result (Appends (W.contents (watched writer.old)) (W.contents (watched writer.new)) bytes.now) }
-    ensures fault { OnErr result (result ≡ Err DeskFault.Write) }
+    ensures fault { OnErr result (result ≡ Err OutputFault.Write) }
 {
     if write_all(writer, bytes).is_err() {
-        return Err(DeskFault::Write);
+        return Err(OutputFault::Write);
     }
     Ok(())
 }
 
 /// All bytes of a file.
-pub fn read_file(rt: &HostRuntime, name: &str) -> Result<Vec<u8>, DeskFault> {
+pub fn read_file(rt: &HostRuntime, name: &str) -> Result<Vec<u8>, FileFault> {
     match fs::read(rt, name) {
         Ok(bytes) => Ok(bytes),
         Err(error) => Err(file_fault(rt.alloc(), name, error)),
@@ -47,7 +47,7 @@ pub fn read_file(rt: &HostRuntime, name: &str) -> Result<Vec<u8>, DeskFault> {
 }
 
 /// Makes a folder, unless there is one of that name.
-pub fn make_folder(rt: &HostRuntime, folder: &str) -> Result<(), DeskFault> {
+pub fn make_folder(rt: &HostRuntime, folder: &str) -> Result<(), FileFault> {
     match fs::create_dir(rt, folder) {
         Ok(()) => Ok(()),
         Err(error) if error.kind() == ErrorKind::AlreadyExists => Ok(()),
@@ -63,7 +63,7 @@ fn above_name(alloc: Global, folder: &str) -> Result<String, AllocError>
 }
 
 /// Has the disk keep which files a folder has.
-pub fn sync_folder(rt: &HostRuntime, folder: &str) -> Result<(), DeskFault> {
+pub fn sync_folder(rt: &HostRuntime, folder: &str) -> Result<(), FileFault> {
     let synced = match fs::File::open(rt, folder) {
         Ok(opened) => opened.sync_all(),
         Err(error) => Err(error),
@@ -75,7 +75,7 @@ pub fn sync_folder(rt: &HostRuntime, folder: &str) -> Result<(), DeskFault> {
 }
 
 /// The same of a folder that was made, and of that in which it is.
-pub fn sync_made(rt: &HostRuntime, folder: &str) -> Result<(), DeskFault> {
+pub fn sync_made(rt: &HostRuntime, folder: &str) -> Result<(), FileFault> {
     sync_folder(rt, folder)?;
     let above = above_name(rt.alloc(), folder)?;
     sync_folder(rt, above.as_str())
@@ -104,7 +104,7 @@ fn desk_over<D: Disk + Drop, H: Threads + Wait + Sync>(
         rt.stderr(),
         "opening",
         folder,
-        || -> Result<(Desk<D>, Vec<Vec<u8>>), (DeskFault, D)>
+        || -> Result<(Desk<D>, Vec<Vec<u8>>), (OpenFault, D)>
             ensures opened { (file : List ℕ) → IsDurable D.Disk file disk → IfOk result (λ opened. IsOpened D.Disk file (batch_of opened.1.items) opened.0) }
             ensures some { IfOk result (λ opened. 0 < length opened.1.items) }
             ensures few { IfOk result (λ opened. length opened.1.items ≤ 1000000) }
@@ -112,8 +112,26 @@ fn desk_over<D: Disk + Drop, H: Threads + Wait + Sync>(
     );
     match opened {
         Ok(opened) => Ok(opened),
-        Err((fault, _)) => Err(Fault::Desk(fault)),
+        Err((fault, _)) => Err(Fault::Desk(DeskFault::Open(fault))),
     }
+}
+
+// Opens the docket of a folder, and gives the entries of its journal, of which this is the name and the file. What a crash left after
+// them is saved first.
+fn desk_of<D: Disk + Drop, H: Threads + Wait + Sync>(
+    rt: &HostRuntime,
+    threads: &H,
+    folder: &str,
+    journal: &str,
+    disk: D,
+) -> Result<(Desk<D>, Vec<Vec<u8>>), Fault>
+    ensures opened { (file : List ℕ) → IsDurable D.Disk file disk → IfOk result (λ opened. IsOpened D.Disk file (batch_of opened.1.items) opened.0) }
+    ensures some { IfOk result (λ opened. 0 < length opened.1.items) }
+    ensures few { IfOk result (λ opened. length opened.1.items ≤ 1000000) }
+{
+    save_tail(rt, folder, journal)?;
+    let stamp = stamp_now(rt)?;
+    desk_over(rt, threads, folder, disk, stamp)
 }
 
 /// Opens the docket of a folder, and gives the entries of its journal. What a crash left after them is saved first. What takes long is told
@@ -131,9 +149,13 @@ pub fn opened<S: Start, H: Threads + Wait + Sync>(
     let name = journal_name(rt.alloc(), folder)?;
     find_own_journal(rt, name.as_str())?;
     let file = open_file(rt, name.as_str(), start)?;
-    save_tail(rt, folder, name.as_str())?;
-    let stamp = stamp_now(rt)?;
-    desk_over(rt, threads, folder, file, stamp)
+    match desk_of(rt, threads, folder, name.as_str(), file) {
+        Ok(opened) => Ok(opened),
+        Err(fault) => {
+            remove_spare(rt, folder);
+            Err(fault)
+        }
+    }
 }
 
 // The name of the file that an opening makes beside a folder's journal.
@@ -171,11 +193,11 @@ fn read_again(
     rt: &HostRuntime,
     name: &str,
     bytes: &mut Vec<u8>,
-    fault: DeskFault,
-) -> Result<(), DeskFault> {
+    fault: OpenFault,
+) -> Result<(), Fault> {
     let again = read_file(rt, name)?;
     if again.as_slice() == bytes.as_slice() {
-        return Err(fault);
+        return Err(Fault::Desk(DeskFault::Open(fault)));
     }
     *bytes = again;
     Ok(())
@@ -193,12 +215,12 @@ pub fn stamped_beside(rt: &HostRuntime, folder: &str) -> Result<(Vec<Vec<u8>>, V
     for _ in 0..TRIES {
         match stamped_in(rt.alloc(), &bytes) {
             Ok(stamped) => return Ok(stamped),
-            Err(fault) => read_again(rt, name.as_str(), &mut bytes, DeskFault::from(fault))?,
+            Err(fault) => read_again(rt, name.as_str(), &mut bytes, OpenFault::from(fault))?,
         }
     }
     match stamped_in(rt.alloc(), &bytes) {
         Ok(stamped) => Ok(stamped),
-        Err(fault) => Err(Fault::Desk(DeskFault::from(fault))),
+        Err(fault) => Err(Fault::Desk(DeskFault::Open(OpenFault::from(fault)))),
     }
 }
 
@@ -211,20 +233,17 @@ pub fn entries_beside(
     ensures { IfOk result (λ entries. length entries.items ≤ 1000000) }
 {
     let (entries, stamps) = stamped_beside(rt, folder)?;
-    match until(rt.alloc(), entries, &stamps, as_of) {
-        Ok(was) => Ok(was),
-        Err(fault) => Err(Fault::Desk(fault)),
-    }
+    until(rt.alloc(), entries, &stamps, as_of)
 }
 
 // The fault of a desk on a disk in memory, which fails only for want of memory.
-fn fault_in_memory(fault: DeskFault) -> DeskFault
+fn fault_in_memory(fault: OpenFault) -> OpenFault
     ensures { result ≡ fault_in_memory fault }
 {
     match fault {
-        DeskFault::Journal(JournalFault::Read) => DeskFault::OutOfMemory,
-        DeskFault::Journal(JournalFault::Write) => DeskFault::OutOfMemory,
-        DeskFault::Journal(JournalFault::Sync) => DeskFault::OutOfMemory,
+        OpenFault::Journal(JournalFault::Read) => OpenFault::OutOfMemory,
+        OpenFault::Journal(JournalFault::Write) => OpenFault::OutOfMemory,
+        OpenFault::Journal(JournalFault::Sync) => OpenFault::OutOfMemory,
         _ => fault,
     }
 }
@@ -259,6 +278,6 @@ fn copied(rt: &HostRuntime, folder: &str) -> Result<Desk<Memory>, Fault> {
     }
     match Desk::copied(rt.alloc(), Memory::new(rt.alloc()), &bytes) {
         Ok(desk) => Ok(desk),
-        Err((fault, _)) => Err(Fault::Desk(fault_in_memory(fault))),
+        Err((fault, _)) => Err(Fault::Desk(DeskFault::Open(fault_in_memory(fault)))),
     }
 }

@@ -8,7 +8,7 @@ ghost use Rattle.row_input.specs.Words.{placed_from, rows_of};
 
 use crate::fault::Fault;
 use court_days::Court;
-use desk_program::DeskFault;
+use desk_program::{DeskFault, TogetherFault};
 use desk_session::{SessionFault, ShortLines, is_finished};
 use program_runs::refused;
 use program_streams::{StreamFault, Watched, read_all};
@@ -62,7 +62,8 @@ fn told_faults<E: Write>(
     }
     let report = report_of(alloc, court, style.order, reading)?;
     say(errors, report.as_bytes());
-    Ok(Fault::Desk(DeskFault::Faults(reading.faulty.len())))
+    let count = reading.faulty.len();
+    Ok(Fault::Desk(DeskFault::Together(TogetherFault::Faults(count))))
 }
 
 // An input without the mark of UTF-8 at its beginning, where it has one.

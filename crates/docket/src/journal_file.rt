@@ -3,7 +3,7 @@ ghost use Rattle.std.specs.Prelude.{◌≡◌, string_bytes, IfOk};
 ghost use Rattle.docket.specs.JournalFile.{journal_name, linked_line, other_line};
 
 use crate::fault::Fault;
-use desk_program::{DeskFault, file_fault};
+use desk_program::{DeskFault, FileFault, OpenFault, file_fault};
 use std::alloc::{AllocError, Global};
 use std::fs::{self, FileType, Metadata};
 use std::io::ErrorKind;
@@ -65,7 +65,7 @@ fn check_own(alloc: Global, name: &str, found: &Metadata) -> Result<(), Fault> {
 }
 
 // What a name leads to, through links, or nothing.
-fn found_at(rt: &HostRuntime, name: &str) -> Result<Option<Metadata>, DeskFault> {
+fn found_at(rt: &HostRuntime, name: &str) -> Result<Option<Metadata>, FileFault> {
     match fs::metadata(rt, name) {
         Ok(found) => Ok(Some(found)),
         Err(error) if error.kind() == ErrorKind::NotFound => Ok(None),
@@ -77,7 +77,7 @@ fn found_at(rt: &HostRuntime, name: &str) -> Result<Option<Metadata>, DeskFault>
 pub fn find_journal(rt: &HostRuntime, name: &str) -> Result<(), Fault> {
     match found_at(rt, name)? {
         Some(found) => check_file(rt.alloc(), name, &found),
-        None => Err(Fault::Desk(DeskFault::NoJournal)),
+        None => Err(Fault::Desk(DeskFault::Open(OpenFault::NoJournal))),
     }
 }
 
@@ -86,7 +86,7 @@ pub fn find_journal(rt: &HostRuntime, name: &str) -> Result<(), Fault> {
 pub fn find_own_journal(rt: &HostRuntime, name: &str) -> Result<(), Fault> {
     match found_at(rt, name)? {
         Some(found) => check_own(rt.alloc(), name, &found),
-        None => Err(Fault::Desk(DeskFault::NoJournal)),
+        None => Err(Fault::Desk(DeskFault::Open(OpenFault::NoJournal))),
     }
 }
 

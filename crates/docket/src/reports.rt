@@ -4,7 +4,7 @@ ghost use Rattle.std.specs.Io.KnownBytes.{Appends};
 ghost use Rattle.std.specs.declared.alloc.Global.{Global};
 ghost use Rattle.desk_entries.specs.Words.{IsDocketed, change_in, changes_by, most_entries};
 ghost use Rattle.desk_journal.specs.Words.{batch_of};
-ghost use Rattle.desk_program.specs.declared.fault.DeskFault.{DeskFault as DeskFaultOf};
+ghost use Rattle.desk_program.specs.declared.faults.desk.DeskFault.{DeskFault as DeskFaultOf};
 ghost use Rattle.docket.specs.Reports.{EndsRun, IsMemo, IsNoMemo, IsNoReport, IsReport, past_of};
 ghost use Rattle.program_streams.specs.Words.{has_failed, watched};
 ghost use Rattle.program_runs.specs.Words.{IsFinding, IsReportRun};
@@ -15,7 +15,7 @@ use crate::progress::told_while;
 use desk_entries::{
     Difference, Docketed, corrections_in, refused_rows, standing_file, standing_rows, struck_rows,
 };
-use desk_program::DeskFault;
+use desk_program::{DeskFault, OpenFault};
 use program_runs::{Finding, Report, run_report};
 use program_streams::Watched;
 use program_words::Source;
@@ -132,7 +132,7 @@ fn report_found(
     ensures fault { IfErr result (λ fault. (cause : DeskFaultOf) × (fault ≡ Fault.Desk cause)) }
 {
     if entries.is_empty() {
-        return Err(Fault::Desk(DeskFault::NoJournal));
+        return Err(Fault::Desk(DeskFault::Open(OpenFault::NoJournal)));
     }
     let docketed = Docketed::of(alloc, entries)?;
     match report_on(alloc, &docketed, entries, asked) {
@@ -195,7 +195,7 @@ fn memo_found(
     ensures fault { IfErr result (λ fault. (cause : DeskFaultOf) × (fault ≡ Fault.Desk cause)) }
 {
     if entries.is_empty() {
-        return Err(Fault::Desk(DeskFault::NoJournal));
+        return Err(Fault::Desk(DeskFault::Open(OpenFault::NoJournal)));
     }
     let docketed = Docketed::of(alloc, entries)?;
     match memo_on(alloc, &docketed, entries, asked) {

@@ -6,7 +6,7 @@ ghost use Rattle.docket.specs.Saved.{cut_name, day_at, many_line, one_line, save
 use crate::folder::{read_file, sync_folder};
 use court_clock::Day;
 use desk_journal::tail_in;
-use desk_program::{DeskFault, file_fault};
+use desk_program::{FileFault, file_fault};
 use desk_session::second_of;
 use program_runs::refused;
 use program_streams::Watched;
@@ -70,7 +70,7 @@ fn saved_line(alloc: Global, count: usize, name: &str) -> Result<String, AllocEr
 }
 
 // A new file of that name, if there is none yet.
-fn new_file(rt: &HostRuntime, name: &str) -> Result<Option<File>, DeskFault> {
+fn new_file(rt: &HostRuntime, name: &str) -> Result<Option<File>, FileFault> {
     match File::create_new(rt, name) {
         Ok(file) => Ok(Some(file)),
         Err(error) if error.kind() == ErrorKind::AlreadyExists => Ok(None),
@@ -79,7 +79,7 @@ fn new_file(rt: &HostRuntime, name: &str) -> Result<Option<File>, DeskFault> {
 }
 
 // A new file for what is cut off on that day, and its name: that of the first number of which there is none.
-fn cut_file(rt: &HostRuntime, folder: &str, day: Day) -> Result<(String, File), DeskFault> {
+fn cut_file(rt: &HostRuntime, folder: &str, day: Day) -> Result<(String, File), FileFault> {
     for number in 1..MOST_CUT {
         let name = cut_name(rt.alloc(), folder, day, number)?;
         if let Some(file) = new_file(rt, name.as_str())? {
@@ -102,7 +102,7 @@ fn put_tail<W: Write>(writer: &mut W, tail: &[u8]) -> io::Result<()>
 
 // Saves what is cut off in a new file of the folder, through a crash, and gives the file's name. A file that can't be written in full
 // is taken away again.
-fn saved(rt: &HostRuntime, folder: &str, tail: &[u8]) -> Result<String, DeskFault> {
+fn saved(rt: &HostRuntime, folder: &str, tail: &[u8]) -> Result<String, FileFault> {
     let (name, mut file) = cut_file(rt, folder, day_at(second_of(rt)))?;
     let ended = match put_tail(&mut file, tail) {
         Ok(()) => file.sync_all(),
@@ -123,7 +123,7 @@ fn saved(rt: &HostRuntime, folder: &str, tail: &[u8]) -> Result<String, DeskFaul
 /// Saves what a crash left after the last entry of a folder's journal, of which this is the name, and says so on standard error.
 /// The journal's file has to be open, so that no other program writes to it. Of a journal that is damaged, or has no entries, nothing is
 /// saved, since nothing of it is cut off.
-pub fn save_tail(rt: &HostRuntime, folder: &str, journal: &str) -> Result<(), DeskFault> {
+pub fn save_tail(rt: &HostRuntime, folder: &str, journal: &str) -> Result<(), FileFault> {
     let bytes = read_file(rt, journal)?;
     let tail = match tail_in(&bytes) {
         Ok(tail) => tail,

@@ -2,13 +2,14 @@
 ghost use Rattle.std.specs.Prelude.{◌≡◌, false};
 ghost use Rattle.program_streams.specs.Words.{has_failed};
 
-use crate::alone::{change, init, restore, strike};
+use crate::alone::{change, correct, init};
 use crate::beside::{ask, cases, check, plain, rows, struck, try_rows};
 use crate::court::{check_file, write_file};
 use crate::enter::enter;
 use crate::fault::Fault;
 use crate::logs::log;
 use crate::reports::{memo, report};
+use desk_program::RowCorrection;
 use program_streams::Watched;
 use program_words::Task;
 use std::io::Write;
@@ -58,8 +59,22 @@ pub fn done<H: Threads + Wait + Sync, W: Write, E: Write>(
             *as_of,
         )?,
         Task::Plain(folder, style) => plain(rt, threads, writer, errors, folder.as_str(), *style)?,
-        Task::Strike(folder, row) => strike(rt, threads, writer, folder.as_str(), row)?,
-        Task::Restore(folder, row) => restore(rt, threads, writer, folder.as_str(), row)?,
+        Task::Strike(folder, row) => correct(
+            rt,
+            threads,
+            writer,
+            folder.as_str(),
+            RowCorrection::Strike,
+            row,
+        )?,
+        Task::Restore(folder, row) => correct(
+            rt,
+            threads,
+            writer,
+            folder.as_str(),
+            RowCorrection::Restore,
+            row,
+        )?,
         Task::Struck(folder, as_of) => struck(rt, writer, folder.as_str(), *as_of)?,
         Task::Cases(folder, as_of) => cases(rt, threads, writer, folder.as_str(), *as_of)?,
         Task::Check(folder) => check(rt, threads, writer, folder.as_str())?,

@@ -3,10 +3,11 @@ ghost use Rattle.std.specs.Prelude.{◌≡◌, ◌<◌, ◌≤◌, length, optio
 ghost use Rattle.desk_journal.specs.Words.{batch_of};
 ghost use Rattle.docket.specs.Times.{IsChoice, IsThen, IsUntil, begin_of, day_then, end_of, moment_of, second_at, second_of, second_within};
 
+use crate::fault::Fault;
 use court_clock::{Clock, Day, Instant};
 use desk_entries::standing_file;
 use desk_journal::Stamp;
-use desk_program::{DeskFault, LogChoice, Moment, court_of, kept_at};
+use desk_program::{CourtFileFault, DeskFault, LogChoice, Moment, OpenFault, court_of, kept_at};
 use program_main::{DaySaid, today_by};
 use program_words::{AsOf, LogAsked};
 use std::alloc::{AllocError, Global};
@@ -76,7 +77,7 @@ fn entries_then(
     entries: Vec<Vec<u8>>,
     stamps: &[Stamp],
     as_of: AsOf,
-) -> Result<Vec<Vec<u8>>, DeskFault>
+) -> Result<Vec<Vec<u8>>, CourtFileFault>
     ensures was { IfOk result (λ was. IsThen as_of stamps.now (batch_of entries.items) (batch_of was.items)) }
     ensures few { IfOk result (λ was. length was.items ≤ length entries.items) }
 {
@@ -94,14 +95,14 @@ pub fn until(
     entries: Vec<Vec<u8>>,
     stamps: &[Stamp],
     as_of: Option<AsOf>,
-) -> Result<Vec<Vec<u8>>, DeskFault>
+) -> Result<Vec<Vec<u8>>, Fault>
     ensures until { IfOk result (λ was. IsUntil as_of stamps.now (batch_of entries.items) (batch_of was.items)) }
     ensures few { IfOk result (λ was. length was.items ≤ length entries.items) }
 {
     match as_of {
         None => Ok(entries),
-        Some(_) if entries.is_empty() => Err(DeskFault::NoJournal),
-        Some(as_of) => entries_then(alloc, entries, stamps, as_of),
+        Some(_) if entries.is_empty() => Err(Fault::Desk(DeskFault::Open(OpenFault::NoJournal))),
+        Some(as_of) => Ok(entries_then(alloc, entries, stamps, as_of)?),
     }
 }
 

@@ -9,9 +9,11 @@ use crate::stored::push_name;
 use desk_entries::{Docketed, standing_file};
 use desk_journal::{Stamp, stamped_in};
 use desk_program::{
-    Desk, DeskFault, LogChoice, all_taken, ask, checked_rows, court_of, ended_by, write_cases,
-    write_count, write_log, write_rows, write_struck,
+    Desk, DeskFault, LogChoice, OpenFault, OutputFault, RowCorrection, all_taken, ask,
+    checked_rows, court_of, ended_by, write_cases, write_count, write_log, write_rows,
+    write_struck,
 };
+use desk_session::Tally;
 use program_main::today_by;
 use program_runs::refused;
 use program_streams::{Watched, write_all};
@@ -89,7 +91,7 @@ fn done(
         Task::Init(_, _) => begun(alloc, disk, input, stamp),
         _ => match Desk::open(alloc, disk, stamp) {
             Ok((desk, entries)) => opened(alloc, desk, &entries, task, input, writer, errors),
-            Err((fault, disk)) => (Err(fault), disk),
+            Err((fault, disk)) => (Err(DeskFault::Open(fault)), disk),
         },
     }
 }
@@ -101,7 +103,7 @@ fn begun(alloc: Global, disk: Memory, file: &[u8], stamp: Stamp) -> Ended {
     };
     match Desk::begin(alloc, disk, file, stamp) {
         Ok(disk) => (Ok(()), disk),
-        Err((fault, disk)) => (Err(fault), disk),
+        Err((fault, disk)) => (Err(DeskFault::Begin(fault)), disk),
     }
 }
 
@@ -128,9 +130,29 @@ fn opened(
             desk.hold_back(*held_back);
             return tried(alloc, desk, input, writer);
         }
-        Task::Strike(_, correcting) => struck(alloc, &mut desk, entries, correcting, writer),
-        Task::Restore(_, correcting) => restored(alloc, &mut desk, entries, correcting, writer),
-        Task::CourtChange(_, _, accept) => desk.change(alloc, entries, input, *accept, writer),
+        Task::Strike(_, correcting) => {
+            corrected(
+                alloc,
+                &mut desk,
+                entries,
+                RowCorrection::Strike,
+                correcting,
+                writer,
+            )
+        }
+        Task::Restore(_, correcting) => {
+            corrected(
+                alloc,
+                &mut desk,
+                entries,
+                RowCorrection::Restore,
+                correcting,
+                writer,
+            )
+        }
+        Task::CourtChange(_, _, accept) => {
+            changed(alloc, &mut desk, entries, input, *accept, writer)
+        }
         Task::Cases(_, _) => {
             let disk = desk.into_disk();
             let ended = copied_cases(alloc, disk.bytes(), writer);
@@ -142,9 +164,9 @@ fn opened(
             return (ended, disk);
         }
         Task::Ask(_, _, _) => asked(alloc, entries, input, writer),
-        Task::Struck(_, _) => write_struck(alloc, entries, writer),
+        Task::Struck(_, _) => listed(write_struck(alloc, entries, writer)),
         Task::Check(_) => checked(alloc, entries, writer),
-        _ => write_rows(alloc, desk.standing(), desk.moved(), entries, writer),
+        _ => listed(write_rows(alloc, desk.standing(), desk.moved(), entries, writer)),
     };
     (ended, desk.into_disk())
 }
@@ -164,7 +186,7 @@ fn entered(
         Keeping::Each => {
             let mut reader = Watched::new(input);
             match desk.enter(alloc, &FirstClock, &mut reader, writer) {
-                Ok(tally) => all_taken(tally),
+                Ok(tally) => taken(tally),
                 Err(fault) => Err(DeskFault::Session(fault)),
             }
         }
@@ -173,17 +195,30 @@ fn entered(
             match desk.enter_together(alloc, input, keep_refused, &mut said) {
                 Ok(()) => match write_all(writer, said.inner()) {
                     Ok(()) => Ok(()),
-                    Err(_) => Err(DeskFault::Write),
+                    Err(_) => Err(DeskFault::Output(OutputFault::Write)),
                 },
                 Err(fault) => {
                     if let Ok(text) = str::from_utf8(said.inner()) {
                         let _ = refused(errors, text);
                     }
-                    Err(fault)
+                    Err(DeskFault::Together(fault))
                 }
             }
         }
     }
+}
+
+// Whether all rows were taken, by their tally.
+fn taken(tally: Tally) -> Result<(), DeskFault> {
+    match all_taken(tally) {
+        Ok(()) => Ok(()),
+        Err(tally) => Err(DeskFault::Faulty(tally)),
+    }
+}
+
+// What came of a list that is written.
+fn listed(ended: Result<(), OutputFault>) -> Result<(), DeskFault> {
+    Ok(ended?)
 }
 
 // Answers rows, and keeps none.
@@ -192,7 +227,7 @@ fn tried(alloc: Global, desk: Desk<Memory>, input: &[u8], writer: &mut Watched<V
 {
     let mut reader = Watched::new(input);
     match desk.try_rows(alloc, &mut reader, writer) {
-        (Ok(tally), disk) => (all_taken(tally), disk),
+        (Ok(tally), disk) => (taken(tally), disk),
         (Err(fault), disk) => (Err(DeskFault::Unkept(fault)), disk),
     }
 }
@@ -207,9 +242,15 @@ fn asked(
     requires works { has_failed writer.old ≡ false }
     requires few { length entries.now ≤ 1000000 }
 {
-    let docketed = Docketed::of(alloc, entries)?;
+    let docketed = match Docketed::of(alloc, entries) {
+        Ok(docketed) => docketed,
+        Err(fault) => return Err(DeskFault::Open(OpenFault::from(fault))),
+    };
     let mut reader = Watched::new(input);
-    all_taken(ask(alloc, docketed, &mut reader, writer)?)
+    match ask(alloc, docketed, &mut reader, writer) {
+        Ok(tally) => taken(tally),
+        Err(fault) => Err(DeskFault::Unkept(fault)),
+    }
 }
 
 // Decides all rows again, and writes how many there are.
@@ -221,8 +262,10 @@ fn checked(
     requires works { has_failed writer.old ≡ false }
     requires few { length entries.now ≤ 1000000 }
 {
-    let count = checked_rows(alloc, entries)?;
-    write_count(alloc, count, writer)
+    match checked_rows(alloc, entries) {
+        Ok(count) => listed(write_count(alloc, count, writer)),
+        Err(fault) => Err(DeskFault::Open(OpenFault::from(fault))),
+    }
 }
 
 // What is kept of a correction beside its row: what was done, when, by whom and why.
@@ -237,11 +280,12 @@ fn remark_of(
     format!(in alloc; "{done} {day} by {ACCOUNT}: {reason}\n")
 }
 
-// Strikes a row.
-fn struck(
+// Strikes a row, or restores one that is struck.
+fn corrected(
     alloc: Global,
     desk: &mut Desk<Memory>,
     entries: &[Vec<u8>],
+    done: RowCorrection,
     correcting: &Correcting,
     writer: &mut Watched<Vec<u8>>,
 ) -> Result<(), DeskFault>
@@ -249,26 +293,37 @@ fn struck(
     requires some { 0 < length entries.now }
     requires few { length entries.now ≤ 1000000 }
 {
-    let remark = remark_of(alloc, "struck", desk, correcting)?;
+    let said = match done {
+        RowCorrection::Strike => "struck",
+        RowCorrection::Restore => "restored",
+    };
+    let remark = remark_of(alloc, said, desk, correcting)?;
     let Correcting { row, accept, .. } = correcting;
-    desk.strike(alloc, entries, *row, remark.as_bytes(), *accept, writer)
+    Ok(desk.correct_row(
+        alloc,
+        entries,
+        done,
+        *row,
+        remark.as_bytes(),
+        *accept,
+        writer,
+    )?)
 }
 
-// Restores a row that is struck.
-fn restored(
+// Goes by another court's file.
+fn changed(
     alloc: Global,
     desk: &mut Desk<Memory>,
     entries: &[Vec<u8>],
-    correcting: &Correcting,
+    file: &[u8],
+    accept: bool,
     writer: &mut Watched<Vec<u8>>,
 ) -> Result<(), DeskFault>
     requires works { has_failed writer.old ≡ false }
     requires some { 0 < length entries.now }
     requires few { length entries.now ≤ 1000000 }
 {
-    let remark = remark_of(alloc, "restored", desk, correcting)?;
-    let Correcting { row, accept, .. } = correcting;
-    desk.restore(alloc, entries, *row, remark.as_bytes(), *accept, writer)
+    Ok(desk.change(alloc, entries, file, accept, writer)?)
 }
 
 // Lists the entries of a journal's file, or those of one row.
@@ -282,7 +337,7 @@ fn logged(
 {
     let (entries, stamps) = match stamped_in(alloc, file) {
         Ok(found) => found,
-        Err(fault) => return Err(DeskFault::Journal(fault)),
+        Err(fault) => return Err(DeskFault::Open(OpenFault::from(fault))),
     };
     let court = court_of(alloc, standing_file(&entries))?;
     let choice = LogChoice {
@@ -302,7 +357,7 @@ fn copied_cases(alloc: Global, file: &[u8], writer: &mut Watched<Vec<u8>>) -> Re
     requires { has_failed writer.old ≡ false }
 {
     match Desk::copied(alloc, Memory::new(alloc), file) {
-        Ok(desk) => write_cases(alloc, desk.cases(), writer),
-        Err((fault, _)) => Err(fault),
+        Ok(desk) => listed(write_cases(alloc, desk.cases(), writer)),
+        Err((fault, _)) => Err(DeskFault::Open(fault)),
     }
 }

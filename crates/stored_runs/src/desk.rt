@@ -50,7 +50,7 @@ fn desk_run(
     let file = Vec::from_slice(alloc, court)?;
     let disk = match Desk::begin(alloc, Memory::new(alloc), file, stamp(alloc)?) {
         Ok(disk) => disk,
-        Err((fault, _)) => return Err(fault),
+        Err((fault, _)) => return Err(DeskFault::Begin(fault)),
     };
     let disk = entered(alloc, disk, lines, answers)?;
     write_kept(alloc, disk, rows)
@@ -67,7 +67,7 @@ fn entered(
 {
     let mut desk = match Desk::open(alloc, disk, stamp(alloc)?) {
         Ok((desk, _)) => desk,
-        Err((fault, _)) => return Err(fault),
+        Err((fault, _)) => return Err(DeskFault::Open(fault)),
     };
     let mut reader = Watched::new(lines);
     let ended = desk.enter(alloc, &FirstClock, &mut reader, answers);
@@ -83,7 +83,9 @@ fn write_kept(alloc: Global, disk: Memory, rows: &mut Watched<Vec<u8>>) -> Resul
     requires { has_failed rows.old ≡ false }
 {
     match Desk::open(alloc, disk, stamp(alloc)?) {
-        Ok((desk, entries)) => write_rows(alloc, desk.standing(), desk.moved(), &entries, rows),
-        Err((fault, _)) => Err(fault),
+        Ok((desk, entries)) => {
+            Ok(write_rows(alloc, desk.standing(), desk.moved(), &entries, rows)?)
+        }
+        Err((fault, _)) => Err(DeskFault::Open(fault)),
     }
 }

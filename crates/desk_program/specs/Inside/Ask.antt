@@ -1,15 +1,11 @@
 -- Questions on the docket to which entries come.
 use Rattle.std.specs.Prelude.{◌≡◌, ℕ, List, [], Option}
 use Rattle.std.specs.Io.KnownBytes.{Appends}
-use Rattle.program_streams.specs.declared.watched.Watched.{Watched}
 use Rattle.program_streams.specs.Words.{AppendsFront}
-use Rattle.desk_session.specs.declared.fault.SessionFault.{SessionFault}
 use Rattle.desk_session.specs.declared.outcome.Tally.{Tally}
-use Rattle.desk_session.specs.Words.{EndsSession, tally_of, told_to}
+use Rattle.desk_session.specs.Words.{tally_of, told_to}
 use Rattle.desk_entries.specs.declared.standing.Standing.{Standing}
 use Rattle.desk_entries.specs.Words.{StandsAfter, came_shown, shown}
-use Rattle.desk_program.specs.declared.fault.DeskFault.{DeskFault}
-use Rattle.desk_program.specs.declared.fault.DeskFault.TheVariants.{Unkept}
 
 -- Each line is answered as a question on the docket after the entries, under what stands there. No line changes what the next is
 -- answered. The tally says how many lines there were, and how many had faults.
@@ -24,9 +20,3 @@ pub record AnswersInPart (entries lines : List (List ℕ)) (before after : Optio
   pub under : Standing
   pub stands : StandsAfter entries under
   pub told : AppendsFront before after (told_to (λ kept line. []) (shown under) entries lines)
-
--- The session ended early, for this cause, and it is one of which nothing is kept.
-pub record EndsUnkept {R W : Type 0} (reader : Watched R) (writer : Watched W) (bytes : List ℕ) (fault : DeskFault) : Type 0 where
-  pub cause : SessionFault
-  pub fault_is : fault ≡ Unkept cause
-  pub ends : EndsSession reader writer bytes cause

@@ -1,4 +1,4 @@
 use Rattle.docket.proofs.folder.opened.Goals as goal
 
-pub returns-clause-opened : goal.returns-clause-opened
-returns-clause-opened g c = c.desk_over.ensures.opened _ c.in_ok-file.ensures
+pub returns-in-Ok-clause-opened : goal.returns-in-Ok-clause-opened
+returns-in-Ok-clause-opened g c = c.in-Ok.ensures.opened _ c.in_ok-file.ensures

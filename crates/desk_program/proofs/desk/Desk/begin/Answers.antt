@@ -1,11 +1,12 @@
 use Rattle.std.proofs.Common.{◌≡◌, ◌∙◌, ◌∷◌, [], ℕ, List, ap, subst, sym}
 use Rattle.std.specs.Prelude.{IsTrue}
-use Rattle.desk_journal.specs.Words.{IsDurable, IsKept, batch_of}
+use Rattle.desk_journal.specs.Words.{HasAppendFault, HasBeginFault, IsDurable, IsKept, batch_of}
+use Rattle.desk_journal.specs.declared.fault.JournalFault.TheVariants as journal
 use Rattle.desk_journal.proofs.CallerLemmas.{one_list, rest_kept}
 use Rattle.desk_entries.specs.Words.{SaysCourt}
 use Rattle.desk_entries.proofs.CallerLemmas.{first_history}
 use Rattle.desk_program.proofs.DeskLemmas.{first_file}
-use Rattle.desk_program.proofs.FaultLemmas.{never_taken, taken_begun, unless_written}
+use Rattle.desk_program.proofs.FaultLemmas.{has_entries, unless_written}
 use Rattle.desk_program.proofs.desk.Desk.begin.Goals as goal
 
 pub returns-in-Ok-append-clause-empty : goal.returns-in-Ok-append-clause-empty
@@ -37,10 +38,11 @@ returns-in-Ok-begin-clause-crash g c = λ was entries is stands clean x left.
 pub returns-in-Ok-begin-clause-taken : goal.returns-in-Ok-begin-clause-taken
 returns-in-Ok-begin-clause-taken g c = λ was is clean taken.
     let before = c.append.ensures.clean (subst (λ (d : g.row.D.Denot). IsTrue (g.D.Disk.is_clean d)) c.into_disk-in-Err-append.ensures clean) in
-    absurd (never_taken _ _ [] c.deref-in-Ok-begin.result.now c.in-Err-append.fault (c.in-Err-append.ensures.cause [] (c.in-Ok-begin.ensures.kept was is before).2) (sym c.from.ensures ∙ taken))
+    absurd (subst (HasAppendFault _ _ [] c.deref-in-Ok-begin.result.now) (has_entries c.in-Err-append.fault (sym c.from.ensures ∙ taken)) (c.in-Err-append.ensures.cause [] (c.in-Ok-begin.ensures.kept was is before).2))
 
 pub returns-clause-taken : goal.returns-clause-taken
-returns-clause-taken g c = λ was is clean taken. (
-  taken_begun _ _ was c.in-Err-begin.fault (c.in-Err-begin.ensures.cause was is clean) (sym c.from-in-Err-begin.ensures ∙ taken),
-  unless_written c.in-Err-begin.fault c.from-in-Err-begin.result (IsDurable g.D.Disk was c.in-Err-begin.disk) c.from-in-Err-begin.ensures (λ write. cc (taken, write)) (λ sync. cc (taken, sync)) (c.in-Err-begin.ensures.untouched was is),
-)
+returns-clause-taken g c = λ was is clean taken.
+    let fault_is = has_entries c.in-Err-begin.fault (sym c.from-in-Err-begin.ensures ∙ taken) in (
+      subst (HasBeginFault _ _ was) fault_is (c.in-Err-begin.ensures.cause was is clean),
+      unless_written c.in-Err-begin.fault journal.Taken (IsDurable g.D.Disk was c.in-Err-begin.disk) fault_is (λ never. never) (c.in-Err-begin.ensures.untouched was is),
+    )

@@ -1,11 +1,12 @@
-use Rattle.std.proofs.Common.{ℕ, List, subst}
+use Rattle.std.proofs.Common.{◌∙◌, ℕ, List, subst, sym}
 use Rattle.std.specs.Prelude.{IsTrue, Vec}
 use Rattle.std.specs.declared.alloc.Global.{Global}
 use Rattle.desk_journal.specs.Words.{IsDurable, batch_of}
+use Rattle.desk_journal.specs.declared.fault.JournalFault.TheVariants as journal
 use Rattle.desk_journal.proofs.CallerLemmas.{rest_kept}
 use Rattle.desk_entries.specs.Words.{HasDocketFault, IsDocketed}
 use Rattle.desk_program.proofs.DeskLemmas.{same_entries}
-use Rattle.desk_program.proofs.FaultLemmas.{unless_written}
+use Rattle.desk_program.proofs.FaultLemmas.{no_entries, unless_written}
 use Rattle.desk_program.proofs.OpenLemmas.{unopened_by_history, unopened_by_journal}
 use Rattle.desk_program.proofs.desk.Desk.open.Goals as goal
 
@@ -41,4 +42,4 @@ returns-in-Err-clause-cause g c = λ file was clean.
 
 pub returns-in-Err-clause-none : goal.returns-in-Err-clause-none
 returns-in-Err-clause-none g c = λ file was is.
-    unless_written c.in-Err.fault c.from.result (IsDurable g.D.Disk file c.in-Err.disk) c.from.ensures (λ write. cc (is, write)) (λ sync. cc (is, sync)) (c.in-Err.ensures.untouched file was)
+    unless_written c.in-Err.fault journal.NoEntries (IsDurable g.D.Disk file c.in-Err.disk) (no_entries c.in-Err.fault (sym c.from.ensures ∙ is)) (λ never. never) (c.in-Err.ensures.untouched file was)

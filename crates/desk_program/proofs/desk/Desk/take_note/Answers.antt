@@ -3,7 +3,6 @@ use Rattle.desk_journal.specs.Words.{IsKept, batch_of}
 use Rattle.desk_entries.specs.declared.register.DocketRegister.{DocketRegister}
 use Rattle.desk_entries.specs.Words.{StandsAt}
 use Rattle.desk_program.proofs.DeskLemmas.{one_more}
-use Rattle.desk_program.proofs.FaultLemmas.{never_differs, never_unstruck}
 use Rattle.desk_program.proofs.desk.Desk.take_note.Goals as goal
 
 pub returns-in-Err-clause-crash : goal.returns-in-Err-clause-crash
@@ -23,9 +22,3 @@ returns-in-Ok-clause-kept g c = λ entries keeps stands short some comes.
 pub returns-in-Ok-clause-crash : goal.returns-in-Ok-clause-crash
 returns-in-Ok-clause-crash g c = λ entries keeps x left.
     one_more x entries (batch_of c.deref.result.now) c.args.entry.items (ap batch_of c.deref.ensures.value ∙ c.in_ok-batch.ensures) (c.append.ensures.crash entries keeps.kept x left)
-
-pub returns-in-Err-clause-fault : goal.returns-in-Err-clause-fault
-returns-in-Err-clause-fault g c = λ count is. never_differs c.in-Err.fault c.from.result count c.from.ensures is
-
-pub returns-in-Err-clause-unstruck : goal.returns-in-Err-clause-unstruck
-returns-in-Err-clause-unstruck g c = λ fault is. never_unstruck c.in-Err.fault c.from.result fault c.from.ensures is
