@@ -1,12 +1,31 @@
 -- The journal's faults, as those of the desk's tasks.
-use Rattle.std.proofs.Common.{◌≡◌, ◌⊎◌, inl, inr, ℕ, refl, subst}
+use Rattle.std.proofs.Common.{◌≡◌, ◌⊎◌, inl, inr, ℕ, Result, Ok, Err, ap, refl, subst}
 use Rattle.desk_journal.specs.Words.{HasWriteFault}
 use Rattle.desk_journal.specs.declared.fault.JournalFault.{JournalFault}
 use Rattle.desk_journal.specs.declared.fault.JournalFault.TheVariants as journal
 use Rattle.desk_program.specs.declared.faults.beginning.BeginFault.TheVariants.{Taken}
+use Rattle.desk_program.specs.declared.faults.correcting.CorrectionFault.{CorrectionFault}
 use Rattle.desk_program.specs.declared.faults.correcting.CorrectionFault.TheVariants.{Differs}
+use Rattle.desk_program.specs.declared.faults.correcting.StrikingFault.{StrikingFault}
+use Rattle.desk_program.specs.declared.faults.correcting.StrikingFault.TheVariants.{Unstruck, Untaken}
 use Rattle.desk_program.specs.declared.faults.opening.OpenFault.TheVariants.{NoJournal}
 use Rattle.desk_program.specs.Faults.{unbegun_journal, unopened_journal, untaken_journal}
+
+-- a result's fault, or another where it has none
+abbrev fault_of : {A F : Type 0} → F → Result A F → F
+fault_of otherwise (Ok a) = otherwise
+fault_of otherwise (Err fault) = fault
+
+pub same_fault : {A F : Type 0} (a b : F) → ◌≡◌ {A = Result A F} (Err a) (Err b) → a ≡ b
+same_fault a b is = ap (fault_of a) is
+
+-- the same of a correction that isn't taken
+abbrev untaken_of : CorrectionFault → StrikingFault → CorrectionFault
+untaken_of otherwise (Unstruck fault) = otherwise
+untaken_of otherwise (Untaken fault) = fault
+
+pub same_untaken : {A : Type 0} (a b : CorrectionFault) → ◌≡◌ {A = Result A StrikingFault} (Err (Untaken a)) (Err (Untaken b)) → a ≡ b
+same_untaken a b is = ap (untaken_of a) (same_fault (Untaken a) (Untaken b) is)
 
 -- a docket of which there is no journal: its file has no entries
 pub no_entries : (fault : JournalFault) → unopened_journal fault ≡ NoJournal → fault ≡ journal.NoEntries

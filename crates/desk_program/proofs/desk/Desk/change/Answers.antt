@@ -2,7 +2,7 @@ use Rattle.std.proofs.Common.{◌≡◌, ◌∙◌, ◌<◌, ℕ, List, Err, ap,
 use Rattle.desk_journal.specs.Words.{batch_of}
 use Rattle.desk_entries.specs.Words.{most_entries}
 use Rattle.desk_entries.proofs.CallerLemmas.{length_batch}
-use Rattle.desk_program.proofs.FaultLemmas.{never_differs}
+use Rattle.desk_program.proofs.FaultLemmas.{never_differs, same_fault}
 use Rattle.desk_program.specs.declared.faults.correcting.CorrectionFault.{CorrectionFault}
 use Rattle.desk_program.specs.declared.faults.correcting.CorrectionFault.TheVariants.{Differs}
 use Rattle.desk_program.proofs.desk.Desk.change.Goals as goal
@@ -26,15 +26,15 @@ returns-in-Ok-take_file-clause-taken g c = λ keeps.
 pub returns-in-Ok-take_file-clause-crash : goal.returns-in-Ok-take_file-clause-crash
 returns-in-Ok-take_file-clause-crash g c = λ keeps x left. c.take_file.ensures.crash (batch_of c.args.entries.now) keeps x left
 
-pub returns-in-Ok-reviewed-clause-refused : goal.returns-in-Ok-reviewed-clause-refused
-returns-in-Ok-reviewed-clause-refused g c = λ count keeps is. absurd (never_differs c.in-Err-take_file.fault count (sym c.from.ensures ∙ cc is))
+pub returns-in-Err-take_file-clause-refused : goal.returns-in-Err-take_file-clause-refused
+returns-in-Err-take_file-clause-refused g c = λ count keeps is. absurd (never_differs c.in-Err-take_file.fault count (sym c.from.ensures ∙ same_fault c.from.result (Differs count) is))
 
-pub returns-in-Ok-reviewed-clause-crash : goal.returns-in-Ok-reviewed-clause-crash
-returns-in-Ok-reviewed-clause-crash g c = λ keeps x left. c.take_file.ensures.crash (batch_of c.args.entries.now) keeps x left
+pub returns-in-Err-take_file-clause-crash : goal.returns-in-Err-take_file-clause-crash
+returns-in-Err-take_file-clause-crash g c = λ keeps x left. c.take_file.ensures.crash (batch_of c.args.entries.now) keeps x left
 
-pub returns-clause-refused : goal.returns-clause-refused
-returns-clause-refused g c = λ count keeps is.
-    let differs : c.in-Err-reviewed.fault ≡ Differs count = cc is in (
+pub returns-in-Err-reviewed-clause-refused : goal.returns-in-Err-reviewed-clause-refused
+returns-in-Err-reviewed-clause-refused g c = λ count keeps is.
+    let differs = same_fault c.in-Err-reviewed.fault (Differs count) is in (
       record {
         then = c.in-Ok.standing;
         changed = record { court = c.in-Ok.ensures.court; corrections = c.in-Ok.ensures.corrections (batch_of c.args.entries.now) keeps };

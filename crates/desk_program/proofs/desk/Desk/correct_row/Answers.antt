@@ -7,7 +7,7 @@ use Rattle.desk_program.specs.declared.entry_kind.EntryKind.{EntryKind}
 use Rattle.desk_program.specs.Correction.{IsListed, IsOnlyListed}
 use Rattle.desk_program.specs.Desk.{standing_at}
 use Rattle.desk_program.proofs.DeskLemmas.{one_note}
-use Rattle.desk_program.proofs.FaultLemmas.{never_differs}
+use Rattle.desk_program.proofs.FaultLemmas.{never_differs, same_untaken}
 use Rattle.desk_program.specs.declared.faults.correcting.CorrectionFault.{CorrectionFault}
 use Rattle.desk_program.specs.declared.faults.correcting.CorrectionFault.TheVariants.{Differs}
 use Rattle.desk_program.proofs.desk.Desk.correct_row.Goals as goal
@@ -34,16 +34,16 @@ pub returns-in-Ok-take_row_note-clause-crash : goal.returns-in-Ok-take_row_note-
 returns-in-Ok-take_row_note-clause-crash g c = λ keeps x left.
     one_note x c.args.done (standing_at c.args.self.now) (batch_of c.args.entries.now) c.args.row c.in-Ok-found.note (unsaid_by (standing_at c.args.self.now) (batch_of c.args.entries.now)) c.args.remark.now (sym (c.in-Ok.ensures keeps) ∙ c.in-Ok-found.is) (c.take_row_note.ensures.crash (batch_of c.args.entries.now) keeps x left)
 
-pub returns-in-Ok-reviewed-clause-refused : goal.returns-in-Ok-reviewed-clause-refused
-returns-in-Ok-reviewed-clause-refused g c = λ count keeps is. absurd (never_differs c.in-Err-take_row_note.fault count (sym c.from.ensures ∙ cc is))
+pub returns-in-Err-take_row_note-clause-refused : goal.returns-in-Err-take_row_note-clause-refused
+returns-in-Err-take_row_note-clause-refused g c = λ count keeps is. absurd (never_differs c.in-Err-take_row_note.fault count (sym c.from.ensures ∙ same_untaken c.from.result (Differs count) is))
 
-pub returns-in-Ok-reviewed-clause-crash : goal.returns-in-Ok-reviewed-clause-crash
-returns-in-Ok-reviewed-clause-crash g c = λ keeps x left.
+pub returns-in-Err-take_row_note-clause-crash : goal.returns-in-Err-take_row_note-clause-crash
+returns-in-Err-take_row_note-clause-crash g c = λ keeps x left.
     one_note x c.args.done (standing_at c.args.self.now) (batch_of c.args.entries.now) c.args.row c.in-Ok-found.note (unsaid_by (standing_at c.args.self.now) (batch_of c.args.entries.now)) c.args.remark.now (sym (c.in-Ok.ensures keeps) ∙ c.in-Ok-found.is) (c.take_row_note.ensures.crash (batch_of c.args.entries.now) keeps x left)
 
-pub returns-clause-refused : goal.returns-clause-refused
-returns-clause-refused g c = λ count keeps is.
-    let differs : c.in-Err-reviewed.fault ≡ Differs count = cc is in
+pub returns-in-Err-reviewed-clause-refused : goal.returns-in-Err-reviewed-clause-refused
+returns-in-Err-reviewed-clause-refused g c = λ count keeps is.
+    let differs = same_untaken c.in-Err-reviewed.fault (Differs count) is in
     let old = g.W.Write.contents (watched c.args.writer.now) in
     let new = g.W.Write.contents (watched c.reviewed.new.writer) in (
       record {
