@@ -12,7 +12,7 @@ use Rattle.desk_numbers.specs.declared.said.Said.{Said}
 use Rattle.desk_numbers.specs.declared.strikes.restore.Restore.{Restore}
 use Rattle.desk_numbers.specs.declared.strikes.strike.Strike.{Strike}
 use Rattle.desk_numbers.specs.Strikes.Words.{restore_entry, strike_entry}
-use Rattle.desk_entries.specs.declared.standing.Standing.{Standing}
+use Rattle.desk_register.specs.declared.standing.Standing.{Standing}
 use Rattle.desk_entries.specs.Words.{IsDocketed, IsHistory, IsReadyAt, StandsAfter, later_file, restore_for, strike_for}
 use Rattle.desk_entries.proofs.CallerLemmas.{left_docketed}
 use Rattle.desk_warnings.specs.Words.{lines_taken}

@@ -4,7 +4,7 @@ use Rattle.std.specs.declared.alloc.Global.{Global}
 use Rattle.desk_journal.specs.Words.{HasAppendFault, HasBeginFault, HasEntries, HasWriteFault}
 use Rattle.desk_journal.specs.declared.fault.JournalFault.{JournalFault}
 use Rattle.desk_journal.specs.declared.fault.JournalFault.TheVariants as journal
-use Rattle.desk_entries.specs.declared.fault.StrikeFault.{StrikeFault}
+use Rattle.desk_register.specs.declared.fault.StrikeFault.{StrikeFault}
 use Rattle.desk_program.specs.declared.fault.DeskFault.{DeskFault}
 use Rattle.desk_program.specs.declared.fault.DeskFault.TheVariants.{Differs, Journal, Taken, Unstruck}
 use Rattle.desk_program.specs.Faults.{journal_fault}

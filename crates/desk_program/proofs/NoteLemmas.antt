@@ -2,7 +2,7 @@
 use Rattle.std.proofs.Common.{◌≡◌, ◌∙◌, ◌++◌, ◌∷◌, [], ℕ, List, Option, Some, ap, sym, subst}
 use Rattle.desk_numbers.specs.Strikes.Words.{restore_in, strike_in}
 use Rattle.desk_entries.specs.declared.docketed.Docketed.{Docketed}
-use Rattle.desk_entries.specs.declared.standing.Standing.{Standing}
+use Rattle.desk_register.specs.declared.standing.Standing.{Standing}
 use Rattle.desk_entries.specs.Words.{CanBe, IsDocketed, Note, SaysCourt, SaysNumbers, StandsAt, corrections_then, court_file, file_with, later_file, note_in, note_of, standing_file, struck_by}
 use Rattle.desk_entries.proofs.CallerLemmas.{docketed_note}
 use Rattle.desk_program.specs.Inside.Note.{ComesTo}

@@ -2,7 +2,7 @@
 use Rattle.std.specs.Prelude.{◌≡◌, ℕ, Bool, List, [], ◌∷◌, ◌++◌, Ok, Option}
 use Rattle.desk_numbers.specs.declared.strikes.restore.Restore.{Restore as RestoreOf}
 use Rattle.desk_numbers.specs.Strikes.Words.{restore_entry, struck_without}
-use Rattle.desk_entries.specs.declared.standing.Standing.{Standing}
+use Rattle.desk_register.specs.declared.standing.Standing.{Standing}
 use Rattle.desk_entries.specs.Words.{IsHistory, SaysCourt, corrections_then, restore_for, standing_file, unsaid_by}
 use Rattle.desk_program.specs.declared.entry_kind.EntryKind.TheVariants.{Restore}
 use Rattle.desk_program.specs.Correction.{IsListed, IsOnlyListed}

@@ -2,7 +2,7 @@
 use Rattle.std.specs.Prelude.{◌≡◌, ℕ, Bool, List, [], ◌∷◌, ◌++◌, Ok, Option}
 use Rattle.desk_numbers.specs.declared.strikes.strike.Strike.{Strike as StrikeOf}
 use Rattle.desk_numbers.specs.Strikes.Words.{strike_entry, struck_with}
-use Rattle.desk_entries.specs.declared.standing.Standing.{Standing}
+use Rattle.desk_register.specs.declared.standing.Standing.{Standing}
 use Rattle.desk_entries.specs.Words.{IsHistory, SaysCourt, corrections_then, standing_file, strike_for, unsaid_by}
 use Rattle.desk_program.specs.declared.entry_kind.EntryKind.TheVariants.{Strike}
 use Rattle.desk_program.specs.Correction.{IsListed, IsOnlyListed}

@@ -1,6 +1,6 @@
 //! Another court's file for a docket.
 ghost use Rattle.std.specs.Prelude.{◌≡◌, ◌≢◌, ◌≤◌, ◌<◌, ◌⊎◌, ◌++◌, ◌∷◌, [], ℕ, List, length, false, Err, Some, IfOk, OnOk};
-ghost use Rattle.desk_entries.specs.declared.fault.StrikeFault.{StrikeFault as StrikeFaultOf};
+ghost use Rattle.desk_register.specs.declared.fault.StrikeFault.{StrikeFault as StrikeFaultOf};
 ghost use Rattle.desk_journal.specs.Words.{StandsFor, batch_of};
 ghost use Rattle.desk_entries.specs.Words.{IsHistory, SaysCourt, SaysNumbers, StandsAt, corrections_then, later_file, most_entries};
 ghost use Rattle.program_streams.specs.Words.{has_failed, watched};

@@ -5,7 +5,7 @@ ghost use Rattle.docket_rows.specs.Words.{setup_of};
 ghost use Rattle.office_texts.specs.Run.Words.{Holds};
 ghost use Rattle.docket_shifts.specs.Words.{rows_shown, shifts};
 ghost use Rattle.desk_journal.specs.Words.{batch_of};
-ghost use Rattle.desk_entries.specs.declared.fault.StrikeFault.{StrikeFault as StrikeFaultOf};
+ghost use Rattle.desk_register.specs.declared.fault.StrikeFault.{StrikeFault as StrikeFaultOf};
 ghost use Rattle.desk_entries.specs.Words.{StandsAt, docketed_by, most_entries};
 ghost use Rattle.program_streams.specs.Words.{has_failed, watched};
 ghost use Rattle.desk_program.specs.Changed.{changes_between};

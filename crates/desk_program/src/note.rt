@@ -1,6 +1,6 @@
 //! An entry that is no row: it is kept, and what stands after it goes on from there.
 ghost use Rattle.std.specs.Prelude.{◌≡◌, ◌≢◌, ◌<◌, ◌⊎◌, ◌++◌, ◌∷◌, [], ℕ, List, length, Err, IsSome, OnOk};
-ghost use Rattle.desk_entries.specs.declared.fault.StrikeFault.{StrikeFault as StrikeFaultOf};
+ghost use Rattle.desk_register.specs.declared.fault.StrikeFault.{StrikeFault as StrikeFaultOf};
 ghost use Rattle.desk_journal.specs.Words.{StandsFor};
 ghost use Rattle.desk_entries.specs.Words.{StandsAt, most_entries, note_in};
 

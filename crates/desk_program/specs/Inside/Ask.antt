@@ -6,7 +6,7 @@ use Rattle.program_streams.specs.Words.{AppendsFront}
 use Rattle.desk_session.specs.declared.fault.SessionFault.{SessionFault}
 use Rattle.desk_session.specs.declared.outcome.Tally.{Tally}
 use Rattle.desk_session.specs.Words.{EndsSession, tally_of, told_to}
-use Rattle.desk_entries.specs.declared.standing.Standing.{Standing}
+use Rattle.desk_register.specs.declared.standing.Standing.{Standing}
 use Rattle.desk_entries.specs.Words.{StandsAfter, came_shown, shown}
 use Rattle.desk_program.specs.declared.fault.DeskFault.{DeskFault}
 use Rattle.desk_program.specs.declared.fault.DeskFault.TheVariants.{Unkept}
