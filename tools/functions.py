@@ -15,19 +15,20 @@ COMMENT = re.compile(r"//[^\n]*")
 FUNCTION = re.compile(r"^( *)((?:pub(?:\(\w+\))? )?)(?:const )?fn (\w+)", re.MULTILINE)
 IMPL = re.compile(r"^impl(?:<.*?>)? (?:(\w+)(?:<.*?>)? for )?(\w+)")
 USE = re.compile(r"^(?:pub )?use (\w+)::([^;]*);", re.MULTILINE)
+PASSED = re.compile(r"^pub use (\w+)::([^;]*);", re.MULTILINE)
 CONTRACT = re.compile(r"^\s*(requires|ensures|ghost|maintains)\b")
 
 
 class Taken:
     """From which crates of the repository a file takes each name that it takes from any, and what names are where they come from
-    that are others here. What it takes from a module is its own."""
+    that are others here. What it takes from a module is its own, and what a crate passes on from another is that one's."""
 
-    def __init__(self, crate, code, crates):
+    def __init__(self, crate, code, crates, passed):
         self.origins, self.renamed = {}, {}
         for origin, names in USE.findall(code):
             self.renamed.update((there, here) for here, there in re.findall(r"(\w+) as (\w+)", names))
             for name in re.findall(r"\w+", names):
-                self.origins.setdefault(name, set()).add(origin if origin in crates else crate)
+                self.origins.setdefault(name, set()).add(passed.get((origin, name), origin) if origin in crates else crate)
 
     def may_be(self, name, crate):
         """Whether this name may be of that crate."""
@@ -70,6 +71,13 @@ def exported(crate):
     return set(own).union(*(re.findall(r"\w+", names or name) for names, name in used))
 
 
+def passed_on(crates):
+    """The names that libraries pass on from others: by the crate and the name, the crate from which it comes."""
+    roots = {crate: TOP / "crates" / crate / "src" / "lib.rt" for crate in crates}
+    return {(crate, name): origin for crate, root in roots.items() if root.exists()
+            for origin, names in PASSED.findall(code_of(root)) if origin in crates[crate] for name in re.findall(r"\w+", names)}
+
+
 def body_at(lines, first, indent):
     """The head of the function that begins at this line, and its body."""
     last = next((at for at in range(first, len(lines)) if lines[at] == indent + "}"), first)
@@ -88,13 +96,13 @@ def gives_of(head):
     return before.rpartition("->")[2].rstrip("{ \n") if "->" in before else ""
 
 
-def functions_of(crate, crates):
-    """All functions of a crate, which is one of these."""
+def functions_of(crate, crates, passed):
+    """All functions of a crate, which is one of these, of which some pass names on."""
     names, found = exported(crate), []
     for path in files_of(crate):
         of_tests = "tests" in path.parts or path.name == "tests.rt"
         code = code_of(path)
-        lines, taken = code.split("\n"), Taken(crate, code, crates)
+        lines, taken = code.split("\n"), Taken(crate, code, crates, passed)
         of_type = of_trait = ""
         for at, line in enumerate(lines):
             begins = IMPL.match(line)
@@ -116,7 +124,8 @@ def functions_of(crate, crates):
 
 def all_functions():
     crates = uses_of_all()
-    return [function for crate in crates for function in functions_of(crate, crates)]
+    passed = passed_on(crates)
+    return [function for crate in crates for function in functions_of(crate, crates, passed)]
 
 
 def memory_faults():

@@ -1,7 +1,5 @@
--- The lemmas for the crates above.
-pub use Rattle.desk_entries.proofs.EntryLemmas.{left_follows}
+-- The lemmas for the crates above: also those of the register.
+pub use Rattle.desk_register.proofs.CallerLemmas.{begun_batch, first_history, history_more, length_batch, next_number-few, next_number-note, next_number-row, no_rows_first, restore_said_again, row_entries-more, strike_said_again, take_batch}
+pub use Rattle.desk_entries.proofs.DocketedLemmas.{docketed_note, first_docketed, left_docketed, note_may_follow}
 pub use Rattle.desk_entries.proofs.ExportLemmas.{rows_written-append}
-pub use Rattle.desk_entries.proofs.HistoryLemmas.{docketed_note, first_docketed, first_history, history_more, left_docketed, left_history, note_may_follow}
-pub use Rattle.desk_entries.proofs.ListLemmas.{begun_batch, length_batch, next_number-few, next_number-note, next_number-row, no_rows_first, row_entries-more, take_batch}
 pub use Rattle.desk_entries.proofs.PastLemmas.{none_counted, number_more, one_counted}
-pub use Rattle.desk_entries.proofs.StrikingLemmas.{restore_said_again, strike_said_again}

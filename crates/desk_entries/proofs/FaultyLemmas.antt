@@ -7,8 +7,8 @@ use Rattle.court_days.specs.Words.{court_in}
 use Rattle.desk_entries.specs.declared.fault.HistoryFault.{HistoryFault}
 use Rattle.desk_entries.specs.declared.fault.HistoryFault.TheVariants.{Court, NoCourt, Other, OutOfMemory, Strike}
 use Rattle.desk_entries.specs.Docketed.{AreHistory, CannotBe, HasFault, IsBadFile, IsBadNote, IsFaultyEntry, SaysOthers}
-use Rattle.desk_entries.specs.Entries.{Note, court_file, file_after, note_in}
-use Rattle.desk_entries.proofs.ListLemmas.{standing_file-file}
+use Rattle.desk_register.specs.Words.{Note, court_file, file_after, note_in}
+use Rattle.desk_register.proofs.CallerLemmas.{standing_file-file}
 
 -- a faulty entry makes entries faulty that begin with those before it
 pub faulty_so : (So : List (List ℕ) → Type 0) (before after : List (List ℕ)) (entry : List ℕ) (fault : HistoryFault) → So before → IsFaultyEntry before entry fault → HasFault So (before ++ entry ∷ after) fault

@@ -4,15 +4,15 @@ use Rattle.std.specs.Prelude.{Bool, Vec, drop, false, get_or, is_none, option_ma
 use Rattle.std.specs.declared.alloc.Global.{Global}
 use Rattle.std.proofs.lemmas.List.{at_drop_all, at_drop_more}
 use Rattle.desk_numbers.specs.declared.moved.Moved.{Moved}
-use Rattle.desk_entries.specs.declared.standing.Standing.{Standing}
+use Rattle.desk_register.specs.declared.standing.Standing.{Standing}
 use Rattle.case_numbers.specs.Words.{after_name}
 use Rattle.row_forms.specs.Words.{names_of}
 use Rattle.row_forms.specs.Line.Words.{line_read}
-use Rattle.desk_entries.specs.Entries.{most_clerks, next_number, Note, note_in, row_entries, row_only, rows_with}
+use Rattle.desk_register.specs.Words.{Note, most_clerks, next_number, note_in, row_entries, row_only, rows_with}
 use Rattle.desk_journal.specs.Words.{batch_of}
 use Rattle.desk_entries.specs.declared.past.Corrected.{Corrected}
 use Rattle.desk_entries.specs.Past.{corrected_by, corrected_with, is_restored, is_struck_first, noted_after, restores_it, row_struck_as, row_struck_said, rows_struck, strikes_first, strikes_it}
-use Rattle.desk_entries.proofs.ListLemmas.{row_entries-more}
+use Rattle.desk_register.proofs.CallerLemmas.{row_entries-more}
 
 -- what is struck of an entry that is a row, and of one that is none
 pub one_row_struck : (under : Standing) (moved : List Moved) (number : ℕ) (entry : List ℕ) (later : List (List ℕ)) → is_none (note_in entry) ≡ true

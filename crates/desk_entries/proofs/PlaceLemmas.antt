@@ -23,10 +23,9 @@ use Rattle.row_forms.specs.declared.line.line.Line.{Line}
 use Rattle.row_forms.specs.declared.line.line.Line.TheVariants as line
 use Rattle.row_forms.specs.Line.Words.{line_read}
 use Rattle.desk_numbers.specs.Strikes.Words.{is_struck}
-use Rattle.desk_entries.specs.declared.standing.Standing.{Standing}
-use Rattle.desk_entries.specs.Entries.{most_clerks, next_number, row_entries}
+use Rattle.desk_register.specs.declared.standing.Standing.{Standing}
+use Rattle.desk_register.specs.Words.{Run, most_clerks, next_number, numbers_with, opening_run, reply_by_places, row_entries, run_after, run_by, run_entry, run_past, run_said, run_with}
 use Rattle.desk_entries.specs.Laws.{AnAnswerShowsItsNumber}
-use Rattle.desk_entries.specs.Run.{Run, numbers_with, opening_run, reply_by_places, run_after, run_by, run_entry, run_past, run_said, run_with}
 use Rattle.desk_entries.proofs.CountLemmas.{count_of, gives_next, never_fewer}
 
 -- past what is docketed there is nothing that isn't at its place

@@ -10,12 +10,10 @@ use Rattle.row_forms.specs.declared.line.line.Line.TheVariants as line
 use Rattle.row_forms.specs.Line.Words.{line_read}
 use Rattle.office_texts.specs.Run.Words.{docketed_after, docketed_then}
 use Rattle.desk_numbers.specs.Strikes.Words.{is_struck}
-use Rattle.desk_entries.specs.declared.standing.Standing.{Standing}
-use Rattle.desk_entries.specs.Entries.{Note, most_clerks, next_number, note_in}
+use Rattle.desk_register.specs.declared.standing.Standing.{Standing}
+use Rattle.desk_register.specs.Words.{Note, Run, docketed_by, most_clerks, next_number, note_in, row_in, run_by}
 use Rattle.desk_entries.specs.Reported.{ReportsAreOfTheDocket, rows_standing, said_standing, standing_after, standing_as}
-use Rattle.desk_entries.specs.Rows.{row_in}
-use Rattle.desk_entries.specs.Run.{Run, docketed_by, run_by}
-use Rattle.desk_entries.proofs.DecidedLemmas.{first_run, run_by-more, run_by-none, run_by-note, run_by-struck}
+use Rattle.desk_register.proofs.CallerLemmas.{first_run, run_by-more, run_by-none, run_by-note, run_by-struck}
 
 standing_after-append : (under : Standing) (kept some more : List (List ℕ)) → standing_after under kept (some ++ more) ≡ standing_after under kept some ++ standing_after under (kept ++ some) more
 unfolding standing_after

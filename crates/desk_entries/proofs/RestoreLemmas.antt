@@ -14,14 +14,10 @@ use Rattle.desk_numbers.specs.declared.moved.Moved.{Moved}
 use Rattle.desk_numbers.specs.Words.{NumbersView, given_by, kept_of, new_number, number_for, numbers_after, own_or, placed}
 use Rattle.desk_numbers.specs.Strikes.Words.{CorrectionsView, is_among, is_struck}
 use Rattle.desk_numbers.proofs.StrikesLemmas.CallerLemmas.{undone}
-use Rattle.desk_entries.specs.declared.standing.Standing.{Standing}
-use Rattle.desk_entries.specs.Entries.{most_clerks, row_entries, row_restored, row_struck}
-use Rattle.desk_entries.specs.History.{StandsAfter}
-use Rattle.desk_entries.specs.Laws.{ARestoreLeavesTheDocket, KeepsNumber, with_restore, with_strike}
-use Rattle.desk_entries.specs.Run.{Run, opening_run, reply_by_places, run_after, run_by, run_entry, run_past, run_said}
-use Rattle.desk_entries.proofs.GivenLemmas.{at_before, at_end, rows_keep}
-use Rattle.desk_entries.proofs.HistoryLemmas.{stands_after_note}
-use Rattle.desk_entries.proofs.ListLemmas.{row_entries-note}
+use Rattle.desk_register.specs.declared.standing.Standing.{Standing}
+use Rattle.desk_register.specs.Words.{KeepsNumber, Run, StandsAfter, most_clerks, opening_run, reply_by_places, row_entries, row_restored, row_struck, run_after, run_by, run_entry, run_past, run_said}
+use Rattle.desk_entries.specs.Laws.{ARestoreLeavesTheDocket, with_restore, with_strike}
+use Rattle.desk_register.proofs.CallerLemmas.{at_before, at_end, row_entries-note, rows_keep, stands_after_note}
 
 -- after each row there is what it gave, or what it keeps
 one_given : (kept : List (Option Given)) (numbers : NumbersView) (number : ℕ) (at : Option Given) → (g : Option Given) × ((numbers_after kept numbers number at).given ≡ numbers.given ++ g ∷ [])

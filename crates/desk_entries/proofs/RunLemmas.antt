@@ -24,18 +24,11 @@ use Rattle.case_numbers.specs.Words.{CasesView, NameView, after_name, with_case}
 use Rattle.case_numbers.specs.declared.names.NamedCase.{NamedCase}
 use Rattle.office_texts.specs.Named.Words.{named_line_of}
 use Rattle.office_texts.proofs.NamedLemmas.CallerLemmas.{without_names_as_before_lem}
-use Rattle.desk_entries.specs.declared.standing.Standing.{Standing}
-use Rattle.desk_entries.specs.declared.cause.LineCause.{LineCause}
-use Rattle.desk_entries.specs.CaseLines.{Reading, as_it_is, lacks_field}
-use Rattle.desk_entries.specs.Cases.{cases_after, cases_of, opened_in, with_opened}
-use Rattle.desk_entries.specs.Entries.{most_clerks, most_rows, next_number, row_entries, rows_among}
-use Rattle.desk_entries.specs.Laws.{AnswersAreTheRuns, HasNoFault, plain}
-use Rattle.desk_entries.specs.Rows.{answer_to, answers, entry_of, leaves, plain_answers, plain_leaves, reading_at, row_in, rows_in, told_of, told_or, with_name, within}
-use Rattle.desk_entries.specs.Run.{Run, docketed_by, docketed_with, numbers_with, opening_run, reply_by_places, reply_under, run_after, run_by, run_entry, run_said}
-use Rattle.desk_entries.proofs.CaseLemmas.{cases_of-row, nothing_special, other_lines}
-use Rattle.desk_entries.proofs.EntryLemmas.{is_no_note, its_name, past_its_name, plain_none, plain_one, says_its_row}
-use Rattle.desk_entries.proofs.ListLemmas.{next_number-row}
-use Rattle.desk_entries.proofs.DecidedLemmas.{first_run, run_by-more}
+use Rattle.desk_register.specs.declared.standing.Standing.{Standing}
+use Rattle.desk_register.specs.declared.cause.LineCause.{LineCause}
+use Rattle.desk_register.specs.Words.{HasNoFault, Reading, Run, answer_to, answers, as_it_is, cases_after, cases_of, docketed_by, docketed_with, entry_of, lacks_field, leaves, most_clerks, most_rows, next_number, numbers_with, opened_in, opening_run, plain_answers, plain_leaves, reading_at, reply_by_places, reply_under, row_entries, row_in, rows_among, rows_in, run_after, run_by, run_entry, run_said, told_of, told_or, with_name, with_opened, within}
+use Rattle.desk_entries.specs.Laws.{AnswersAreTheRuns, plain}
+use Rattle.desk_register.proofs.CallerLemmas.{cases_of-row, first_run, is_no_note, its_name, next_number-row, nothing_special, other_lines, past_its_name, plain_none, plain_one, run_by-more, says_its_row}
 
 -- what lines are answered after entries, and the docket after them, are those of their rows
 pub record IsRun (court : CourtView) (kept lines : List (List ℕ)) : Type 0 where

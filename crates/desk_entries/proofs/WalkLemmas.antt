@@ -8,12 +8,10 @@ use Rattle.desk_numbers.specs.declared.strikes.strike.Strike.{Strike}
 use Rattle.desk_numbers.specs.Words.{kept_with}
 use Rattle.desk_numbers.specs.Strikes.Words.{all_before, is_among, is_struck, said_in}
 use Rattle.desk_entries.specs.declared.what_stands.Walk.{Walk}
-use Rattle.desk_entries.specs.Entries.{Note, can_restore, can_strike, file_with, kept_as, kept_in, next_number, note_in, row_entries, rows_among, standing_file, struck_by, struck_in}
-use Rattle.desk_entries.specs.History.{CanBe, SaysCourt}
+use Rattle.desk_register.specs.Words.{CanBe, Note, SaysCourt, can_restore, can_strike, file_with, kept_as, kept_in, next_number, note_in, row_entries, rows_among, standing_file, struck_by, struck_in}
 use Rattle.desk_entries.specs.Inside.Walk.{IsWalked}
-use Rattle.desk_entries.proofs.HistoryLemmas.{still_struck}
-use Rattle.desk_entries.proofs.ListLemmas.{before-note, before-row, next_number-note, next_number-row, none_struck, standing_file-more, struck_in-more}
-use Rattle.desk_entries.proofs.SaidLemmas.{kept_in-more, none_kept}
+use Rattle.desk_entries.proofs.DocketedLemmas.{still_struck}
+use Rattle.desk_register.proofs.CallerLemmas.{before-note, before-row, kept_in-more, next_number-note, next_number-row, none_kept, none_struck, standing_file-more, struck_in-more}
 
 -- a court's file alone has no rows
 none_yet : (first : List ℕ) → 1 ≡ next_number (first ∷ [])

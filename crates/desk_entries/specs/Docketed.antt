@@ -4,11 +4,8 @@ use Rattle.court_days.specs.Words.{court_in}
 use Rattle.desk_entries.specs.declared.docketed.Docketed.{Docketed}
 use Rattle.desk_entries.specs.declared.fault.HistoryFault.{HistoryFault}
 use Rattle.desk_entries.specs.declared.fault.HistoryFault.TheVariants.{Court, NoCourt, Other, OutOfMemory, Strike}
-use Rattle.desk_entries.specs.declared.standing.Standing.{Standing}
-use Rattle.desk_entries.specs.Entries.{Note, can_restore, can_strike, court_file, next_number, note_in, row_restored, row_struck, standing_file}
-use Rattle.desk_entries.specs.History.{IsHistory, SaysNumbers, StandsAfter}
-use Rattle.desk_entries.specs.Register.{IsReadyAt}
-use Rattle.desk_entries.specs.Rows.{follows}
+use Rattle.desk_register.specs.declared.standing.Standing.{Standing}
+use Rattle.desk_register.specs.Words.{IsHistory, IsReadyAt, Note, SaysNumbers, StandsAfter, can_restore, can_strike, court_file, follows, next_number, note_in, row_restored, row_struck, standing_file}
 
 -- this is what stands after the entries, and the docket is that of their rows
 pub record IsDocketed (docketed : Docketed) (entries : List (List ℕ)) : Type 0 where

@@ -16,8 +16,8 @@ use Rattle.row_forms.specs.declared.line.line.Line.{Line}
 use Rattle.row_forms.specs.declared.line.line.Line.TheVariants as line
 use Rattle.row_forms.specs.Line.Words.{fields_read, line_read}
 use Rattle.desk_numbers.specs.Strikes.Words.{is_struck}
-use Rattle.desk_entries.specs.declared.standing.Standing.{Standing}
-use Rattle.desk_entries.specs.Entries.{most_clerks}
+use Rattle.desk_register.specs.declared.standing.Standing.{Standing}
+use Rattle.desk_register.specs.Words.{most_clerks}
 
 -- the number of the deadline or the motion that a command names, which is the fourth field of its row
 abbrev pub number_in : CommandOf → Option ℕ

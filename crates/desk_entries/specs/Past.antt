@@ -13,9 +13,8 @@ use Rattle.office_texts.specs.Run.Words.{row_numbers}
 use Rattle.desk_numbers.specs.declared.moved.Moved.{Moved}
 use Rattle.desk_numbers.specs.Strikes.Words.{is_struck, remark_in}
 use Rattle.desk_entries.specs.declared.past.Corrected.{Corrected}
-use Rattle.desk_entries.specs.declared.standing.Standing.{Standing}
-use Rattle.desk_entries.specs.Differences.{Change}
-use Rattle.desk_entries.specs.Entries.{Note, court_file, most_clerks, note_in, row_restored, row_struck, rows_with}
+use Rattle.desk_register.specs.declared.standing.Standing.{Standing}
+use Rattle.desk_register.specs.Words.{Change, Note, court_file, most_clerks, note_in, row_restored, row_struck, rows_with}
 use Rattle.desk_entries.specs.Reported.{said_standing}
 
 -- the answer that the entry of a row keeps, after the line of the row

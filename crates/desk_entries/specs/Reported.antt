@@ -12,9 +12,8 @@ use Rattle.office_texts.specs.Run.Words.{docketed_after}
 use Rattle.desk_numbers.specs.declared.moved.Moved.{Moved}
 use Rattle.desk_numbers.specs.Words.{placed}
 use Rattle.desk_numbers.specs.Strikes.Words.{is_struck}
-use Rattle.desk_entries.specs.declared.standing.Standing.{Standing}
-use Rattle.desk_entries.specs.Entries.{Note, most_clerks, next_number, note_in}
-use Rattle.desk_entries.specs.Run.{docketed_by, run_by}
+use Rattle.desk_register.specs.declared.standing.Standing.{Standing}
+use Rattle.desk_register.specs.Words.{Note, docketed_by, most_clerks, next_number, note_in, run_by}
 
 -- the row of a line that says this, which has that number, where this is what isn't at the place of its number
 abbrev pub said_standing : List Moved → (number : ℕ) → Line → List NumberedRow

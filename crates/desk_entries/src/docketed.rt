@@ -2,21 +2,16 @@
 ghost use Rattle.std.specs.Prelude.{◌≡◌, ◌<◌, ◌≤◌, ◌+◌, ◌&&◌, ◌++◌, ◌∷◌, [], ℕ, true, false, List, length, nat_lt, not, take, None, Some, IfErr, IfOk, IsSome, OnOk};
 ghost use Rattle.court_days.specs.Words.{CourtView};
 ghost use Rattle.desk_journal.specs.Words.{batch_of};
-ghost use Rattle.desk_entries.specs.Entries.{later_file, most_entries, note_in, row_restored, row_struck};
+ghost use Rattle.desk_register.specs.Words.{SaysCourt, StandsAt, corrections_then, entries_taken, later_file, most_entries, note_in, number_of_next, row_restored, row_struck};
 ghost use Rattle.desk_numbers.specs.Strikes.Words.{is_struck, no_corrections, struck_with, struck_without};
-ghost use Rattle.desk_entries.specs.Register.{StandsAt};
 ghost use Rattle.desk_entries.specs.Docketed.{IsBadFile};
-ghost use Rattle.desk_entries.specs.History.{SaysCourt};
-ghost use Rattle.desk_entries.specs.Run.{corrections_then};
 
-use crate::entry::{is_row, later_file};
 use crate::fault::HistoryFault;
-use crate::register::DocketRegister;
 use crate::review::{Review, decided_again};
-use crate::standing::Standing;
 use crate::what_stands::{court_of, standing_after};
 use court_days::Court;
 use desk_numbers::{Corrections, Restore, Strike, restore_in, said_in, strike_in};
+use desk_register::{DocketRegister, Standing, is_row, later_file};
 use std::alloc::{AllocError, Global};
 use std::mem;
 
@@ -58,7 +53,7 @@ fn last_note(entries: &[Vec<u8>]) -> usize
 
 impl Docketed {
     ghost use Rattle.desk_entries.specs.Docketed.{HasDocketFault, HasHistoryFault, IsDocketed, IsFaultyEntry};
-    ghost use Rattle.desk_entries.specs.History.{CanBe, IsHistory, MayFollow, SaysNumbers};
+    ghost use Rattle.desk_register.specs.Words.{CanBe, IsHistory, MayFollow, SaysNumbers};
 
     // A court and its docket before the first row.
     fn begin(alloc: Global, file: &[u8]) -> Result<Docketed, HistoryFault>
@@ -148,13 +143,11 @@ impl Docketed {
         Ok(())
     }
 
-    // Whether a row can be struck: it was entered, and isn't struck yet.
-    fn can_strike(&self, strike: &Strike) -> bool
-        ensures { result ≡ (nat_lt 0 strike.now.row && nat_lt strike.now.row self.now.register.number && not (is_struck self.now.standing.corrections strike.now.row)) }
+    // Whether a row can be struck, where the next row has this number: it was entered, and isn't struck yet.
+    fn can_strike(&self, strike: &Strike, next: u32) -> bool
+        ensures { result ≡ (nat_lt 0 strike.now.row && nat_lt strike.now.row next && not (is_struck self.now.standing.corrections strike.now.row)) }
     {
-        0 < strike.row
-            && strike.row < self.register.number
-            && !self.standing.corrections.is_struck(strike.row)
+        0 < strike.row && strike.row < next && !self.standing.corrections.is_struck(strike.row)
     }
 
     // Leaves out a row from here on, which the last of these entries strikes: the others are decided again.
@@ -172,7 +165,8 @@ impl Docketed {
         ensures cause { (before : List (List ℕ)) (entry : List ℕ) → batch_of entries.now ≡ before ++ entry ∷ [] → note_in entry ≡ Some (row_struck strike) → IsDocketed self.old before
             → IfErr result (IsFaultyEntry before entry) }
     {
-        if !self.can_strike(&strike) {
+        let next = self.register.next_number();
+        if !self.can_strike(&strike, next) {
             return Err(HistoryFault::Strike(entries.len() as u32));
         }
         let corrections = self.struck(alloc, &strike)?;
@@ -206,13 +200,13 @@ impl Docketed {
     // Takes an entry that is a row, if it has the answer that it gets.
     fn retake(&mut self, alloc: Global, entry: &[u8]) -> Result<(), HistoryFault>
         requires row { note_in entry.now ≡ None }
-        requires room { self.old.register.count < most_entries }
-        requires stays { is_struck self.old.standing.corrections self.old.register.number ≡ false }
+        requires room { entries_taken self.old.register < most_entries }
+        requires stays { is_struck self.old.standing.corrections (number_of_next self.old.register) ≡ false }
         ensures docketed { (before : List (List ℕ)) → IsDocketed self.old before → OnOk result (IsDocketed self.new (before ++ entry.now ∷ [])) }
         ensures follows { (before : List (List ℕ)) → IsDocketed self.old before → OnOk result (MayFollow before entry.now) }
         ensures cause { (before : List (List ℕ)) → IsDocketed self.old before → IfErr result (IsFaultyEntry before entry.now) }
     {
-        let number = self.register.number;
+        let number = self.register.next_number();
         let other = self.register.review(alloc, &self.standing, entry)?;
         if other.is_some() {
             return Err(HistoryFault::Other(number));
@@ -255,8 +249,8 @@ impl Docketed {
     ) -> Result<(), HistoryFault>
         requires some { 0 < length entries.now }
         requires few { length entries.now ≤ most_entries }
-        requires room { self.old.register.count < most_entries }
-        requires stays { is_struck self.old.standing.corrections self.old.register.number ≡ false }
+        requires room { entries_taken self.old.register < most_entries }
+        requires stays { is_struck self.old.standing.corrections (number_of_next self.old.register) ≡ false }
         ensures docketed { (before : List (List ℕ)) → batch_of entries.now ≡ before ++ entry.now ∷ [] → IsDocketed self.old before → OnOk result (IsDocketed self.new (before ++ entry.now ∷ [])) }
         ensures follows { (before : List (List ℕ)) → IsDocketed self.old before → OnOk result (MayFollow before entry.now) }
         ensures cause { (before : List (List ℕ)) → batch_of entries.now ≡ before ++ entry.now ∷ [] → IsDocketed self.old before → IfErr result (IsFaultyEntry before entry.now) }

@@ -3,12 +3,10 @@ ghost use Rattle.std.specs.Prelude.{◌≡◌, ◌++◌, OnOk};
 ghost use Rattle.csv.specs.Records.{fields_of};
 ghost use Rattle.desk_entries.specs.Export.{number_asked, number_in, row_placed, row_written, said_placed};
 
-use crate::case_line::with_field;
-use crate::register::{MOST_CLERKS, RowTypes};
-use crate::standing::Standing;
 use case_numbers::after_name;
 use csv::StringRecord;
 use desk_numbers::{MovedNumbers, is_apart};
+use desk_register::{MOST_CLERKS, RowTypes, Standing, with_field};
 use docket_rows::Command;
 use row_forms::{Line, Work, push_row_text, read_line};
 use std::alloc::{AllocError, Global};

@@ -1,10 +1,9 @@
-//! Why a journal's entries make no docket, and why a row can't be struck or restored.
+//! Why a journal's entries make no docket.
 ghost use Rattle.std.specs.Prelude.{◌≡◌};
 ghost use Rattle.desk_entries.specs.declared.fault.HistoryFault.TheVariants.{OutOfMemory};
 
 use court_file_text::CourtFault;
 use std::alloc::AllocError;
-use thiserror::Error;
 
 /// Why a journal's entries make no docket.
 #[derive(Debug, Drop)]
@@ -28,21 +27,4 @@ impl From<AllocError> for HistoryFault {
     fn from(_: AllocError) -> HistoryFault {
         HistoryFault::OutOfMemory
     }
-}
-
-/// Why a row can't be struck or restored.
-#[derive(Clone, Copy, Debug, PartialEq, Eq, Error)]
-pub enum StrikeFault {
-    /// No row of that number was entered.
-    #[error("no row has that number")]
-    NoSuchRow,
-    /// It is struck already.
-    #[error("the row is struck already")]
-    AlreadyStruck,
-    /// It isn't struck, and so there is nothing to restore.
-    #[error("the row isn't struck")]
-    NotStruck,
-    /// It is a question, or its entry says no row of this court: the docket has nothing of it.
-    #[error("the row is no command, so the docket has nothing of it")]
-    NotACommand,
 }

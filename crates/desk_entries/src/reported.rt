@@ -4,18 +4,16 @@ ghost use Rattle.row_forms.specs.Words.{names_of};
 ghost use Rattle.row_forms.specs.Line.Words.{line_read};
 ghost use Rattle.case_numbers.specs.Words.{after_name};
 ghost use Rattle.desk_journal.specs.Words.{batch_of};
-ghost use Rattle.desk_entries.specs.Differences.{change_in, changes_by};
-ghost use Rattle.desk_entries.specs.Entries.{most_clerks, most_entries, note_in};
-ghost use Rattle.desk_entries.specs.Register.{StandsAt};
+ghost use Rattle.desk_register.specs.Words.{StandsAt, change_in, most_clerks, most_entries, note_in};
+ghost use Rattle.desk_entries.specs.Review.{changes_by};
 ghost use Rattle.desk_entries.specs.Reported.{rows_standing, said_standing, standing_as};
 
-use crate::entry::is_row;
-use crate::register::{DocketRegister, MOST_CLERKS, RowTypes};
-use crate::review::{Difference, decide_entry};
-use crate::standing::Standing;
 use case_numbers::after_name;
 use csv::StringRecord;
 use desk_numbers::MovedNumbers;
+use desk_register::{
+    Difference, DocketRegister, MOST_CLERKS, RowTypes, Standing, decide_entry, is_row,
+};
 use row_forms::{Line, NumberedRow, Row, read_line};
 use std::alloc::{AllocError, Global};
 

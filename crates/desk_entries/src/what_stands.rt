@@ -4,17 +4,15 @@ ghost use Rattle.desk_journal.specs.Words.{batch_of};
 ghost use Rattle.desk_numbers.specs.Words.{kept_with};
 ghost use Rattle.desk_numbers.specs.Strikes.Words.{all_before, is_struck, said_in};
 ghost use Rattle.desk_entries.specs.Docketed.{HasDocketFault, IsBadFile, IsFaultyEntry};
-ghost use Rattle.desk_entries.specs.Entries.{later_file, most_entries, next_number, note_in, row_restored, row_struck};
-ghost use Rattle.desk_entries.specs.History.{SaysCourt, StandsAfter};
+ghost use Rattle.desk_register.specs.Words.{SaysCourt, StandsAfter, later_file, most_entries, next_number, note_in, row_restored, row_struck};
 
-use crate::entry::later_file;
 use crate::fault::HistoryFault;
-use crate::standing::Standing;
 use court_days::Court;
 use court_file_text::CourtFault;
 use desk_numbers::{
     Corrections, Given, KeptNumbers, Restore, Strike, restore_in, said_in, say, strike_in,
 };
+use desk_register::{Standing, later_file};
 use std::alloc::{AllocError, Global};
 use std::mem;
 

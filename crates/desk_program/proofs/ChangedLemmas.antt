@@ -5,10 +5,8 @@ use Rattle.std.specs.Prelude.{IsSome, Option, Some, None, if◌then◌else◌}
 use Rattle.std.specs.List.{flat_map, range_with_len}
 use Rattle.case_numbers.specs.Words.{after_name}
 use Rattle.desk_numbers.specs.Strikes.Words.{CorrectionsView, is_struck}
-use Rattle.desk_entries.specs.declared.standing.Standing.{Standing}
-use Rattle.desk_entries.specs.Differences.{change_as, changes_after, is_left}
-use Rattle.desk_entries.specs.Rows.{kept_answers, left_again}
-use Rattle.desk_entries.specs.Words.{Change, Note, changes_by, next_number, note_in, row_entries}
+use Rattle.desk_register.specs.declared.standing.Standing.{Standing}
+use Rattle.desk_entries.specs.Words.{Change, Note, change_as, changes_after, changes_by, is_left, kept_answers, left_again, next_number, note_in, row_entries}
 use Rattle.desk_entries.proofs.CallerLemmas.{next_number-few, next_number-note, next_number-row}
 use Rattle.desk_program.specs.Changed.{ChangedRowView, change_of, changed_at, changed_row, changes_between}
 use Rattle.desk_program.specs.Inside.Changed.{AreInOrder, first_of, rest_of, walked}

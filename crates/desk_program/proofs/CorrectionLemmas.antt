@@ -1,7 +1,7 @@
 -- What is written of a correction where a call ends well.
 use Rattle.std.proofs.Common.{◌≡◌, ℕ, List, [], Bool, false, Err, Ok, Option, OnOk, Result}
 use Rattle.std.specs.Io.KnownBytes.{Appends}
-use Rattle.desk_entries.specs.declared.standing.Standing.{Standing}
+use Rattle.desk_register.specs.declared.standing.Standing.{Standing}
 use Rattle.desk_program.specs.declared.entry_kind.EntryKind.{EntryKind}
 use Rattle.desk_program.specs.Changed.{changes_between}
 use Rattle.desk_program.specs.Correction.{IsListed, correction_text}

@@ -9,7 +9,7 @@ use Rattle.desk_journal.proofs.CallerLemmas.{one_list, rest_kept}
 use Rattle.desk_session.proofs.CallerLemmas.{answered, unanswered}
 use Rattle.desk_session.specs.Words.{IsAllOrNone, IsPromised, IsServed, left_by, lines_of, told_to, unfinished_of}
 use Rattle.desk_numbers.specs.declared.said.Said.{Said}
-use Rattle.desk_entries.specs.declared.standing.Standing.{Standing}
+use Rattle.desk_register.specs.declared.standing.Standing.{Standing}
 use Rattle.desk_entries.specs.Words.{IsDocketed, IsHistory, IsReadyAt, StandsAfter, later_file}
 use Rattle.desk_entries.proofs.CallerLemmas.{left_docketed}
 use Rattle.desk_warnings.specs.Words.{lines_taken}

@@ -5,9 +5,9 @@ use Rattle.desk_numbers.specs.declared.said.Said.{Said}
 use Rattle.desk_numbers.specs.declared.strikes.restore.Restore.{Restore}
 use Rattle.desk_numbers.specs.declared.strikes.strike.Strike.{Strike}
 use Rattle.desk_numbers.specs.Strikes.Words.{Fits, restore_in, said_in, strike_in}
-use Rattle.desk_entries.specs.declared.fault.StrikeFault.{StrikeFault}
+use Rattle.desk_register.specs.declared.fault.StrikeFault.{StrikeFault}
 use Rattle.desk_entries.specs.declared.docketed.Docketed.{Docketed}
-use Rattle.desk_entries.specs.declared.standing.Standing.{Standing}
+use Rattle.desk_register.specs.declared.standing.Standing.{Standing}
 use Rattle.desk_entries.specs.Words.{CanBe, IsDocketed, Note, SaysCourt, SaysNumbers, StandsAfter, StandsAt, corrections_then, court_file, file_with, later_file, most_entries, note_in, note_of, restore_for, row_restored, row_struck, standing_file, strike_for, struck_by}
 use Rattle.desk_entries.proofs.CallerLemmas.{docketed_note, restore_said_again, strike_said_again}
 use Rattle.desk_program.specs.declared.row_correction.RowCorrection.{RowCorrection}

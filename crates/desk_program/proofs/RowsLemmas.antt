@@ -4,7 +4,7 @@ use Rattle.std.specs.Prelude.{Option, None, Some, Vec, false, is_none, true}
 use Rattle.std.specs.declared.alloc.Global.{Global}
 use Rattle.desk_journal.specs.Words.{batch_of}
 use Rattle.desk_numbers.specs.declared.moved.Moved.{Moved}
-use Rattle.desk_entries.specs.declared.standing.Standing.{Standing}
+use Rattle.desk_register.specs.declared.standing.Standing.{Standing}
 use Rattle.desk_entries.specs.Words.{Note, next_number, note_in, row_entries, row_only, row_written, rows_written}
 use Rattle.desk_entries.proofs.CallerLemmas.{no_rows_first, row_entries-more, rows_written-append}
 

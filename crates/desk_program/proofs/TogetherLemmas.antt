@@ -3,7 +3,7 @@ use Rattle.std.proofs.Common.{◌≡◌, ◌≢◌, ◌⊎◌, inl, inr, ◌∙�
 use Rattle.std.specs.Prelude.{get_or}
 use Rattle.std.proofs.lemmas.Grind.{flat_map-append}
 use Rattle.std.proofs.lemmas.List.{map-append, take_more}
-use Rattle.desk_entries.specs.declared.line_faults.LineFault.{LineFault}
+use Rattle.desk_register.specs.declared.line_faults.LineFault.{LineFault}
 use Rattle.desk_entries.specs.Words.{FaultyLine, fault_in}
 use Rattle.desk_session.specs.declared.fault.SessionFault.{SessionFault}
 use Rattle.desk_session.specs.declared.fault.SessionFault.TheVariants as session

@@ -1,6 +1,6 @@
 -- Another court's file for a docket: when it is taken, and what is written of it.
 use Rattle.std.specs.Prelude.{◌≡◌, ℕ, Bool, List, [], ◌∷◌, ◌++◌, Option, Some}
-use Rattle.desk_entries.specs.declared.standing.Standing.{Standing}
+use Rattle.desk_register.specs.declared.standing.Standing.{Standing}
 use Rattle.desk_entries.specs.Words.{IsHistory, SaysCourt, SaysNumbers, corrections_then, later_file}
 use Rattle.desk_program.specs.declared.entry_kind.EntryKind.TheVariants.{CourtFile}
 use Rattle.desk_program.specs.Correction.{IsListed, IsOnlyListed}

@@ -3,7 +3,7 @@ use Rattle.std.specs.Prelude.{ℕ, Bool, List, [], ◌∷◌, Option, Some, None
 use Rattle.std.specs.List.{flat_map, range_with_len}
 use Rattle.std.specs.Str.{bytes_eq}
 use Rattle.desk_numbers.specs.Strikes.Words.{CorrectionsView, is_struck}
-use Rattle.desk_entries.specs.declared.standing.Standing.{Standing}
+use Rattle.desk_register.specs.declared.standing.Standing.{Standing}
 use Rattle.desk_entries.specs.Past.{answer_in}
 use Rattle.desk_entries.specs.Words.{Change, changes_by, row_entries}
 

@@ -2,7 +2,7 @@
 use Rattle.std.specs.Prelude.{◌≡◌, ◌≢◌, ℕ, Bool, false, List, [], ◌++◌, Option, codes, length}
 use Rattle.std.specs.Io.KnownBytes.{Appends}
 use Rattle.docket_shifts.specs.Words.{ShownRows, shifts}
-use Rattle.desk_entries.specs.declared.standing.Standing.{Standing}
+use Rattle.desk_register.specs.declared.standing.Standing.{Standing}
 use Rattle.desk_entries.specs.Words.{cases_of, docketed_by, entry_at, run_by}
 use Rattle.desk_program.specs.declared.entry_kind.EntryKind.{EntryKind}
 use Rattle.desk_program.specs.declared.entry_kind.EntryKind.TheVariants.{CourtFile, Restore, Row, Strike}

@@ -5,7 +5,7 @@ use Rattle.court_days.specs.Words.{court_in}
 use Rattle.desk_journal.specs.Words.{HasOpenFault, IsKept, StampView, StandsFor, disk_of, stamp_of}
 use Rattle.desk_session.specs.Words.{IsPromised}
 use Rattle.desk_entries.specs.declared.docketed.Docketed.{Docketed}
-use Rattle.desk_entries.specs.declared.standing.Standing.{Standing}
+use Rattle.desk_register.specs.declared.standing.Standing.{Standing}
 use Rattle.desk_session.specs.declared.outcome.Outcome.{Outcome}
 use Rattle.desk_entries.specs.declared.fault.HistoryFault.{HistoryFault}
 use Rattle.desk_entries.specs.declared.fault.HistoryFault.TheVariants as history

@@ -5,8 +5,8 @@ use Rattle.std.specs.Option.{option_map_or}
 use Rattle.std.specs.Str.{is_utf8}
 use Rattle.row_forms.specs.declared.fault.RowCause.{RowCause}
 use Rattle.row_forms.specs.declared.fault.RowCause.TheVariants.{BadClerk, BadField, NotText, TooManyRows, UnknownCommand, WrongCount}
-use Rattle.desk_entries.specs.declared.cause.LineCause.{LineCause}
-use Rattle.desk_entries.specs.declared.cause.LineCause.TheVariants as lines
+use Rattle.desk_register.specs.declared.cause.LineCause.{LineCause}
+use Rattle.desk_register.specs.declared.cause.LineCause.TheVariants as lines
 use Rattle.desk_entries.specs.Words.{too_many_words, unfound_words}
 use Rattle.row_forms.specs.declared.headings.columns.Column.{Column}
 use Rattle.row_forms.specs.declared.headings.columns.Column.TheVariants.{Case, Deadline, Motion, Date, Notice, SecondOrNone, Time, From, TimeOrNone, Start, To, Period, ServiceOrNone, Means, Grant, ByMotion, Cause, Neglect, Need, Judge, Judges, Slots, Holidays, Clerk, Command, Room}

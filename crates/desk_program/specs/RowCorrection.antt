@@ -4,8 +4,8 @@ use Rattle.desk_numbers.specs.declared.said.Said.{Said}
 use Rattle.desk_numbers.specs.declared.strikes.restore.Restore.{Restore}
 use Rattle.desk_numbers.specs.declared.strikes.strike.Strike.{Strike}
 use Rattle.desk_numbers.specs.Strikes.Words.{restore_entry, strike_entry, struck_with, struck_without}
-use Rattle.desk_entries.specs.declared.fault.StrikeFault.{StrikeFault}
-use Rattle.desk_entries.specs.declared.standing.Standing.{Standing}
+use Rattle.desk_register.specs.declared.fault.StrikeFault.{StrikeFault}
+use Rattle.desk_register.specs.declared.standing.Standing.{Standing}
 use Rattle.desk_entries.specs.Words.{IsHistory, SaysCourt, corrections_then, restore_for, standing_file, strike_for, unsaid_by}
 use Rattle.desk_program.specs.declared.entry_kind.EntryKind.{EntryKind}
 use Rattle.desk_program.specs.declared.entry_kind.EntryKind.TheVariants as kind

@@ -3,7 +3,7 @@ use Rattle.std.specs.Prelude.{ℕ, List, [], ◌∷◌, ◌++◌, codes, if◌th
 use Rattle.std.specs.Fmt.{decimal}
 use Rattle.std.specs.List.{ends_with}
 use Rattle.desk_numbers.specs.declared.moved.Moved.{Moved}
-use Rattle.desk_entries.specs.declared.standing.Standing.{Standing}
+use Rattle.desk_register.specs.declared.standing.Standing.{Standing}
 use Rattle.desk_entries.specs.Words.{row_entries, rows_written, standing_file}
 
 -- a court's file, with an end of its last line

@@ -7,7 +7,7 @@ use Rattle.desk_journal.specs.Words.{StandsFor}
 use Rattle.desk_session.specs.declared.fault.SessionFault.{SessionFault}
 use Rattle.desk_session.specs.declared.fault.SessionFault.TheVariants as session
 use Rattle.desk_session.specs.Words.{IsAllOrNone, Stopped, first_stopped, left_by, lines_of, numbered_lines, told_to, unfinished_of, unmarked_lines}
-use Rattle.desk_entries.specs.declared.standing.Standing.{Standing}
+use Rattle.desk_register.specs.declared.standing.Standing.{Standing}
 use Rattle.desk_entries.specs.Words.{FaultyLine, IsHistory, StandsAfter, faults_of, line_cause_text}
 use Rattle.desk_warnings.specs.declared.register.HeldBack.{HeldBack}
 use Rattle.desk_warnings.specs.Words.{are_marked, careful_answers, careful_leaves, careful_outcome}

@@ -1,6 +1,6 @@
 //! A row that is struck, or that was struck and is restored.
 ghost use Rattle.std.specs.Prelude.{◌≡◌, ◌<◌, ◌≤◌, ◌⊎◌, ◌++◌, ◌∷◌, [], ℕ, List, length, false, Err, Ok, IfOk, OnOk};
-ghost use Rattle.desk_entries.specs.declared.fault.StrikeFault.{StrikeFault as StrikeFaultOf};
+ghost use Rattle.desk_register.specs.declared.fault.StrikeFault.{StrikeFault as StrikeFaultOf};
 ghost use Rattle.desk_journal.specs.Words.{StandsFor, batch_of};
 ghost use Rattle.desk_entries.specs.Words.{IsHistory, SaysCourt, StandsAt, corrections_then, most_entries, standing_file, unsaid_by};
 ghost use Rattle.program_streams.specs.Words.{has_failed, watched};

@@ -5,13 +5,13 @@ use Rattle.docket_rows.specs.declared.command.Command.{Command as CommandOf}
 use Rattle.docket_rows.specs.declared.refusal.Refusal.{Refusal}
 use Rattle.docket_rows.specs.Words.{Parts, parts_of, refusal, setup_of}
 use Rattle.desk_session.specs.Words.{TakesLine, after_mark, left_by}
-use Rattle.desk_entries.specs.Words.{IsHistory, IsReadyAt, StandsAfter, cases_of, docketed_by, leaves, next_number, run_by, told}
-use Rattle.desk_entries.specs.declared.register.DocketRegister.{DocketRegister}
-use Rattle.desk_entries.specs.declared.standing.Standing.{Standing}
+use Rattle.desk_register.specs.Words.{IsHistory, IsReadyAt, StandsAfter, cases_of, docketed_by, leaves, next_number, run_by, told}
+use Rattle.desk_register.specs.declared.register.DocketRegister.{DocketRegister}
+use Rattle.desk_register.specs.declared.standing.Standing.{Standing}
 use Rattle.court_days.specs.Words.{CourtView}
 use Rattle.desk_numbers.specs.declared.moved.Moved.{Moved}
 use Rattle.desk_numbers.specs.Words.{placed_command}
-use Rattle.desk_entries.proofs.CallerLemmas.{left_history}
+use Rattle.desk_register.proofs.CallerLemmas.{left_history}
 use Rattle.desk_warnings.specs.declared.register.HeldBack.{HeldBack}
 use Rattle.desk_warnings.specs.Careful.{careful_answers, careful_leaves, held_text, left_by_taken, line_taken, taken_at, taken_warned, told_of_taken, warned_at, warnings_at}
 use Rattle.desk_warnings.specs.Laws.{CarefulIsHistory, NothingIsHeldBack, RefusedAreHeld, WarningsKeepNothing, lines_taken, with_taken}

@@ -9,8 +9,8 @@ use Rattle.row_forms.specs.Words.{names_of}
 use Rattle.desk_session.specs.Words.{after_mark}
 use Rattle.desk_session.specs.declared.outcome.Outcome.{Outcome}
 use Rattle.desk_session.specs.declared.outcome.Outcome.TheVariants.{Held}
-use Rattle.desk_entries.specs.declared.standing.Standing.{Standing}
-use Rattle.desk_entries.specs.Words.{cases_of, docketed_by, leaves, most_clerks, next_number, outcome, reading_at, run_by, told, within}
+use Rattle.desk_register.specs.declared.standing.Standing.{Standing}
+use Rattle.desk_register.specs.Words.{cases_of, docketed_by, leaves, most_clerks, next_number, outcome, reading_at, run_by, told, within}
 use Rattle.desk_warnings.specs.declared.register.HeldBack.{HeldBack}
 use Rattle.desk_warnings.specs.declared.register.HeldBack.TheVariants.{Nothing, Warned}
 use Rattle.desk_warnings.specs.Warnings.{warnings_on}

@@ -10,8 +10,8 @@ use Rattle.row_forms.specs.declared.line.line.Line.TheVariants as says
 use Rattle.row_forms.specs.Line.Words.{line_read}
 use Rattle.desk_session.specs.Words.{after_mark, left_by}
 use Rattle.desk_numbers.specs.Words.{placed_command}
-use Rattle.desk_entries.specs.declared.standing.Standing.{Standing}
-use Rattle.desk_entries.specs.Words.{IsHistory, StandsAfter, docketed_by, leaves, most_clerks, outcome, reading_at, run_by, told, within}
+use Rattle.desk_register.specs.declared.standing.Standing.{Standing}
+use Rattle.desk_register.specs.Words.{IsHistory, StandsAfter, docketed_by, leaves, most_clerks, outcome, reading_at, run_by, told, within}
 use Rattle.desk_warnings.specs.declared.register.HeldBack.{HeldBack}
 use Rattle.desk_warnings.specs.declared.register.HeldBack.TheVariants.{Nothing, Warned}
 use Rattle.desk_warnings.specs.Careful.{careful_answers, careful_leaves, careful_outcome, taken_at}

@@ -4,14 +4,14 @@ ghost use Rattle.desk_journal.specs.Words.{batch_of};
 ghost use Rattle.desk_session.specs.Words.{TakesLine};
 ghost use Rattle.row_forms.specs.Words.{names_of};
 ghost use Rattle.row_forms.specs.Line.Words.{line_read};
-ghost use Rattle.desk_entries.specs.Words.{IsReadyAt, StandsAt, most_clerks, reading_at, within};
+ghost use Rattle.desk_register.specs.Words.{IsReadyAt, StandsAt, most_clerks, reading_at, within};
 ghost use Rattle.desk_warnings.specs.declared.register.HeldBack.TheVariants.{Warned};
 ghost use Rattle.desk_warnings.specs.Careful.{are_marked, careful_answers, careful_leaves, careful_outcome, held_first, held_last, held_text, warnings_at, warnings_said};
 
 use crate::warnings::warnings_on;
 use court_clock::Day;
 use csv::StringRecord;
-use desk_entries::{DocketRegister, Standing};
+use desk_register::{DocketRegister, Standing};
 use desk_session::{Outcome, Register, after_mark};
 use docket_rows::{Command, Query};
 use row_forms::{Line, Row, RowCause, Work};

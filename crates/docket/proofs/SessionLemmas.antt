@@ -6,7 +6,7 @@ use Rattle.program_streams.specs.declared.watched.Watched.{Watched}
 use Rattle.program_streams.specs.Words.{IsGiven, has_failed, watched}
 use Rattle.desk_session.specs.declared.outcome.Tally.{Tally}
 use Rattle.desk_session.specs.Words.{lines_of, told_to}
-use Rattle.desk_entries.specs.declared.standing.Standing.{Standing}
+use Rattle.desk_register.specs.declared.standing.Standing.{Standing}
 use Rattle.desk_warnings.specs.declared.register.HeldBack.{HeldBack}
 use Rattle.desk_program.specs.declared.desk.Desk.{Desk as DeskOver}
 use Rattle.desk_program.specs.Words.{KeepsDocket, KeepsTogether, answers_at, disk_under, held_at, leaves_at, standing_at}

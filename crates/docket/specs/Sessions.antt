@@ -3,7 +3,7 @@ use Rattle.std.specs.Prelude.{◌≡◌, ◌<◌, ◌⊎◌, ℕ, ℤ, List, ◌
 use Rattle.sqlite_disk.specs.declared.Disk as disk
 use Rattle.court_clock.specs.Words.{day_text}
 use Rattle.desk_journal.specs.Words.{IsWhole, StandsFor}
-use Rattle.desk_entries.specs.declared.standing.Standing.{Standing}
+use Rattle.desk_register.specs.declared.standing.Standing.{Standing}
 use Rattle.desk_entries.specs.Words.{StandsAfter}
 use Rattle.desk_warnings.specs.declared.register.HeldBack.{HeldBack}
 use Rattle.program_main.specs.Texts.Words.{today_by}

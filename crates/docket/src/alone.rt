@@ -1,7 +1,7 @@
 //! What the program does while no other one has the folder's journal open, but for entering rows.
 ghost use Rattle.std.specs.Prelude.{◌≡◌, ◌<◌, ◌≤◌, ◌++◌, codes, length, false, string_bytes, IfOk, OnOk};
 ghost use Rattle.court_clock.specs.Words.{day_text};
-ghost use Rattle.desk_entries.specs.declared.standing.Standing.{Standing};
+ghost use Rattle.desk_register.specs.declared.standing.Standing.{Standing};
 ghost use Rattle.desk_journal.specs.Words.{batch_of};
 ghost use Rattle.desk_program.specs.Words.{CorrectsRow, KeepsDocket, standing_at};
 ghost use Rattle.docket.specs.Sessions.{done_text, remark_by, remark_text};

@@ -2,8 +2,7 @@
 use Rattle.std.specs.Prelude.{◌≡◌, ◌<◌, ◌+◌, ℕ, true, List, length}
 use Rattle.desk_numbers.specs.Strikes.Words.{all_before}
 use Rattle.desk_entries.specs.declared.what_stands.Walk.{Walk}
-use Rattle.desk_entries.specs.Entries.{kept_in, next_number, standing_file, struck_in}
-use Rattle.desk_entries.specs.History.{SaysCourt}
+use Rattle.desk_register.specs.Words.{SaysCourt, kept_in, next_number, standing_file, struck_in}
 
 -- the walk is at the end of these entries
 pub record IsWalked (walk : Walk) (kept : List (List ℕ)) : Type 0 where

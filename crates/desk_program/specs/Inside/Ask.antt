@@ -4,7 +4,7 @@ use Rattle.std.specs.Io.KnownBytes.{Appends}
 use Rattle.program_streams.specs.Words.{AppendsFront}
 use Rattle.desk_session.specs.declared.outcome.Tally.{Tally}
 use Rattle.desk_session.specs.Words.{tally_of, told_to}
-use Rattle.desk_entries.specs.declared.standing.Standing.{Standing}
+use Rattle.desk_register.specs.declared.standing.Standing.{Standing}
 use Rattle.desk_entries.specs.Words.{StandsAfter, came_shown, shown}
 
 -- Each line is answered as a question on the docket after the entries, under what stands there. No line changes what the next is

@@ -1,6 +1,6 @@
 use Rattle.std.proofs.Common.{◌≡◌, ◌∙◌, ◌+◌, ℕ, List, ap, arith, drop, sym}
 use Rattle.desk_journal.specs.Words.{batch_of}
-use Rattle.desk_entries.specs.Entries.{note_in, rows_with}
+use Rattle.desk_register.specs.Words.{note_in, rows_with}
 use Rattle.desk_entries.specs.declared.past.Corrected.{Corrected}
 use Rattle.desk_entries.specs.Past.{corrected_by, corrected_with}
 use Rattle.desk_entries.proofs.PastLemmas.{all_corrected, corrected_more, count_few, later_batch, rows_few}

@@ -1,6 +1,6 @@
 use Rattle.std.proofs.Common.{◌∙◌, ◌+◌, ◌||◌, ℕ, Bool, List, ap, arith, drop, sym}
 use Rattle.desk_journal.specs.Words.{batch_of}
-use Rattle.desk_entries.specs.Entries.{note_in}
+use Rattle.desk_register.specs.Words.{note_in}
 use Rattle.desk_entries.specs.Past.{is_restored, restores_it}
 use Rattle.desk_entries.proofs.PastLemmas.{none_restored, restored_next}
 use Rattle.desk_entries.proofs.past.is_restored.Goals as goal

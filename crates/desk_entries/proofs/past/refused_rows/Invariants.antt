@@ -1,5 +1,5 @@
 use Rattle.std.proofs.Common.{◌≡◌, ◌++◌, drop, map}
-use Rattle.desk_entries.specs.Differences.{change_in}
+use Rattle.desk_register.specs.Words.{change_in}
 use Rattle.desk_entries.specs.Past.{rows_refused}
 use Rattle.desk_entries.proofs.past.refused_rows.Given as goal
 

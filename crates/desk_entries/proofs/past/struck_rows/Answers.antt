@@ -3,7 +3,7 @@ use Rattle.std.specs.Prelude.{Vec}
 use Rattle.std.specs.declared.alloc.Global.{Global}
 use Rattle.row_forms.specs.declared.numbered.NumberedRow.{NumberedRow}
 use Rattle.desk_journal.specs.Words.{batch_of}
-use Rattle.desk_entries.specs.Entries.{note_in, rows_with}
+use Rattle.desk_register.specs.Words.{note_in, rows_with}
 use Rattle.desk_entries.specs.Past.{row_struck_as, rows_struck}
 use Rattle.desk_entries.proofs.PastLemmas.{all_struck, later_batch, rows_few, rows_struck-next}
 use Rattle.desk_entries.proofs.past.struck_rows.Goals as goal

@@ -1,12 +1,11 @@
 use Rattle.std.proofs.Common.{◌≡◌, ◌∙◌, ◌+◌, ◌<◌, ◌++◌, ◌∷◌, ℕ, List, [], ap, length, map, sym, subst, arith, take}
 use Rattle.desk_journal.specs.Words.{batch_of}
 use Rattle.row_forms.specs.declared.numbered.NumberedRow.{NumberedRow}
-use Rattle.desk_entries.specs.Differences.{Change, change_as, change_in, changes_by}
-use Rattle.desk_entries.specs.Entries.{note_in}
-use Rattle.desk_entries.specs.Register.{StandsAt}
+use Rattle.desk_register.specs.Words.{Change, StandsAt, change_as, change_in, note_in}
+use Rattle.desk_entries.specs.Review.{changes_by}
 use Rattle.desk_entries.specs.Reported.{rows_standing, standing_as}
-use Rattle.desk_entries.proofs.ChangeLemmas.{changes_by-more, none_first}
-use Rattle.desk_entries.proofs.ListLemmas.{begun_batch, some_first, take_batch}
+use Rattle.desk_entries.proofs.ReviewLemmas.{changes_by-more, none_first}
+use Rattle.desk_register.proofs.CallerLemmas.{begun_batch, some_first, take_batch}
 use Rattle.desk_entries.proofs.ReportedLemmas.{none_standing, rows_standing-more}
 use Rattle.desk_entries.proofs.reported.standing_rows.Goals as goal
 

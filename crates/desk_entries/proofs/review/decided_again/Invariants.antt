@@ -1,7 +1,7 @@
 use Rattle.std.proofs.Common.{◌≡◌, ◌≤◌, map, take}
 use Rattle.desk_journal.specs.Words.{batch_of}
-use Rattle.desk_entries.specs.Differences.{change_in, changes_by}
-use Rattle.desk_entries.specs.Register.{StandsAt}
+use Rattle.desk_register.specs.Words.{StandsAt, change_in}
+use Rattle.desk_entries.specs.Review.{changes_by}
 use Rattle.desk_entries.proofs.review.decided_again.Given as goal
 
 -- the rows so far are decided

@@ -1,8 +1,9 @@
 use Rattle.std.proofs.Common.{ap, subst, sym}
 use Rattle.court_days.specs.Words.{CourtView}
-use Rattle.desk_entries.specs.declared.standing.Standing.{Standing}
-use Rattle.desk_entries.specs.History.{SaysCourt}
-use Rattle.desk_entries.proofs.HistoryLemmas.{first_docketed, first_history}
+use Rattle.desk_register.specs.declared.standing.Standing.{Standing}
+use Rattle.desk_register.specs.Words.{SaysCourt}
+use Rattle.desk_entries.proofs.DocketedLemmas.{first_docketed}
+use Rattle.desk_register.proofs.CallerLemmas.{first_history}
 use Rattle.desk_entries.proofs.docketed.Docketed.begin.Goals as goal
 
 pub returns-clause-docketed : goal.returns-clause-docketed

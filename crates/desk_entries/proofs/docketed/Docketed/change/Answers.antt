@@ -1,10 +1,8 @@
 use Rattle.std.proofs.Common.{◌∙◌, ◌++◌, ◌∷◌, ℕ, List, [], ap, sym, subst}
-use Rattle.desk_entries.specs.declared.standing.Standing.{Standing}
-use Rattle.desk_entries.specs.Entries.{court_file}
-use Rattle.desk_entries.specs.History.{SaysCourt}
-use Rattle.desk_entries.specs.Register.{StandsAt}
-use Rattle.desk_entries.proofs.HistoryLemmas.{docketed_note}
-use Rattle.desk_entries.proofs.ListLemmas.{file_noted}
+use Rattle.desk_register.specs.declared.standing.Standing.{Standing}
+use Rattle.desk_register.specs.Words.{SaysCourt, StandsAt, court_file}
+use Rattle.desk_entries.proofs.DocketedLemmas.{docketed_note}
+use Rattle.desk_register.proofs.CallerLemmas.{file_noted}
 use Rattle.desk_entries.proofs.docketed.Docketed.change.Goals as goal
 
 pub returns-clause-docketed : goal.returns-clause-docketed

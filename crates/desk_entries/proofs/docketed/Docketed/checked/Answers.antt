@@ -1,9 +1,9 @@
 use Rattle.std.proofs.Common.{◌≡◌, ◌∙◌, ◌∷◌, [], ℕ, List, ap, sym, subst, take}
 use Rattle.desk_journal.specs.Words.{batch_of}
 use Rattle.desk_entries.specs.Docketed.{AreHistory, IsBadFile}
-use Rattle.desk_entries.specs.History.{IsHistory}
+use Rattle.desk_register.specs.Words.{IsHistory}
 use Rattle.desk_entries.proofs.FaultyLemmas.{bad_first_of, none_are_history}
-use Rattle.desk_entries.proofs.ListLemmas.{first_batch}
+use Rattle.desk_register.proofs.CallerLemmas.{first_batch}
 use Rattle.desk_entries.proofs.docketed.Docketed.checked.Goals as goal
 
 pub returns-in-Err-clause-cause : goal.returns-in-Err-clause-cause

@@ -2,7 +2,7 @@ use Rattle.std.proofs.Common.{◌∙◌, ◌∷◌, [], ap, length, length-appen
 use Rattle.std.proofs.lemmas.Result.{IfErr-weaker}
 use Rattle.desk_entries.specs.Docketed.{IsBadFile, IsFaultyEntry}
 use Rattle.desk_entries.proofs.FaultyLemmas.{bad_file}
-use Rattle.desk_entries.proofs.ListLemmas.{file_noted, length_batch}
+use Rattle.desk_register.proofs.CallerLemmas.{file_noted, length_batch}
 use Rattle.desk_entries.proofs.docketed.Docketed.correct_by.Goals as goal
 
 pub returns-in-Some-clause-cause : goal.returns-in-Some-clause-cause

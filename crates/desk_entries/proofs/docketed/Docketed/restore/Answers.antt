@@ -1,12 +1,10 @@
 use Rattle.std.proofs.Common.{◌≡◌, ◌∙◌, ℕ, List, true, false, ap, inl, length, sym, subst}
 use Rattle.court_days.specs.Words.{CourtView}
-use Rattle.desk_entries.specs.declared.standing.Standing.{Standing}
-use Rattle.desk_entries.specs.Entries.{can_restore, row_restored, standing_file}
-use Rattle.desk_entries.specs.History.{SaysCourt}
-use Rattle.desk_entries.specs.Register.{StandsAt}
+use Rattle.desk_register.specs.declared.standing.Standing.{Standing}
+use Rattle.desk_register.specs.Words.{SaysCourt, StandsAt, can_restore, row_restored, standing_file}
 use Rattle.desk_entries.proofs.FaultyLemmas.{bad_note}
-use Rattle.desk_entries.proofs.HistoryLemmas.{can_be_restored, docketed_note}
-use Rattle.desk_entries.proofs.ListLemmas.{length_batch}
+use Rattle.desk_entries.proofs.DocketedLemmas.{can_be_restored, docketed_note}
+use Rattle.desk_register.proofs.CallerLemmas.{length_batch}
 use Rattle.desk_entries.proofs.docketed.Docketed.restore.Goals as goal
 
 pub returns-then-not-is_struck-clause-cause : goal.returns-then-not-is_struck-clause-cause

@@ -1,14 +1,13 @@
 use Rattle.std.proofs.Common.{◌∙◌, refl, sym}
-use Rattle.desk_entries.specs.Differences.{IsOtherwise}
-use Rattle.desk_entries.specs.Rows.{follows}
-use Rattle.desk_entries.proofs.HistoryLemmas.{docketed_row, row_may_follow}
-use Rattle.desk_entries.proofs.ListLemmas.{other_of, same_of}
+use Rattle.desk_register.specs.Words.{IsOtherwise, follows}
+use Rattle.desk_entries.proofs.DocketedLemmas.{docketed_row, row_may_follow}
+use Rattle.desk_register.proofs.CallerLemmas.{other_of, same_of}
 use Rattle.desk_entries.proofs.docketed.Docketed.retake.Goals as goal
 
 pub returns-then-is_some-clause-cause : goal.returns-then-is_some-clause-cause
 returns-then-is_some-clause-cause c = λ before is.
     let (answer, otherwise) = other_of (follows c.args.self.now.standing before c.args.entry.now) (λ a. IsOtherwise c.args.self.now.standing before c.args.entry.now a.items) c.in_ok-other.other (c.in_ok-other.ensures.other before is.stands.at) (sym c.is_some.ensures ∙ c.if-is_some.true) in
-    (is.stands.at.number, c.requires.row, (c.args.self.now.standing, is.standing, otherwise.other))
+    (c.next_number-number.ensures c.args.self.now.standing before is.stands.at, c.requires.row, (c.args.self.now.standing, is.standing, otherwise.other))
 
 pub returns-clause-docketed : goal.returns-clause-docketed
 returns-clause-docketed c = λ before is. docketed_row c.args.self.now _ before c.args.entry.now is c.requires.row refl (c.in_ok-other.ensures.stands before is.stands.at c.requires.row)

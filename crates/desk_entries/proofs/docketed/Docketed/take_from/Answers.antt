@@ -1,12 +1,10 @@
 use Rattle.std.proofs.Common.{◌≡◌, ◌∙◌, ◌+◌, ◌++◌, ◌∷◌, ℕ, List, [], ap, drop, sym, subst, arith, take}
 use Rattle.desk_journal.specs.Words.{batch_of}
 use Rattle.desk_entries.specs.Docketed.{AreHistory, HasFault, IsDocketed}
-use Rattle.desk_entries.specs.History.{IsHistory}
+use Rattle.desk_register.specs.Words.{IsHistory, next_number}
 use Rattle.desk_numbers.specs.Strikes.Words.{is_struck}
-use Rattle.desk_entries.specs.Entries.{next_number}
 use Rattle.desk_entries.proofs.FaultyLemmas.{faulty_so}
-use Rattle.desk_entries.proofs.HistoryLemmas.{history_more}
-use Rattle.desk_entries.proofs.ListLemmas.{not_struck, parts_at, take_batch}
+use Rattle.desk_register.proofs.CallerLemmas.{history_more, not_struck, parts_at, take_batch}
 use Rattle.desk_entries.proofs.docketed.Docketed.take_from.Goals as goal
 
 pub returns-in-Err-clause-cause : goal.returns-in-Err-clause-cause

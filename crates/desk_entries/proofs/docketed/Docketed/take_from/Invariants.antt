@@ -1,7 +1,7 @@
 use Rattle.std.proofs.Common.{◌≤◌, length, take}
 use Rattle.desk_journal.specs.Words.{batch_of}
 use Rattle.desk_entries.specs.Docketed.{IsDocketed}
-use Rattle.desk_entries.specs.History.{IsHistory}
+use Rattle.desk_register.specs.Words.{IsHistory}
 use Rattle.desk_entries.proofs.docketed.Docketed.take_from.Given as goal
 
 -- the entries so far are taken, and are a history if the first were

@@ -1,8 +1,8 @@
 use Rattle.std.proofs.Common.{◌≡◌, [], ap, refl, rules, subst, sym}
 use Rattle.desk_numbers.specs.Strikes.Words.{CorrectionsView}
 use Rattle.desk_entries.specs.declared.what_stands.Walk.{Walk}
-use Rattle.desk_entries.specs.History.{SaysCourt}
-use Rattle.desk_entries.proofs.ListLemmas.{standing_first}
+use Rattle.desk_register.specs.Words.{SaysCourt}
+use Rattle.desk_register.proofs.CallerLemmas.{standing_first}
 use Rattle.desk_entries.proofs.WalkLemmas.{first_walked}
 use Rattle.desk_entries.proofs.what_stands.Walk.begin.Goals as goal
 

@@ -1,8 +1,7 @@
 use Rattle.std.proofs.Common.{◌∙◌, ap, subst, sym}
 use Rattle.desk_numbers.specs.Strikes.Words.{CorrectionsView}
-use Rattle.desk_entries.specs.Entries.{court_file}
-use Rattle.desk_entries.specs.History.{SaysCourt}
-use Rattle.desk_entries.proofs.ListLemmas.{file_noted}
+use Rattle.desk_register.specs.Words.{SaysCourt, court_file}
+use Rattle.desk_register.proofs.CallerLemmas.{file_noted}
 use Rattle.desk_entries.proofs.WalkLemmas.{walked_note}
 use Rattle.desk_entries.proofs.what_stands.Walk.change.Goals as goal
 

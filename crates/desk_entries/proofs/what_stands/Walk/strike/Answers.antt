@@ -1,7 +1,6 @@
 use Rattle.std.proofs.Common.{◌≡◌, ◌∙◌, ◌∷◌, [], true, false, ap, inl, length-append, subst, sym}
 use Rattle.desk_numbers.specs.Strikes.Words.{CorrectionsView}
-use Rattle.desk_entries.specs.Entries.{can_strike, row_struck, standing_file}
-use Rattle.desk_entries.specs.History.{SaysCourt}
+use Rattle.desk_register.specs.Words.{SaysCourt, can_strike, row_struck, standing_file}
 use Rattle.desk_entries.proofs.FaultyLemmas.{bad_note}
 use Rattle.desk_entries.proofs.WalkLemmas.{can_be_struck, walked_note}
 use Rattle.desk_entries.proofs.what_stands.Walk.strike.Goals as goal

@@ -3,7 +3,7 @@ use Rattle.desk_journal.specs.Words.{batch_of}
 use Rattle.desk_entries.specs.Docketed.{HasFault}
 use Rattle.desk_entries.specs.Inside.Walk.{IsWalked}
 use Rattle.desk_entries.proofs.FaultyLemmas.{faulty_so}
-use Rattle.desk_entries.proofs.ListLemmas.{length_batch, next_number-few, parts_at, take_batch}
+use Rattle.desk_register.proofs.CallerLemmas.{length_batch, next_number-few, parts_at, take_batch}
 use Rattle.std.proofs.lemmas.List.{length-take-le}
 use Rattle.desk_entries.proofs.what_stands.Walk.take_later.Goals as goal
 

@@ -1,6 +1,6 @@
 use Rattle.std.proofs.Common.{◌∙◌, ◌++◌, ◌∷◌, [], ℕ, List, ap, sym, subst}
 use Rattle.desk_journal.specs.Words.{IsKept, batch_of}
-use Rattle.desk_entries.specs.declared.register.DocketRegister.{DocketRegister}
+use Rattle.desk_register.specs.declared.register.DocketRegister.{DocketRegister}
 use Rattle.desk_entries.specs.Words.{StandsAt}
 use Rattle.desk_program.proofs.DeskLemmas.{one_more}
 use Rattle.desk_program.proofs.desk.Desk.take_note.Goals as goal

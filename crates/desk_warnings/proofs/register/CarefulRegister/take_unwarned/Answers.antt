@@ -1,7 +1,7 @@
 use Rattle.std.proofs.Common.{◌≡◌, ◌∙◌, ◌++◌, ℕ, List, sym, ap, refl}
 use Rattle.std.proofs.lemmas.Result.{IfOk-weaker, on_ok_weaker}
 use Rattle.desk_journal.specs.Words.{batch_of}
-use Rattle.desk_entries.specs.Words.{next_number, outcome}
+use Rattle.desk_register.specs.Words.{next_number, outcome}
 use Rattle.desk_warnings.specs.declared.register.HeldBack.TheVariants.{Warned}
 use Rattle.desk_warnings.specs.Careful.{came_of_taken, careful_outcome, held_text}
 use Rattle.desk_warnings.proofs.CarefulLemmas.{as_taken, held_back, taken_marked, taken_none, taken_plain}

@@ -1,7 +1,7 @@
 use Rattle.std.proofs.Common.{◌∙◌, ap}
 use Rattle.std.proofs.lemmas.Result.{IfOk-weaker}
 use Rattle.row_forms.specs.declared.line.line.Line.{Line}
-use Rattle.desk_entries.specs.Words.{within}
+use Rattle.desk_register.specs.Words.{within}
 use Rattle.desk_warnings.specs.Careful.{warnings_at, warnings_said}
 use Rattle.desk_warnings.proofs.register.CarefulRegister.warnings_at.Goals as goal
 

@@ -2,7 +2,7 @@ use Rattle.std.proofs.Common.{sym, subst}
 use Rattle.std.proofs.lemmas.Result.{on_ok_weaker}
 use Rattle.desk_journal.specs.Words.{batch_of}
 use Rattle.desk_session.specs.Words.{TakesLine}
-use Rattle.desk_entries.specs.Words.{IsReadyAt}
+use Rattle.desk_register.specs.Words.{IsReadyAt}
 use Rattle.desk_warnings.specs.declared.register.HeldBack.{HeldBack}
 use Rattle.desk_warnings.specs.Careful.{careful_answers, careful_leaves}
 use Rattle.desk_warnings.proofs.register.CarefulRegisterRegister.take.Goals as goal

@@ -1,5 +1,0 @@
-use Rattle.desk_entries.proofs.DecidedLemmas.{left_out}
-use Rattle.desk_entries.proofs.laws.a_struck_row_is_left_out.Goals as goal
-
-pub returns : goal.returns
-returns c = left_out

@@ -1,5 +1,0 @@
-use Rattle.desk_entries.proofs.HistoryLemmas.{left_history}
-use Rattle.desk_entries.proofs.laws.what_is_left_is_history.Goals as goal
-
-pub returns : goal.returns
-returns c = left_history

@@ -1,0 +1,17 @@
+pub mod CallerLemmas
+pub mod ChangeLemmas
+pub mod CaseLemmas
+pub mod NextLineLemmas
+pub mod DecidedLemmas
+pub mod EntryLemmas
+pub mod SaidLemmas
+pub mod FieldLemmas
+pub mod GivenLemmas
+pub mod HistoryLemmas
+pub mod LineFaultLemmas
+pub mod ListLemmas
+pub mod NoteLemmas
+pub mod QuestionLemmas
+pub mod RegisterLemmas
+pub mod ShiftLemmas
+pub mod StrikingLemmas

@@ -1,0 +1,16 @@
+pub mod Entries
+pub mod Cases
+pub mod CaseLines
+pub mod Subjects
+pub mod LineCauses
+pub mod Run
+pub mod Rows
+pub mod History
+pub mod Striking
+pub mod Register
+pub mod Differences
+pub mod LineFaults
+pub mod Shifts
+pub mod Laws
+pub mod Questions
+pub mod Words
