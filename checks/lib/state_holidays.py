@@ -213,7 +213,7 @@ STATUTES = {
     "alaska": "Alaska Stat. section 44.12.010 and those after it",
     "arizona": "Ariz. Rev. Stat. section 1-301",
     "arkansas": "Ark. Code section 1-5-101",
-    "california": "Cal. Gov't Code sections 6700 and 6701",
+    "california": "Cal. Gov't Code sections 6700 and 6701, and Cal. Civ. Proc. Code section 135",
     "colorado": "Colo. Rev. Stat. section 24-11-101",
     "connecticut": "Conn. Gen. Stat. section 1-4",
     "delaware": "Del. Code tit. 1, section 501",

@@ -73,7 +73,8 @@ impl State {
             State::Alaska => "Alaska Stat. section 44.12.010 and those after it",
             State::Arizona => "Ariz. Rev. Stat. section 1-301",
             State::Arkansas => "Ark. Code section 1-5-101",
-            State::California => "Cal. Gov't Code sections 6700 and 6701",
+            State::California =>
+                "Cal. Gov't Code sections 6700 and 6701, and Cal. Civ. Proc. Code section 135",
             State::Colorado => "Colo. Rev. Stat. section 24-11-101",
             State::Connecticut => "Conn. Gen. Stat. section 1-4",
             State::Delaware => "Del. Code tit. 1, section 501",
