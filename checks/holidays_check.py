@@ -12,7 +12,7 @@ Friday:
   each library has;
 - those that `court write` writes for each court and a hundred years, and the rules of checks/lib/holiday_rules.py.
 
-Each difference must be one that is explained below. A line for each comparison says how many days agree. The status is
+Each difference must be one that lib/holiday_differences.py explains. A line for each comparison says how many days agree. The status is
 0 where nothing is left unexplained.
 """
 import pathlib
@@ -25,6 +25,7 @@ from datetime import date
 
 from courts_days import differences, list_of, names_of, written
 from lib import holiday_rules
+from lib.holiday_differences import ONLY_LIBRARY, ONLY_PROGRAM
 
 DEBIAN_PACKAGES = "/usr/lib/python3/dist-packages"
 FIRST_OF_FEDERAL, FIRST, LAST = 1970, 2016, 2069
@@ -34,102 +35,62 @@ LONG_SPANS = ((2016, 2115), (2100, 2199))
 # a court of each state, and the state as each library names it; python3-workalendar has the legal holidays of Florida apart
 # from the paid ones
 COURTS = {
+    "alabama_northern": ("AL", "Alabama"),
     "alaska": ("AK", "Alaska"),
     "arizona": ("AZ", "Arizona"),
+    "arkansas_eastern": ("AR", "Arkansas"),
     "california_central": ("CA", "California"),
     "colorado": ("CO", "Colorado"),
+    "connecticut": ("CT", "Connecticut"),
+    "delaware": ("DE", "Delaware"),
     "district_of_columbia": ("DC", "DistrictOfColumbia"),
     "florida_southern": ("FL", "FloridaLegal"),
     "georgia_northern": ("GA", "Georgia"),
     "guam": ("GU", "Guam"),
     "hawaii": ("HI", "Hawaii"),
+    "idaho": ("ID", "Idaho"),
     "illinois_northern": ("IL", "Illinois"),
+    "indiana_southern": ("IN", "Indiana"),
+    "iowa_southern": ("IA", "Iowa"),
+    "kansas": ("KS", "Kansas"),
+    "kentucky_western": ("KY", "Kentucky"),
+    "louisiana_eastern": ("LA", "Louisiana"),
+    "maine": ("ME", "Maine"),
+    "maryland": ("MD", "Maryland"),
     "massachusetts": ("MA", "Massachusetts"),
+    "michigan_eastern": ("MI", "Michigan"),
+    "minnesota": ("MN", "Minnesota"),
+    "mississippi_southern": ("MS", "Mississippi"),
+    "missouri_eastern": ("MO", "Missouri"),
+    "montana": ("MT", "Montana"),
+    "nebraska": ("NE", "Nebraska"),
+    "nevada": ("NV", "Nevada"),
+    "new_hampshire": ("NH", "NewHampshire"),
     "new_jersey": ("NJ", "NewJersey"),
+    "new_mexico": ("NM", "NewMexico"),
     "new_york_southern": ("NY", "NewYork"),
+    "north_carolina_eastern": ("NC", "NorthCarolina"),
+    "north_dakota": ("ND", "NorthDakota"),
+    "northern_mariana_islands": ("MP", None),
+    "ohio_northern": ("OH", "Ohio"),
+    "oklahoma_western": ("OK", "Oklahoma"),
+    "oregon": ("OR", "Oregon"),
     "pennsylvania_eastern": ("PA", "Pennsylvania"),
     "puerto_rico": ("PR", None),
+    "rhode_island": ("RI", "RhodeIsland"),
+    "south_carolina": ("SC", "SouthCarolina"),
+    "south_dakota": ("SD", "SouthDakota"),
+    "tennessee_middle": ("TN", "Tennessee"),
     "texas_southern": ("TX", "Texas"),
+    "utah": ("UT", "Utah"),
+    "vermont": ("VT", "Vermont"),
+    "virgin_islands": ("VI", None),
     "virginia_eastern": ("VA", "Virginia"),
     "washington_western": ("WA", "Washington"),
+    "west_virginia_southern": ("WV", "WestVirginia"),
+    "wisconsin_eastern": ("WI", "Wisconsin"),
+    "wyoming": ("WY", "Wyoming"),
 }
-
-# the days that the program has and a library hasn't: the court (empty for each), what they are, and why
-ONLY_PROGRAM = [
-    ("", ["Juneteenth National Independence Day"], "Both libraries are older than the Act of 17 June 2021."),
-    ("", ["Columbus Day"], "It is left out for states that don't keep it; it is a holiday of the United States."),
-    ("united_states", ["Washington's Birthday", "Memorial Day"],
-     "In 1970, the last year in which these were dates: 22 February was a Sunday and 30 May a Saturday. The library "
-     "doesn't move them."),
-    ("california_central", ["Lincoln's Birthday", "Admission Day", "Native American Day"],
-     "Both libraries have the days off of the state's offices, and not all of section 6700."),
-    ("florida_southern", ["Washington's Birthday", "Birthday of Martin Luther King, Jr.", "Birthday of Robert E. Lee",
-                          "Lincoln's Birthday", "Good Friday", "Pascua Florida Day", "Confederate Memorial Day",
-                          "Birthday of Jefferson Davis", "Flag Day", "General Election Day"],
-     "python3-holidays has the days off of the state's offices; python3-workalendar lacks the two birthdays of January."),
-    ("virginia_eastern", ["Election Day"], "Both libraries are older than the change of 2020 or don't have it."),
-    ("virginia_eastern", ["Lee-Jackson Day"], "python3-workalendar has the third Friday of January."),
-    ("virginia_eastern", ["Day after Thanksgiving Day"], "python3-holidays doesn't have it."),
-    ("georgia_northern", ["Washington's Birthday"], "Both libraries have it in December, when the state's offices keep it."),
-    ("guam", ["Guam History and Chamorro Heritage Day"], "python3-workalendar has 7 March, and not the first Monday."),
-    ("illinois_northern", ["Good Friday"], "Both have the days off of the state's offices, and not all of the Act's."),
-    ("illinois_northern", ["Casimir Pulaski's Birthday"], "python3-workalendar has the days off of the state's offices."),
-    ("colorado", ["Frances Xavier Cabrini Day"], "Both libraries don't have it."),
-    ("new_jersey", ["Juneteenth Day"], "Both libraries are older than the Act of 2020 or don't have it."),
-    ("new_jersey", ["Lincoln's Birthday"], "python3-workalendar has the days off of the state's offices."),
-    ("new_jersey", ["Election Day"], "python3-holidays has even years alone; there are general elections in each year."),
-    ("pennsylvania_eastern", ["Good Friday", "Election Day"], "python3-holidays doesn't have them."),
-    ("washington_western", ["Native American Heritage Day"], "Both libraries don't have it."),
-    ("hawaii", ["Good Friday"], "python3-holidays doesn't have it."),
-]
-
-# the days that a library has and the program hasn't: the court, their names in the library, and why
-ONLY_LIBRARY = [
-    ("united_states", ["Columbus Day"], "In 1970 it was no federal holiday yet."),
-    ("california_central", ["Susan B. Anthony Day"], "A day of remembrance, and none of section 6700."),
-    ("california_central", ["Thanksgiving Friday"], "A day off of the state's employees, which the file leaves to the court."),
-    ("georgia_northern", ["State Holiday", "Washington's Birthday", "Washington's Birthday (Observed)"],
-     "Named by the Governor each year, which the file leaves to the court."),
-    ("guam", ["Good Friday"], "The file leaves it to the court."),
-    ("guam", ["Guam History and Chamorro Heritage Day"], "7 March, and not the first Monday."),
-    ("guam", ["Guam History and Chamorro Heritage Day (Observed)", "Liberation Day (Observed)",
-              "All Souls Day (Observed)", "Lady of Camarin Day (Observed)"],
-     "Kept beside a weekend, which the file leaves to the court."),
-    ("massachusetts", ["Evacuation Day", "Evacuation Day (Observed)"],
-     "A holiday of Suffolk County alone, which the file leaves to the court."),
-    ("florida_southern", ["Friday After Thanksgiving", "Friday after Thanksgiving"],
-     "A paid holiday of the state's employees, section 110.117, and none of section 683.01."),
-    ("florida_southern", ["Mardi Gras"], "A holiday of some counties, which the file leaves to the court."),
-    ("florida_southern", ["Election Day"], "General elections are held in even years; the library has each year."),
-    ("florida_southern", ["Lincoln's Birthday (Observed)", "Susan B. Anthony Day (Observed)",
-                          "Confederate Memorial Day (Observed)", "Jefferson Davis Birthday (Observed)",
-                          "Flag Day (Observed)", "Pascua Florida Day (Observed)"],
-     "One on a Saturday is kept on the Friday; section 683.01(2) speaks of Sundays alone."),
-    ("virginia_eastern", ["Lee Jackson Day", "Lee-Jackson Day"],
-     "No holiday since 2021; python3-workalendar has the third Friday of January."),
-    ("virginia_eastern", ["Inauguration Day"], "The file leaves it to the court."),
-    ("virginia_eastern", ["Day before Thanksgiving (start at noon)", "Christmas Eve", "Christmas Eve (Observed)",
-                          "Day After Christmas", "Day After Christmas (Observed)"],
-     "Given by the Governor's order, which the file leaves to the court."),
-    ("illinois_northern", ["Lincoln's Birthday (Observed)"],
-     "One on a Saturday is kept on the Friday; the Act speaks of Sundays alone. The file leaves it to the court."),
-    ("illinois_northern", ["Thanksgiving Friday"], "A day off of the state's offices, and none of the Act's."),
-    ("new_jersey", ["Lincoln's Birthday (Observed)"],
-     "One on a Saturday is kept on the Friday; section 36:1-1 speaks of Sundays alone."),
-    ("new_york_southern", ["Lincoln's Birthday (Observed)"],
-     "One on a Saturday is kept on the Friday; section 24 speaks of Sundays alone."),
-    ("new_york_southern", ["Susan B. Anthony Day"], "A day of remembrance, and none of section 24."),
-    ("pennsylvania_eastern", ["Thanksgiving Friday"],
-     "A day off of the state's employees, which the file leaves to the court."),
-    ("texas_southern", ["Good Friday", "C\u00e9sar Ch\u00e1vez Day", "Good Friday, C\u00e9sar Ch\u00e1vez Day"], "Optional holidays, which the file leaves to the court."),
-    ("texas_southern", ["Christmas Eve (Observed)", "Emancipation Day in Texas (Observed)",
-                        "Lyndon B. Jonhson Day (Observed)", "San Jacinto Day (Observed)",
-                        "Confederate Heroes Day (Observed)", "Texas Independence Day (Observed)",
-                        "Day After Christmas (Observed)"],
-     "Kept on another day; section 662.003 knows no such rule."),
-    ("district_of_columbia", ["Inauguration Day (Observed)"],
-     "For Saturday, 20 January 2029, which the file leaves to the court."),
-]
 
 
 def days_of(text):

@@ -1,5 +1,9 @@
 pub mod Easter
-pub mod Statute
+pub mod Days
+pub mod Kept
 pub mod Names
+pub mod Statutes
+pub mod Listed
+pub mod Lists
 pub mod Calendar
 pub mod Words

@@ -11,4 +11,6 @@ pub use federal::{
     labor_day_is_a_monday, last_weekdays_are_last, law_in_place, no_two_share_a_day,
     observed_are_in_place, observed_for, observed_on, weekdays_are_counted,
 };
-pub use states::{State, StateHoliday, WeekendRule, easter_is_a_sunday, state_holiday_on};
+pub use states::{
+    State, StateDay, StateHoliday, WeekendRule, easter_is_a_sunday, state_holiday_on,
+};

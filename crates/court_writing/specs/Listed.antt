@@ -7,7 +7,7 @@ use Rattle.court_holidays.specs.declared.federal.statute.FederalHoliday.{Federal
 use Rattle.court_holidays.specs.States.Words.{state_holiday_on}
 use Rattle.court_holidays.specs.declared.states.state.State.{State}
 use Rattle.court_holidays.specs.declared.states.state.State.TheVariants.{DistrictOfColumbia}
-use Rattle.court_holidays.specs.declared.states.statute.StateHoliday.{StateHoliday}
+use Rattle.court_holidays.specs.declared.states.listed.StateDay.{StateDay}
 
 -- the first of two, or the second
 abbrev pub or_else : {A : Type 0} → Option A → Option A → Option A
@@ -24,6 +24,6 @@ abbrev pub federal_on : State → ℤ → Option FederalHoliday
 federal_on state d = if is_weekend d then None else or_else (holiday_on d (is_in_capital state)) (observed_on d)
 
 -- the state's holiday listed on a day, if the federal list lacks the day
-abbrev pub state_on : State → ℤ → Option StateHoliday
+abbrev pub state_on : State → ℤ → Option StateDay
 state_on state d =
     if is_weekend d || is_some (federal_on state d) then None else state_holiday_on state d

@@ -6,7 +6,7 @@ use Rattle.court_clock.specs.Words.{day_text, days_through, weekday_of}
 use Rattle.court_days.specs.declared.holiday_list.HolidayList.{HolidayList}
 use Rattle.court_days.specs.declared.holiday_list.HolidayList.TheVariants as list
 use Rattle.court_holidays.specs.Federal.Words.{federal_statute, holiday_on, law_in_place, statute_name}
-use Rattle.court_holidays.specs.States.Words.{is_doubtful, is_set_on, on, state_holiday_name, state_statute}
+use Rattle.court_holidays.specs.States.Words.{holiday_of, is_doubtful, is_set_on, on, state_holiday_name, state_statute}
 use Rattle.court_holidays.specs.declared.states.state.State.{State}
 use Rattle.court_writing.specs.Sources.{list_source}
 use Rattle.court_writing.specs.Listed.{federal_on, is_in_capital, or_else, state_on}
@@ -23,21 +23,21 @@ listed_on state list.State d = option_map OfState (state_on state d)
 -- its name is that of the definition which gives the day
 abbrev pub name_of : Holiday → List ℕ
 name_of (Federal holiday) = statute_name holiday
-name_of (OfState holiday) = state_holiday_name holiday
+name_of (OfState listed) = state_holiday_name (holiday_of listed)
 
 -- the law sets the day itself for it, and no other in whose place the day is
 abbrev pub is_set : State → ℤ → Holiday → Bool
 is_set state d (Federal holiday) = is_some (holiday_on d (is_in_capital state))
-is_set state d (OfState holiday) = is_set_on d holiday
+is_set state d (OfState listed) = is_set_on d (holiday_of listed)
 
 -- the law that makes the day a holiday: a state's statute also has the days that are in the place of others
 abbrev pub law_of : State → ℤ → Holiday → List ℕ
 law_of state d (Federal holiday) = if is_set state d (Federal holiday) then federal_statute holiday else law_in_place d
-law_of state d (OfState holiday) = state_statute state
+law_of state d (OfState listed) = state_statute state
 
-abbrev pub is_doubted : State → Holiday → Bool
-is_doubted state (Federal holiday) = false
-is_doubted state (OfState holiday) = is_doubtful state holiday
+abbrev pub is_doubted : Holiday → Bool
+is_doubted (Federal holiday) = false
+is_doubted (OfState listed) = is_doubtful listed
 
 -- the day in whose place it is: the Saturday after a Friday, or else the Sunday before
 abbrev pub place_text : Bool → ℤ → List ℕ
@@ -63,13 +63,13 @@ mark_text false = []
 abbrev pub list_line : State → ℤ → Holiday → List ℕ
 list_line state d holiday =
     codes "    \"" ++ day_text d ++ codes "\", # " ++ name_of holiday ++ place_text (is_set state d holiday) d
-    ++ doubt_text (is_doubted state holiday) ++ codes "\n"
+    ++ doubt_text (is_doubted holiday) ++ codes "\n"
 
 -- as `2027-07-05 = "Independence Day, observed" # Executive Order 11582`
 abbrev pub name_line : State → ℤ → Holiday → List ℕ
 name_line state d holiday =
     day_text d ++ codes " = \"" ++ name_of holiday ++ observed_text (is_set state d holiday)
-    ++ mark_text (is_doubted state holiday) ++ codes "\" # " ++ law_of state d holiday ++ codes "\n"
+    ++ mark_text (is_doubted holiday) ++ codes "\" # " ++ law_of state d holiday ++ codes "\n"
 
 -- the line of a day, if it's listed: in one of the lists, or in the table of names, which has the days of both
 abbrev pub line_if : (Holiday → List ℕ) → Option Holiday → List ℕ

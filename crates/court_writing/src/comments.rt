@@ -1,6 +1,6 @@
 //! What is written before the lists and after them.
 
-use crate::courts::CourtName;
+use crate::courts::{CourtName, Elsewhere};
 use std::alloc::AllocError;
 use std::fmt::Write;
 
@@ -27,6 +27,7 @@ pub(crate) fn push_head(
 ",
     )?;
     text.push_str(court.zone.comment())?;
+    push_elsewhere(text, court.elsewhere)?;
     let zone = court.zone.text();
     write!(text, "zone = \"{zone}\"\n")?;
     text.push_str(
@@ -39,6 +40,27 @@ closes = \"17:00\"
 ",
     )?;
     write!(text, "from = \"{from}-01-01\"\nto = \"{to}-12-31\"\n\n")
+}
+
+/// Adds what is said of another clock in the district.
+fn push_elsewhere(text: &mut String, elsewhere: Elsewhere) -> Result<(), AllocError> {
+    match elsewhere {
+        Elsewhere::Nowhere => Ok(()),
+        Elsewhere::Sits(place, zone) => {
+            let zone = zone.text();
+            write!(
+                text,
+                "# Where the court sits in {place}, the clock is another:\n# zone = \"{zone}\"\n# Acts are entered on the clock of the court's office, Rule 6(a)(4)(A): use one file for each.\n"
+            )
+        }
+        Elsewhere::Counties(place, zone) => {
+            let zone = zone.text();
+            write!(
+                text,
+                "# The court doesn't sit in {place}, where the clock is {zone}. Acts\n# are entered on the clock of the court's office, Rule 6(a)(4)(A).\n"
+            )
+        }
+    }
 }
 
 /// The judges and rooms, and the head of the table of names.

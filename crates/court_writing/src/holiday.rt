@@ -8,13 +8,13 @@ ghost use Rattle.court_days.specs.declared.holiday_list.HolidayList.TheVariants 
 use crate::listed::{federal_on, is_in_capital, state_on};
 use court_clock::Day;
 use court_days::HolidayList;
-use court_holidays::{FederalHoliday, State, StateHoliday, holiday_on, law_in_place};
+use court_holidays::{FederalHoliday, State, StateDay, holiday_on, law_in_place};
 
 /// A holiday that a list has.
 #[derive(Clone, Copy)]
 pub(crate) enum Holiday {
     Federal(FederalHoliday),
-    OfState(StateHoliday),
+    OfState(StateDay),
 }
 
 impl Holiday {
@@ -24,7 +24,7 @@ impl Holiday {
     {
         match self {
             Holiday::Federal(holiday) => holiday.name(),
-            Holiday::OfState(holiday) => holiday.name(),
+            Holiday::OfState(listed) => listed.holiday().name(),
         }
     }
 
@@ -34,7 +34,7 @@ impl Holiday {
     {
         match self {
             Holiday::Federal(_) => holiday_on(day, is_in_capital(state)).is_some(),
-            Holiday::OfState(holiday) => holiday.is_set_on(day),
+            Holiday::OfState(listed) => listed.holiday().is_set_on(day),
         }
     }
 
@@ -51,12 +51,12 @@ impl Holiday {
     }
 
     /// Whether it is in doubt that the state declares the day a holiday.
-    pub(crate) fn is_doubted(self, state: State) -> bool
-        ensures { result ≡ is_doubted state self }
+    pub(crate) fn is_doubted(self) -> bool
+        ensures { result ≡ is_doubted self }
     {
         match self {
             Holiday::Federal(_) => false,
-            Holiday::OfState(holiday) => state.doubts(holiday),
+            Holiday::OfState(listed) => listed.is_doubtful(),
         }
     }
 }

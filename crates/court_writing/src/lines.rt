@@ -66,7 +66,7 @@ fn push_list_line(
     requires { IsNear 0 day }
     ensures { OnOk result (string_bytes text.new ≡ string_bytes text.old ++ list_line state day holiday) }
 {
-    let (name, doubt) = (holiday.name(), doubt_text(holiday.is_doubted(state)));
+    let (name, doubt) = (holiday.name(), doubt_text(holiday.is_doubted()));
     write!(text, "    \"{day}\", # {name}")?;
     push_place(text, holiday.is_set(state, day), day)?;
     write!(text, "{doubt}\n")
@@ -102,10 +102,7 @@ fn push_name_line(
     ensures { OnOk result (string_bytes text.new ≡ string_bytes text.old ++ name_line state day holiday) }
 {
     let (name, observed) = (holiday.name(), observed_text(holiday.is_set(state, day)));
-    let (mark, law) = (
-        mark_text(holiday.is_doubted(state)),
-        holiday.law(state, day),
-    );
+    let (mark, law) = (mark_text(holiday.is_doubted()), holiday.law(state, day));
     write!(text, "{day} = \"{name}{observed}{mark}\" # {law}\n")
 }
 

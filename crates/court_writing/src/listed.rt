@@ -5,9 +5,7 @@ ghost use Rattle.court_clock.specs.Words.{is_weekend};
 ghost use Rattle.court_writing.specs.Listed.{federal_on, is_in_capital, or_else, state_on};
 
 use court_clock::Day;
-use court_holidays::{
-    FederalHoliday, State, StateHoliday, holiday_on, observed_on, state_holiday_on,
-};
+use court_holidays::{FederalHoliday, State, StateDay, holiday_on, observed_on, state_holiday_on};
 
 /// The federal holiday listed on the day: the one that the law sets for it, or else the one that is observed on it.
 pub(crate) fn federal_on(state: State, day: Day) -> Option<FederalHoliday>
@@ -23,7 +21,7 @@ pub(crate) fn federal_on(state: State, day: Day) -> Option<FederalHoliday>
 }
 
 /// The state's holiday listed on the day. None where the federal list has the day.
-pub(crate) fn state_on(state: State, day: Day) -> Option<StateHoliday>
+pub(crate) fn state_on(state: State, day: Day) -> Option<StateDay>
     ensures { result ≡ state_on state day }
 {
     if is_weekend(day) || federal_on(state, day).is_some() {

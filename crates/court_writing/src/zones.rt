@@ -7,11 +7,7 @@ ghost use Rattle.court_writing.specs.Courts.{zone_text};
 #[derive(Clone, Copy, Debug, PartialEq, Eq)]
 pub enum ZoneName {
     Eastern,
-    /// Eastern, and in a part of the district Central.
-    EasternAndCentral,
     Central,
-    /// Central, and in a part of the district Mountain.
-    CentralAndMountain,
     Mountain,
     /// Mountain, without daylight saving time.
     Arizona,
@@ -29,8 +25,8 @@ impl ZoneName {
         ensures { result.now ≡ zone_text self }
     {
         match self {
-            ZoneName::Eastern | ZoneName::EasternAndCentral => "EST5EDT,M3.2.0/2,M11.1.0/2",
-            ZoneName::Central | ZoneName::CentralAndMountain => "CST6CDT,M3.2.0/2,M11.1.0/2",
+            ZoneName::Eastern => "EST5EDT,M3.2.0/2,M11.1.0/2",
+            ZoneName::Central => "CST6CDT,M3.2.0/2,M11.1.0/2",
             ZoneName::Mountain => "MST7MDT,M3.2.0/2,M11.1.0/2",
             ZoneName::Arizona => "MST7",
             ZoneName::Pacific => "PST8PDT,M3.2.0/2,M11.1.0/2",
@@ -49,21 +45,9 @@ impl ZoneName {
 # of November, changed at two o'clock.
 "
             }
-            ZoneName::EasternAndCentral => {
-                "# Eastern Time since 2007: five hours behind Greenwich, four from the second Sunday of March to the first Sunday
-# of November, changed at two o'clock. Where the court sits in Pensacola or Panama City, the clock is that of Central
-# Time: CST6CDT,M3.2.0/2,M11.1.0/2.
-"
-            }
             ZoneName::Central => {
                 "# Central Time since 2007: six hours behind Greenwich, five from the second Sunday of March to the first Sunday of
 # November, changed at two o'clock.
-"
-            }
-            ZoneName::CentralAndMountain => {
-                "# Central Time since 2007: six hours behind Greenwich, five from the second Sunday of March to the first Sunday of
-# November, changed at two o'clock. Where the court sits in El Paso, the clock is that of Mountain Time:
-# MST7MDT,M3.2.0/2,M11.1.0/2.
 "
             }
             ZoneName::Mountain => {

@@ -1,32 +1,66 @@
-//! The states whose holidays are known.
+//! The states whose holidays are known, and the statute of each.
 
 ghost use Rattle.std.specs.Prelude.{◌≡◌};
-ghost use Rattle.court_holidays.specs.States.Names.{is_doubtful, state_statute};
-ghost use Rattle.court_holidays.specs.States.Statute.{holidays_of};
-
-use crate::states::statute::StateHoliday;
+ghost use Rattle.court_holidays.specs.States.Statutes.{state_statute};
 
 /// A state, or what counts as one under Fed. R. Civ. P. 81(d)(2).
 #[derive(Clone, Copy, Debug, PartialEq, Eq)]
 pub enum State {
+    Alabama,
     Alaska,
     Arizona,
+    Arkansas,
     California,
     Colorado,
+    Connecticut,
+    Delaware,
     DistrictOfColumbia,
     Florida,
     Georgia,
     Guam,
     Hawaii,
+    Idaho,
     Illinois,
+    Indiana,
+    Iowa,
+    Kansas,
+    Kentucky,
+    Louisiana,
+    Maine,
+    Maryland,
     Massachusetts,
+    Michigan,
+    Minnesota,
+    Mississippi,
+    Missouri,
+    Montana,
+    Nebraska,
+    Nevada,
+    NewHampshire,
     NewJersey,
+    NewMexico,
     NewYork,
+    NorthCarolina,
+    NorthDakota,
+    NorthernMarianaIslands,
+    Ohio,
+    Oklahoma,
+    Oregon,
     Pennsylvania,
     PuertoRico,
+    RhodeIsland,
+    SouthCarolina,
+    SouthDakota,
+    Tennessee,
     Texas,
+    Utah,
+    Vermont,
+    VirginIslands,
     Virginia,
     Washington,
+    WestVirginia,
+    Wisconsin,
+    Wyoming,
 }
 
 impl State {
@@ -35,121 +69,62 @@ impl State {
         ensures { result.now ≡ state_statute self }
     {
         match self {
+            State::Alabama => "Ala. Code section 1-3-8",
             State::Alaska => "Alaska Stat. section 44.12.010 and those after it",
             State::Arizona => "Ariz. Rev. Stat. section 1-301",
-            State::California => "Cal. Gov't Code sections 6700 and 6701",
+            State::Arkansas => "Ark. Code section 1-5-101",
+            State::California =>
+                "Cal. Gov't Code sections 6700 and 6701, and Cal. Civ. Proc. Code section 135",
             State::Colorado => "Colo. Rev. Stat. section 24-11-101",
+            State::Connecticut => "Conn. Gen. Stat. section 1-4",
+            State::Delaware => "Del. Code tit. 1, section 501",
             State::DistrictOfColumbia => "D.C. Code section 28-2701",
             State::Florida => "Fla. Stat. section 683.01",
             State::Georgia => "O.C.G.A. section 1-4-1",
             State::Guam => "1 Guam Code Ann. section 1000",
             State::Hawaii => "Haw. Rev. Stat. sections 8-1 and 8-2",
+            State::Idaho => "Idaho Code section 73-108",
             State::Illinois => "205 ILCS 630/17",
+            State::Indiana => "Ind. Code section 1-1-9-1",
+            State::Iowa => "Iowa Code sections 1C.1 and 4.1",
+            State::Kansas => "Kan. Stat. section 35-107",
+            State::Kentucky => "Ky. Rev. Stat. section 2.110",
+            State::Louisiana => "La. Rev. Stat. section 1:55",
+            State::Maine => "Me. Rev. Stat. tit. 4, section 1051",
+            State::Maryland => "Md. Code, Gen. Prov. section 1-111",
             State::Massachusetts => "Mass. Gen. Laws ch. 4, section 7, cl. 18",
+            State::Michigan => "Mich. Comp. Laws section 435.101",
+            State::Minnesota => "Minn. Stat. section 645.44, subd. 5",
+            State::Mississippi => "Miss. Code section 3-3-7",
+            State::Missouri => "Mo. Rev. Stat. section 9.010",
+            State::Montana => "Mont. Code section 1-1-216",
+            State::Nebraska => "Neb. Rev. Stat. sections 25-2221 and 62-301",
+            State::Nevada => "Nev. Rev. Stat. section 236.015",
+            State::NewHampshire => "N.H. Rev. Stat. section 288:1",
             State::NewJersey => "N.J. Stat. Ann. section 36:1-1, and Pub. L. 2020, ch. 76",
+            State::NewMexico => "N.M. Stat. section 12-5-2",
             State::NewYork => "N.Y. Gen. Constr. Law section 24",
+            State::NorthCarolina => "N.C. Gen. Stat. section 103-4",
+            State::NorthDakota => "N.D. Cent. Code section 1-03-01",
+            State::NorthernMarianaIslands => "1 N. Mar. I. Code section 311",
+            State::Ohio => "Ohio Rev. Code section 1.14",
+            State::Oklahoma => "Okla. Stat. tit. 25, section 82.1",
+            State::Oregon => "Or. Rev. Stat. sections 187.010 and 187.020",
             State::Pennsylvania => "44 Pa. Stat. section 11",
             State::PuertoRico => "P.R. Act No. 111-2014",
+            State::RhodeIsland => "R.I. Gen. Laws section 25-1-1",
+            State::SouthCarolina => "S.C. Code section 53-5-10",
+            State::SouthDakota => "S.D. Codified Laws section 1-5-1",
+            State::Tennessee => "Tenn. Code section 15-1-101",
             State::Texas => "Tex. Gov't Code section 662.003(b)",
+            State::Utah => "Utah Code section 63G-1-301",
+            State::Vermont => "Vt. Stat. tit. 1, section 371",
+            State::VirginIslands => "1 V.I. Code section 171",
             State::Virginia => "Va. Code section 2.2-3300",
             State::Washington => "Wash. Rev. Code section 1.16.050",
+            State::WestVirginia => "W. Va. Code section 2-2-1",
+            State::Wisconsin => "Wis. Stat. section 995.20",
+            State::Wyoming => "Wyo. Stat. section 8-4-101",
         }
-    }
-
-    /// Whether it is in doubt that the state declares the day a holiday in the sense of Rule 6(a)(6)(C), though its
-    /// statute names it: the state's own courts sit on Admission Day (Cal. Civ. Proc. Code section 135), the Act that has
-    /// Good Friday is one of banks (205 ILCS 630/17), and New Jersey's offices are open on Lincoln's Birthday.
-    pub fn doubts(self, holiday: StateHoliday) -> bool
-        ensures { result ≡ is_doubtful self holiday }
-    {
-        matches!(
-            (self, holiday),
-            (State::California, StateHoliday::AdmissionDay)
-                | (State::Illinois, StateHoliday::GoodFriday)
-                | (State::NewJersey, StateHoliday::LincolnsBirthday)
-        )
-    }
-}
-
-/// The holidays of the state that the federal list lacks.
-#[tactic(auto, unfolding(crate::specs::States::Statute::holidays_of))]
-pub(crate) fn holidays_of(state: State) -> &'static [StateHoliday]
-    ensures { result.now ≡ holidays_of state }
-{
-    match state {
-        State::Alaska => &[StateHoliday::SewardsDay, StateHoliday::AlaskaDay],
-        State::Arizona => &[],
-        State::California => &[
-            StateHoliday::LincolnsBirthday,
-            StateHoliday::CesarChavezDay,
-            StateHoliday::AdmissionDay,
-            StateHoliday::NativeAmericanDay,
-        ],
-        State::Colorado => &[StateHoliday::FrancesXavierCabriniDay],
-        State::DistrictOfColumbia => &[StateHoliday::DistrictEmancipationDay],
-        State::Florida => &[
-            StateHoliday::KingsBirthday,
-            StateHoliday::LeesBirthday,
-            StateHoliday::LincolnsBirthday,
-            StateHoliday::SusanBAnthonysBirthday,
-            StateHoliday::GoodFriday,
-            StateHoliday::PascuaFloridaDay,
-            StateHoliday::ConfederateMemorialDay,
-            StateHoliday::DavissBirthday,
-            StateHoliday::FlagDay,
-            StateHoliday::GeneralElectionDay,
-        ],
-        State::Georgia => &[],
-        State::Guam => &[
-            StateHoliday::GuamHistoryDay,
-            StateHoliday::LiberationDay,
-            StateHoliday::AllSoulsDay,
-            StateHoliday::LadyOfCamarinDay,
-        ],
-        State::Hawaii => &[
-            StateHoliday::GoodFriday,
-            StateHoliday::PrinceKuhioDay,
-            StateHoliday::KamehamehaDay,
-            StateHoliday::StatehoodDay,
-            StateHoliday::GeneralElectionDay,
-        ],
-        State::Illinois => &[
-            StateHoliday::LincolnsBirthday,
-            StateHoliday::PulaskisBirthday,
-            StateHoliday::GoodFriday,
-            StateHoliday::GeneralElectionDay,
-        ],
-        State::Massachusetts => &[StateHoliday::PatriotsDay],
-        State::NewJersey => &[
-            StateHoliday::LincolnsBirthday,
-            StateHoliday::GoodFriday,
-            StateHoliday::JuneteenthOfNewJersey,
-            StateHoliday::ElectionDay,
-        ],
-        State::NewYork => &[StateHoliday::LincolnsBirthday, StateHoliday::ElectionDay],
-        State::Pennsylvania => &[StateHoliday::GoodFriday, StateHoliday::ElectionDay],
-        State::PuertoRico => &[
-            StateHoliday::ThreeKingsDay,
-            StateHoliday::AbolitionDay,
-            StateHoliday::GoodFriday,
-            StateHoliday::ConstitutionDay,
-            StateHoliday::DiscoveryDay,
-        ],
-        State::Texas => &[
-            StateHoliday::ConfederateHeroesDay,
-            StateHoliday::TexasIndependenceDay,
-            StateHoliday::SanJacintoDay,
-            StateHoliday::TexasEmancipationDay,
-            StateHoliday::LyndonBainesJohnsonDay,
-            StateHoliday::DayAfterThanksgiving,
-            StateHoliday::DayBeforeChristmas,
-            StateHoliday::DayAfterChristmas,
-        ],
-        State::Virginia => &[
-            StateHoliday::LeeJacksonDay,
-            StateHoliday::ElectionDaySince2020,
-            StateHoliday::DayAfterThanksgiving,
-        ],
-        State::Washington => &[StateHoliday::NativeAmericanHeritageDay],
     }
 }
