@@ -9,7 +9,7 @@ pub fn names_text(alloc: Global) -> Result<String, AllocError> {
     let mut text = String::from_str(alloc, "The courts, by their names:\n")?;
     for court in CourtName::all() {
         let (code, title) = (court.code, court.title);
-        write!(text, "\n  {code:<22}{title}")?;
+        write!(text, "\n  {code:<26}{title}")?;
     }
     Ok(text)
 }
