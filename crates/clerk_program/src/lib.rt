@@ -7,8 +7,6 @@ mod clerk_text;
 mod laws;
 mod office;
 mod program;
-#[cfg(test)]
-mod tests;
 mod text;
 
 pub use answers::Answers;

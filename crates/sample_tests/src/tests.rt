@@ -1,12 +1,15 @@
 //! What no clause says and no whole run shows: instants, changes that leave older values as they were, full lists, reasons that are
-//! written out, clerks whose rows are held, and calls that the program doesn't make.
+//! written out, clerks whose rows are held, readers and writers that fail, and calls that the program doesn't make.
 mod calendars;
 mod clerks;
 mod clock;
 mod days;
 mod deadlines;
 mod docket;
+mod office;
+mod office_clerks;
 mod reasons;
+mod sample_court;
 mod shared_calendars;
 
 use court_clock::Day;

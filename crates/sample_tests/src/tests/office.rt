@@ -1,12 +1,11 @@
-//! What no whole run shows: readers that give their bytes in pieces or without end, and reads and writes that fail.
+//! Runs of an office, where no whole run shows them: readers that give their bytes in pieces or without end, and reads and writes
+//! that fail.
 
-mod clerks;
-
-use crate::run_office;
+use super::sample_court::file;
+use clerk_program::run_office;
 use program_main::Options;
 use program_runs::{OfficeFault, fault_line, status_of};
 use program_streams::Watched;
-use sample_court::file;
 use std::alloc::{AllocError, Global};
 use std::io;
 use std::io::{Read, Write};
@@ -64,8 +63,8 @@ impl Read for Endless {
 
 // A writer that takes a few bytes at a time, and fails once it is full.
 #[derive(Drop)]
-struct Page {
-    text: Vec<u8>,
+pub(super) struct Page {
+    pub text: Vec<u8>,
     most: usize,
     room: usize,
 }
@@ -118,7 +117,7 @@ fn run<H: Threads + Wait + Sync>(
     Ok((result, writer, reader.ended()))
 }
 
-fn make_page(alloc: Global, most: usize, room: usize) -> Page {
+pub(super) fn make_page(alloc: Global, most: usize, room: usize) -> Page {
     let text = Vec::new(alloc);
     Page { text, most, room }
 }

@@ -1,13 +1,11 @@
 //! Two clerks at work, whom a gate holds so that their rows come in one order. On one thread no clerk could go on while
 //! another is held.
 
-use super::{Page, make_page};
-use crate::text::text_of;
-use clerk_workers::Gate;
-use program_main::Options;
-use program_runs::check_input;
+use super::office::{Page, make_page};
+use super::sample_court::file;
+use clerk_workers::{Gate, run_shared};
+use program_runs::{CheckedInput, check_input};
 use program_streams::{Watched, write_text};
-use sample_court::file;
 use std::alloc::Global;
 use std::sync::Wait;
 use std::sync::atomic::{AtomicBool, Ordering};
@@ -109,9 +107,8 @@ fn run<H: Threads + Wait + Sync>(
     script: &Script,
 ) -> Result<(Watched<Page>, bool), Fail> {
     let input = format!(in alloc; "{}%%\n{rows}", file())?;
-    let checked = check_input(rt, alloc, input.as_bytes(), 2, 2)?;
-    let options = Options::new(2, 100_000).ok_or("options")?;
-    let text = text_of(rt, alloc, checked, options, script)?;
+    let CheckedInput { court, rows } = check_input(rt, alloc, input.as_bytes(), 2, 2)?;
+    let text = run_shared(rt, alloc, court, 2, 100_000, rows, script)?;
     let mut writer = Watched::new(make_page(alloc, usize::MAX, usize::MAX));
     write_text(alloc, &mut writer, text)?;
     Ok((writer, !script.was_late.load(Ordering::SeqCst)))

@@ -1,6 +1,5 @@
 //! The file of the court that tests and examples compute with: a court's zone and hours, and just those
 //! holidays that their rows meet. It is for tests alone, since a day that it doesn't list counts as open.
-#![tactic(auto)]
 
 use std::alloc::{AllocError, Global};
 
