@@ -21,8 +21,8 @@ pub returns-in_err-told_refusal-in-Err-clause-promised : goal.returns-in_err-tol
 returns-in_err-told_refusal-in-Err-clause-promised g c = λ kept keeps.
     (lines_of c.args.rows.now, unanswered_docket g.D.Disk c.args.desk.now c.args.desk.now kept (lines_of c.args.rows.now) (g.W.Write.contents (watched c.args.writer.now)) _ _ (c.enter_together.ensures.crash kept keeps))
 
-pub returns-in-Err-Unkept-clause-promised : goal.returns-in-Err-Unkept-clause-promised
-returns-in-Err-Unkept-clause-promised g c = λ kept keeps.
+pub returns-in-Err-Unkept-Write-clause-promised : goal.returns-in-Err-Unkept-Write-clause-promised
+returns-in-Err-Unkept-Write-clause-promised g c = λ kept keeps.
     (lines_of c.args.rows.now, unanswered_docket g.D.Disk c.args.desk.now c.args.desk.now kept (lines_of c.args.rows.now) (g.W.Write.contents (watched c.args.writer.now)) _ _ (c.enter_together.ensures.crash kept keeps))
 
 pub returns-clause-promised : goal.returns-clause-promised
