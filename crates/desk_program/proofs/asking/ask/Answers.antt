@@ -17,11 +17,11 @@ returns-clause-answered g c = λ entries docketed.
     let under = c.args.docketed.standing in
     by_both c.answer.result _ _ _ (c.answer.ensures.answered entries docketed.stands.at) (c.answer.ensures.tally entries docketed.stands.at)
     (λ tally told counted.
-        some_both (g.R.Read.remaining (watched c.args.reader.now))
-        (λ input. Appends (g.W.Write.contents (watched c.args.writer.now)) (g.W.Write.contents (watched c.answer.new.writer)) (told_to (λ kept line. []) (shown under) entries (lines_of input)))
-        (λ input. tally ≡ tally_of (λ kept line. []) (came_shown under) entries (lines_of input)) _
-        (λ input told counted. record { under = under; stands = docketed.standing; told = told; counted = counted })
-        told counted)
+    some_both (g.R.Read.remaining (watched c.args.reader.now))
+    (λ input. Appends (g.W.Write.contents (watched c.args.writer.now)) (g.W.Write.contents (watched c.answer.new.writer)) (told_to (λ kept line. []) (shown under) entries (lines_of input)))
+    (λ input. tally ≡ tally_of (λ kept line. []) (came_shown under) entries (lines_of input)) _
+    (λ input told counted. record { under = under; stands = docketed.standing; told = told; counted = counted })
+    told counted)
 
 pub returns-clause-front : goal.returns-clause-front
 returns-clause-front g c = λ entries docketed.
