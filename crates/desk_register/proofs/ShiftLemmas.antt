@@ -162,7 +162,7 @@ enters_no_day (Command command) question = cc question
 pub question_shifts_nothing : (under : Standing) (kept : List (List ℕ)) (row : Row) → asks row.work ≡ true → shifts_said under kept (line.Row row) ≡ []
 question_shifts_nothing under kept row question = rw (enters_no_day row.work question) refl
 
--- a line that is told just its answer
+-- a line that gets its answer alone
 pub just_answered : (under : Standing) (kept : List (List ℕ)) (bytes : List ℕ) (said : List ℕ) → said ≡ [] → answers under kept bytes ++ said ≡ answers under kept bytes
 just_answered under kept bytes said none = ap (λ (l : List ℕ). answers under kept bytes ++ l) none ∙ append-nil (answers under kept bytes)
 

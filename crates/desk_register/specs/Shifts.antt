@@ -93,12 +93,12 @@ shifts_said under kept (line.Row row) = shifts_by under kept row
 unfoldable pub told : Standing → (kept : List (List ℕ)) → (line : List ℕ) → List ℕ
 told under kept line = answers under kept line ++ shifts_said under kept (within kept (line_read most_clerks (names_of under.court) (reading_at under kept line).text))
 
--- A line whose row enters no holiday and no outage, or which says no row, is told just its answer.
+-- A line whose row enters no holiday and no outage, or which says no row, gets its answer alone.
 abbrev pub OthersAreToldTheirAnswers : Type 0
 OthersAreToldTheirAnswers = (under : Standing) (kept : List (List ℕ)) (bytes : List ℕ)
     → ((row : Row) → within kept (line_read most_clerks (names_of under.court) (reading_at under kept bytes).text) ≡ line.Row row → changes_days row.work ≡ false)
     → told under kept bytes ≡ answers under kept bytes
 
--- A row that is refused changes no day, and so it is told just its answer.
+-- A row that is refused changes no day, and so it gets its answer alone.
 abbrev pub RefusedAreToldTheirAnswers : Type 0
 RefusedAreToldTheirAnswers = (under : Standing) (kept : List (List ℕ)) (bytes : List ℕ) → outcome under kept bytes ≡ Refused → told under kept bytes ≡ answers under kept bytes

@@ -48,13 +48,13 @@ pub fn rows_keep_their_numbers()
     ensures { RowsKeepTheirNumbers }
 {}
 
-/// A line whose row enters no holiday and no outage, or which says no row, is told just its answer.
+/// A line whose row enters no holiday and no outage, or which says no row, gets its answer alone.
 #[tactic(auto, using(crate::proofs::ShiftLemmas::others_told))]
 pub fn others_are_told_their_answers()
     ensures { OthersAreToldTheirAnswers }
 {}
 
-/// A row that is refused is told just its answer.
+/// A row that is refused gets its answer alone.
 #[tactic(auto, using(crate::proofs::ShiftLemmas::refused_told))]
 pub fn refused_are_told_their_answers()
     ensures { RefusedAreToldTheirAnswers }

@@ -115,7 +115,7 @@ holidays_of PuertoRico =
     ∷ Sure DiscoveryDay ∷ []
 -- R.I. Gen. Laws section 25-1-1
 holidays_of RhodeIsland = Sure VictoryDay ∷ Sure GeneralElectionDay ∷ []
--- S.C. Code section 53-5-10: in doubt are two days of which its words weren't sure
+-- S.C. Code section 53-5-10: in doubt are two days that it may not name
 holidays_of SouthCarolina =
     Sure ConfederateMemorialDayOfSouthCarolina ∷ Doubtful DayAfterThanksgiving ∷ Doubtful DayAfterChristmas ∷ []
 -- S.D. Codified Laws section 1-5-1: Native Americans' Day is Columbus Day, and each other holiday is in the federal list

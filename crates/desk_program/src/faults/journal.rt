@@ -1,4 +1,4 @@
-//! The journal's faults, as they are told of a folder.
+//! What is said of the faults of a folder's journal.
 ghost use Rattle.std.specs.Prelude.{◌≡◌};
 ghost use Rattle.desk_program.specs.Faults.{journal_status};
 

@@ -1,4 +1,4 @@
-//! Why a session of lines ended early, as it is told of a folder.
+//! What is said of a session of lines that ended early.
 ghost use Rattle.std.specs.Prelude.{◌≡◌};
 ghost use Rattle.desk_program.specs.Faults.{session_status};
 
