@@ -7,6 +7,7 @@ use Rattle.std.proofs.lemmas.List.Elements.{All-append, All-cons, All-head, All-
 use Rattle.desk_journal.specs.Frames.{AreShut, Frame, IsFrame, IsShut, StandsFor, checksum, first_checksum, last_checksum, packed, frames, entries_of}
 use Rattle.desk_journal.specs.Stamps.{entry_in}
 use Rattle.desk_journal.specs.Disks.{IsLonger, IsAround}
+use Rattle.desk_journal.specs.Left.{BeginsWith}
 use Rattle.desk_journal.proofs.FrameLemmas.{IsFrame-relatched, frames-append, frames-relatched, relatched}
 
 -- two bytes are a shut latch or aren't
@@ -19,6 +20,22 @@ decided_latch latch second =
 
 pub stands : (file : List ℕ) (fs : List Frame) (end : List ℕ) → All IsFrame fs → file ≡ frames first_checksum fs ++ end → IsShut end → StandsFor file (entries_of fs)
 stands file fs end whole parts shut = inl (record { fs = fs; end = end; is = record { whole = whole; parts = parts; shut = shut }; same = refl })
+
+-- a file that begins with frames begins with the first of them
+pub begins_first : (file : List ℕ) (fs gs : List Frame) → BeginsWith file (fs ++ gs) → BeginsWith file fs
+begins_first file fs gs begins =
+    (frames (last_checksum first_checksum fs) gs ++ begins.0, begins.1 ∙ ap (λ (l : List ℕ). l ++ begins.0) (frames-append first_checksum fs gs) ∙ append_assoc (frames first_checksum fs) (frames (last_checksum first_checksum fs) gs) begins.0)
+
+-- what is left after the frames
+pub begins_longer : (fs : List Frame) (file : List ℕ) → IsLonger (frames first_checksum fs ++ 45 ∷ 45 ∷ []) file → BeginsWith file fs
+begins_longer fs file longer = (45 ∷ 45 ∷ longer.0, longer.1 ∙ append_assoc (frames first_checksum fs) (45 ∷ 45 ∷ []) longer.0)
+
+pub begins_around : (fs : List Frame) (behind file : List ℕ) → IsAround (frames first_checksum fs) behind file → BeginsWith file fs
+begins_around fs behind file around = (around.0 ∷ around.1 ∷ behind, around.2)
+
+pub left_begins : (fs : List Frame) (behind file : List ℕ) → IsLonger (frames first_checksum fs ++ 45 ∷ 45 ∷ []) file ⊎ IsAround (frames first_checksum fs) behind file → BeginsWith file fs
+left_begins fs behind file (inl longer) = begins_longer fs file longer
+left_begins fs behind file (inr around) = begins_around fs behind file around
 
 module _ (fs : List Frame) (whole : All IsFrame fs) where
   -- bytes after the shut latch

@@ -7,7 +7,7 @@ use Rattle.std.proofs.lemmas.Bool.Decides.{not_from_Decides}
 use Rattle.std.proofs.lemmas.Slice.Eq.{bytes_eq-Decides}
 use Rattle.std.proofs.lemmas.List.Elements.{All-cons, All-head, All-tail}
 use Rattle.sha2.specs.Sha256.{sha256}
-use Rattle.desk_journal.specs.Damage.{DifferInOne, BeginsWith, Collide, NoEntryIsAnother, CutFilesKeepTheFirst}
+use Rattle.desk_journal.specs.Damage.{DifferInOne, BeginsWithEntries, Collide, NoEntryIsAnother, CutFilesKeepTheFirst}
 use Rattle.desk_journal.specs.Frames.{Frame, IsFrame, IsJournal, IsShut, number_of, checksum, first_checksum, last_checksum, packed, frames, entries_of}
 use Rattle.desk_journal.specs.Stamps.{entry_in}
 use Rattle.desk_journal.proofs.FrameLemmas.{IsFrame-relatched, apart, frames-relatched, length-checksum, relatched}
@@ -219,7 +219,7 @@ module _ (Rel : List Frame → List Frame → Type 0) (shown : IsShown Rel) (end
 
 -- the entries of one begin with those of the other
 abbrev Found : List Frame → List Frame → Type 0
-Found fs gs = (BeginsWith (entries_of fs) (entries_of gs) ⊎ BeginsWith (entries_of gs) (entries_of fs)) ⊎ Collide
+Found fs gs = (BeginsWithEntries (entries_of fs) (entries_of gs) ⊎ BeginsWithEntries (entries_of gs) (entries_of fs)) ⊎ Collide
 
 found_shown : IsShown Found
 found_shown = record {
@@ -242,7 +242,7 @@ no_entry_is_another file other entries others (inl a) (inl b) d =
     named (found Found found_shown a.end b.end a.is.shut b.is.shut (λ fs. ⊤) (λ f fs ok. tt) (λ previous fs gs front byte changed tail ok are_g none e h. none_left fs gs none)
     first_checksum a.fs b.fs d.front d.byte d.changed d.tail tt a.is.whole b.is.whole (sym a.is.parts ∙ d.file_is) (sym b.is.parts ∙ d.other_is))
   where
-    named : Found a.fs b.fs → (BeginsWith entries others ⊎ BeginsWith others entries) ⊎ Collide
+    named : Found a.fs b.fs → (BeginsWithEntries entries others ⊎ BeginsWithEntries others entries) ⊎ Collide
     named (inl (inl both)) = inl (inl (both.0, a.same ∙ both.1 ∙ ap (λ (l : List (List ℕ)). l ++ both.0) (sym b.same)))
     named (inl (inr both)) = inl (inr (both.0, b.same ∙ both.1 ∙ ap (λ (l : List (List ℕ)). l ++ both.0) (sym a.same)))
     named (inr collide) = inr collide
@@ -250,7 +250,7 @@ no_entry_is_another file other entries others (inr a) b d = inl (inr (others, ap
 no_entry_is_another file other entries others (inl a) (inr b) d = inl (inl (entries, ap (λ (l : List (List ℕ)). l ++ entries) (sym b.1)))
 
 -- of journals that are cut
-cut_journals : (file tail : List ℕ) (entries others : List (List ℕ)) → IsJournal (file ++ tail) entries → IsJournal file others → BeginsWith entries others
+cut_journals : (file tail : List ℕ) (entries others : List (List ℕ)) → IsJournal (file ++ tail) entries → IsJournal file others → BeginsWithEntries entries others
 cut_journals file tail entries others a b =
     let on = further first_checksum b.fs a.fs a.end (b.end ++ tail) b.is.whole a.is.whole (ends_shut (last_checksum first_checksum a.fs) a.end a.is.shut)
     (sym (append_assoc (frames first_checksum b.fs) b.end tail) ∙ ap (λ (l : List ℕ). l ++ tail) (sym b.is.parts) ∙ a.is.parts) in

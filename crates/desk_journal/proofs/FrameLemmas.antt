@@ -4,7 +4,7 @@ use Rattle.std.proofs.lemmas.List.{take_at, drop_at, append-nil}
 use Rattle.std.proofs.lemmas.Nat.{from_be_bytes-to_be_bytes_4}
 use Rattle.std.specs.Int.{w32, to_be_bytes}
 use Rattle.sha2.proofs.Facts256.{length-sha256}
-use Rattle.desk_journal.specs.Frames.{AreShut, Frame, IsFrame, IsSized, number_of, frame_of, checksum, packed, frames, last_checksum}
+use Rattle.desk_journal.specs.Frames.{AreShut, Frame, IsFrame, IsSized, number_of, frame_of, checksum, packed, frames, last_checksum, size_of_last}
 use Rattle.desk_journal.specs.Reading.{latched}
 use Rattle.desk_journal.specs.Stamps.{HasStamp}
 
@@ -21,6 +21,10 @@ frames-append previous (f ∷ fs) gs =
 pub last_checksum-append : (previous : List ℕ) (fs gs : List Frame) → last_checksum previous (fs ++ gs) ≡ last_checksum (last_checksum previous fs) gs
 last_checksum-append previous [] gs = refl
 last_checksum-append previous (f ∷ fs) gs = last_checksum-append (checksum previous f) fs gs
+
+pub size_of_last-append : (earlier : ℕ) (fs gs : List Frame) → size_of_last earlier (fs ++ gs) ≡ size_of_last (size_of_last earlier fs) gs
+size_of_last-append earlier [] gs = refl
+size_of_last-append earlier (f ∷ fs) gs = size_of_last-append (length f.content) fs gs
 
 pub frames-push : (previous : List ℕ) (fs : List Frame) (f : Frame) → frames previous (fs ++ f ∷ []) ≡ frames previous fs ++ latched (last_checksum previous fs) f
 frames-push previous fs f =

@@ -7,6 +7,7 @@ pub mod FaultLemmas
 pub mod FrameLemmas
 pub mod HiddenLemmas
 pub mod KeptLemmas
+pub mod LeftLemmas
 pub mod NextLemmas
 pub mod OneList
 pub mod RecoverLemmas

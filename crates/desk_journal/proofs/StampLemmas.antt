@@ -1,6 +1,6 @@
 -- What a content is made of, and the times of stamps.
 use Rattle.std.proofs.Common.{◌≡◌, ℕ, ◌+◌, ◌<◌, ◌≤◌, ◌^◌, List, [], ◌∷◌, ◌++◌, length, take, drop, Vec, refl, sym, ◌∙◌, ap, subst, arith, append_assoc, length-append}
-use Rattle.std.specs.Prelude.{All}
+use Rattle.std.specs.Prelude.{All, max}
 use Rattle.std.specs.declared.alloc.Global.{Global}
 use Rattle.std.proofs.lemmas.List.{take_at, drop_at, map-append, append-nil}
 use Rattle.std.proofs.lemmas.List.Elements.{All-append, All-cons, All-nil}
@@ -78,6 +78,27 @@ last_time-append fs durable stamp batch is before =
     subst (λ (n : ℕ). n ≤ stamp.time)
     (sym (ap (time_after 0) (stamps-append fs (frames_of durable stamp batch)) ∙ time_after-append 0 (stamps_of fs) (stamps_of (frames_of durable stamp batch))))
     (after_batch (last_time fs) durable stamp batch is before)
+
+-- the later of two times stays it
+time_after-later : (earlier later : ℕ) (stamps : List StampView) → earlier ≤ later → time_after earlier stamps ≤ time_after later stamps
+time_after-later earlier later [] before = before
+time_after-later earlier later (s ∷ stamps) before = omega arith
+
+last_time-more : (fs gs : List Frame) → last_time (fs ++ gs) ≡ time_after (last_time fs) (stamps_of gs)
+last_time-more fs gs = ap (time_after 0) (stamps-append fs gs) ∙ time_after-append 0 (stamps_of fs) (stamps_of gs)
+
+-- a time that isn't before that of frames, once others have come after them
+pub time_on : (fs more : List Frame) (earlier next : ℕ) → last_time fs ≤ earlier → next ≡ time_after earlier (stamps_of more) → last_time (fs ++ more) ≤ next
+time_on fs more earlier next before next_is =
+    omega (arith, last_time-more fs more, time_after-later (last_time fs) earlier (stamps_of more) before, next_is)
+
+-- the latest of a time that isn't before `earlier` and of what comes after that
+pub latest : (fs more : List Frame) (earlier time : ℕ) → last_time fs ≤ earlier → earlier ≤ time → max time (last_time (fs ++ more)) ≡ max time (time_after earlier (stamps_of more))
+latest fs more earlier time before later = ap (max time) (last_time-more fs more) ∙ sym (by more)
+  where
+    by : (gs : List Frame) → max time (time_after earlier (stamps_of gs)) ≡ max time (time_after (last_time fs) (stamps_of gs))
+    by [] = omega arith
+    by (g ∷ gs) = refl
 
 pub times_never_go_back : TimesNeverGoBack
 times_never_go_back fs durable stamp batch is before ordered =

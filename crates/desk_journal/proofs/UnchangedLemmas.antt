@@ -1,15 +1,14 @@
 -- A file whose last two bytes were read.
-use Rattle.std.proofs.Common.{◌≡◌, ◌+◌, ℕ, List, [], ◌∷◌, ◌++◌, length, take, drop, refl, sym, ◌∙◌, ap, subst, arith, take-append-drop, length-drop}
-use Rattle.std.proofs.lemmas.List.{drop_at, ext_get_or, get_or-drop, length-take-le}
+use Rattle.std.proofs.Common.{◌≡◌, ◌+◌, ℕ, List, [], ◌∷◌, ◌++◌, length, take, drop, refl, sym, ◌∙◌, ap, subst, arith, take-append-drop}
+use Rattle.std.proofs.lemmas.List.{drop_at, length-take-le}
 use Rattle.sqlite_disk.specs.Disk.{Holds}
 use Rattle.desk_journal.specs.Frames.{IsShut}
 use Rattle.desk_journal.specs.Kept.{IsUnchanged}
-use Rattle.desk_journal.proofs.RecoverLemmas.{shut_rest}
+use Rattle.desk_journal.proofs.RecoverLemmas.{held_from, shut_rest}
 
 module _ (file : List ℕ) (end : ℕ) (bytes : List ℕ) (long : length file ≡ end + 2) (two : length bytes ≡ 2) (read : Holds file end bytes) where
   last_two : drop end file ≡ bytes
-  last_two = ext_get_or 0 (drop end file) bytes (omega (arith, long, two, length-drop end file))
-      (λ i inside. get_or-drop end file i 0 ∙ read.each i (omega (arith, long, two, length-drop end file)))
+  last_two = sym (held_from file bytes end (omega (arith, long, two)) (λ some. read))
 
   pub shut_is_unchanged : IsShut bytes → IsUnchanged file end
   shut_is_unchanged shut = (take end file, length-take-le end file (omega (arith, long)), sym (take-append-drop end file) ∙ ap (λ (l : List ℕ). take end file ++ l) (last_two ∙ both))

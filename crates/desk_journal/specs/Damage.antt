@@ -18,8 +18,8 @@ pub record DifferInOne (file other : List ℕ) : Type 0 where
   pub other_is : other ≡ front ++ changed ∷ tail
 
 -- a list begins with another
-abbrev pub BeginsWith : List (List ℕ) → List (List ℕ) → Type 0
-BeginsWith list first = (more : List (List ℕ)) × (list ≡ first ++ more)
+abbrev pub BeginsWithEntries : List (List ℕ) → List (List ℕ) → Type 0
+BeginsWithEntries list first = (more : List (List ℕ)) × (list ≡ first ++ more)
 
 -- two texts have the same SHA-256
 pub record Collide : Type 0 where
@@ -56,8 +56,8 @@ NoByteChangesAStamp = (file other : List ℕ) (entries others : List (List ℕ))
 -- unless two texts collide. So no entry is ever read as another.
 abbrev pub NoEntryIsAnother : Type 0
 NoEntryIsAnother = (file other : List ℕ) (entries others : List (List ℕ)) → StandsFor file entries → StandsFor other others → DifferInOne file other
-    → (BeginsWith entries others ⊎ BeginsWith others entries) ⊎ Collide
+    → (BeginsWithEntries entries others ⊎ BeginsWithEntries others entries) ⊎ Collide
 
 -- A file that was cut, and stands for entries, stands for the first of those that it had.
 abbrev pub CutFilesKeepTheFirst : Type 0
-CutFilesKeepTheFirst = (file tail : List ℕ) (entries others : List (List ℕ)) → StandsFor (file ++ tail) entries → StandsFor file others → BeginsWith entries others
+CutFilesKeepTheFirst = (file tail : List ℕ) (entries others : List (List ℕ)) → StandsFor (file ++ tail) entries → StandsFor file others → BeginsWithEntries entries others

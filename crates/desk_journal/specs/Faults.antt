@@ -110,6 +110,11 @@ abbrev pub HasOpenFault : ℕ → ℕ → List ℕ → JournalFault → Type 0
 HasOpenFault before after file NoEntries = StandsFor file []
 HasOpenFault before after file fault = HasDiskFault before after file fault
 
+-- A journal that was left with entries isn't resumed: that, but its file is of no earlier format.
+abbrev pub HasResumeFault : ℕ → ℕ → List ℕ → JournalFault → Type 0
+HasResumeFault before after file Older = ⊥
+HasResumeFault before after file fault = HasDiskFault before after file fault
+
 -- A journal isn't begun: the file isn't read, or it stands for entries.
 abbrev pub HasBeginFault : ℕ → ℕ → List ℕ → JournalFault → Type 0
 HasBeginFault before after file Taken = HasEntries file

@@ -70,6 +70,11 @@ abbrev pub last_checksum : List ℕ → List Frame → List ℕ
 last_checksum previous [] = previous
 last_checksum previous (f ∷ fs) = last_checksum (checksum previous f) fs
 
+-- how many bytes the content of the last of them has, and `earlier` where there is none
+abbrev pub size_of_last : ℕ → List Frame → ℕ
+size_of_last earlier [] = earlier
+size_of_last earlier (f ∷ fs) = size_of_last (length f.content) fs
+
 -- the entries of frames
 abbrev pub entries_of : List Frame → List (List ℕ)
 entries_of fs = map (λ f. entry_in f.content) fs

@@ -1,7 +1,7 @@
 -- What a journal keeps on its disk.
 use Rattle.std.specs.Prelude.{◌≡◌, ◌≤◌, ℕ, List, [], ◌∷◌, ◌++◌, length, All}
 use Rattle.sqlite_disk.specs.declared.Disk as disk
-use Rattle.desk_journal.specs.Frames.{Frame, IsFrame, first_checksum, last_checksum, frames, entries_of, last_time, stamps_of}
+use Rattle.desk_journal.specs.Frames.{Frame, IsFrame, first_checksum, last_checksum, frames, entries_of, last_time, size_of_last, stamps_of}
 use Rattle.desk_journal.specs.Stamps.{StampView}
 use Rattle.desk_journal.specs.Disks.{IsDurable}
 use Rattle.desk_journal.specs.declared.journal.Journal.{Journal}
@@ -30,10 +30,12 @@ IsUnchanged file end = (front : List ℕ) × (length front ≡ end) × (file ≡
 -- isn't before theirs.
 pub record KeepsFrames {D : Type 0} (g : disk.Ghosts D) (fs : List Frame) (journal : Journal D) : Type 0 where
   pub whole : All IsFrame fs
+  pub few : length fs ≤ 1000000
   pub file : IsDurable g (frames first_checksum fs ++ 45 ∷ 45 ∷ []) journal.disk
   pub end : length (frames first_checksum fs) ≡ journal.end
   pub count : journal.count ≡ length fs
   pub last : journal.last ≡ last_checksum first_checksum fs
+  pub last_size : journal.last_size ≡ size_of_last 0 fs
   pub time : last_time fs ≤ journal.stamp.time
 
 -- the entries are kept: a read gives their frames and a shut latch, and so does each read after a crash

@@ -4,6 +4,7 @@ pub mod Disks
 pub mod Faults
 pub mod Frames
 pub mod Kept
+pub mod Left
 pub mod Reading
 pub mod Recovered
 pub mod Stamps

@@ -1,7 +1,7 @@
 -- What is read from a file's bytes.
-use Rattle.std.specs.Prelude.{◌≡◌, ◌≢◌, ◌<◌, ◌≤◌, ◌+◌, ◌⊎◌, ℕ, List, [], ◌∷◌, length, ◌++◌, All, Vec}
+use Rattle.std.specs.Prelude.{◌≡◌, ◌≢◌, ◌<◌, ◌+◌, ◌⊎◌, ℕ, List, [], ◌∷◌, length, ◌++◌, All, Vec}
 use Rattle.std.specs.declared.alloc.Global.{Global}
-use Rattle.desk_journal.specs.Frames.{AreShut, Frame, IsFrame, IsShut, IsSized, StandsFor, number_of, checksum, first_checksum, first_format_checksum, second_format_checksum, last_checksum, packed, frames, entries_of, stamps_of}
+use Rattle.desk_journal.specs.Frames.{AreShut, Frame, IsFrame, IsShut, IsSized, StandsFor, number_of, checksum, first_checksum, first_format_checksum, second_format_checksum, last_checksum, size_of_last, packed, frames, entries_of, stamps_of}
 use Rattle.desk_journal.specs.Stamps.{StampView}
 use Rattle.desk_journal.specs.Batches.{batch_of}
 
@@ -44,26 +44,28 @@ IsOfSecond file = (f : Frame) × (rest : List ℕ) × IsSized f × (file ≡ 43 
 abbrev pub IsOlder : List ℕ → Type 0
 IsOlder file = IsOfFirst file ⊎ IsOfSecond file
 
--- the file is frames of these entries, of which the last has this checksum, and then `rest`
-pub record IsReadTo (file : List ℕ) (entries : List (Vec ℕ Global)) (last rest : List ℕ) : Type 0 where
+-- after an entry with the checksum `previous`, the bytes are frames of these entries, of which the last has this checksum, and then `rest`
+pub record IsReadFrom (previous bytes : List ℕ) (entries : List (Vec ℕ Global)) (last rest : List ℕ) : Type 0 where
   pub fs : List Frame
   pub whole : All IsFrame fs
-  pub parts : file ≡ frames first_checksum fs ++ rest
-  pub last_is : last ≡ last_checksum first_checksum fs
+  pub parts : bytes ≡ frames previous fs ++ rest
+  pub last_is : last ≡ last_checksum previous fs
   pub same : batch_of entries ≡ entries_of fs
 
--- the file is this number of frames, of which the last has this checksum, and then `rest`
-pub record IsCountedTo (file : List ℕ) (count : ℕ) (last rest : List ℕ) : Type 0 where
+-- after such an entry, the bytes are this number of frames, of which the last has this checksum, and then `rest`
+pub record IsCountedFrom (previous bytes : List ℕ) (count : ℕ) (last rest : List ℕ) : Type 0 where
   pub fs : List Frame
   pub whole : All IsFrame fs
-  pub parts : file ≡ frames first_checksum fs ++ rest
-  pub last_is : last ≡ last_checksum first_checksum fs
+  pub parts : bytes ≡ frames previous fs ++ rest
+  pub last_is : last ≡ last_checksum previous fs
   pub count_is : count ≡ length fs
 
--- the first of these two, and these are the stamps of the frames
-pub record IsStampedTo (file : List ℕ) (entries : List (Vec ℕ Global)) (stamps : List StampView) (last rest : List ℕ) : Type 0 where
-  pub read : IsReadTo file entries last rest
+-- the first of these two, these are the stamps of the frames, and the last content has this size, where that of the entry before has the
+-- size `earlier`
+pub record IsStampedFrom (previous : List ℕ) (earlier : ℕ) (bytes : List ℕ) (entries : List (Vec ℕ Global)) (stamps : List StampView) (last : List ℕ) (size : ℕ) (rest : List ℕ) : Type 0 where
+  pub read : IsReadFrom previous bytes entries last rest
   pub stamped : stamps ≡ stamps_of read.fs
+  pub sized : size ≡ size_of_last earlier read.fs
 
 -- this comes after a latch that isn't shut
 pub record IsBehind (bytes behind : List ℕ) : Type 0 where
@@ -114,15 +116,6 @@ pub record IsDamaged (file : List ℕ) (number : ℕ) : Type 0 where
 -- no entry of the file is damaged
 abbrev pub IsWhole : List ℕ → Type 0
 IsWhole file = (number : ℕ) → IsDamaged file number → ⊥
-
--- The file's entries and their stamps are read up to its shut latch, which is at `end`.
-pub record IsFound (file : List ℕ) (entries : List (Vec ℕ Global)) (stamps : List StampView) (last : List ℕ) (end : ℕ) : Type 0 where
-  pub rest : List ℕ
-  pub read : IsReadTo file entries last rest
-  pub shut : IsShut rest
-  pub end_is : length (frames first_checksum read.fs) ≡ end
-  pub few : length entries ≤ 1000000
-  pub stamped : stamps ≡ stamps_of read.fs
 
 -- These bytes come after the shut latch of a journal that has entries. Of a file that has none nothing is cut off.
 abbrev pub IsTail : List ℕ → List ℕ → Type 0

@@ -17,14 +17,14 @@ pub enum JournalFault {
     /// More than 1,000,000 entries, an entry of more than 16,777,216 bytes, or no room for its end in a number.
     #[error("the journal is full, or an entry is too long")]
     Full,
-    /// The file that is to be opened has no entries. It is as it was.
+    /// The file that is to be opened has no entries, or the journal that is to be resumed had none. The file is as it was.
     #[error("the file has no entries")]
     NoEntries,
     /// The file in which a journal is to be begun has entries. It is as it was.
     #[error("the file has entries already")]
     Taken,
-    /// The file doesn't end where the journal left its end, so another program has written to it. Nothing is written. Open the journal
-    /// anew.
+    /// The file doesn't end where the journal left its end, so another program has written to it; or the file of a journal that is to be
+    /// resumed is shorter than it was left, or the last entry's checksum isn't where it was. Nothing is written. Open the journal anew.
     #[error("another program has written to the journal")]
     Changed,
     /// A call that reads has failed.

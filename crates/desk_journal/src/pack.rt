@@ -1,6 +1,6 @@
 //! A batch, packed into the bytes that are written for it.
-ghost use Rattle.std.specs.Prelude.{◌≡◌, ◌<◌, ◌≤◌, ◌+◌, ◌^◌, ◌++◌, [], ◌∷◌, length, All, IfOk, IfErr};
-ghost use Rattle.desk_journal.specs.Frames.{checksum, packed, frames, frame_of, last_checksum};
+ghost use Rattle.std.specs.Prelude.{◌≡◌, ◌<◌, ◌≤◌, ◌+◌, ◌^◌, ◌++◌, ℕ, [], ◌∷◌, length, All, IfOk, IfErr};
+ghost use Rattle.desk_journal.specs.Frames.{checksum, packed, frames, frame_of, last_checksum, size_of_last};
 ghost use Rattle.desk_journal.specs.Batches.{frames_after};
 ghost use Rattle.desk_journal.specs.Faults.{HasPackFault};
 
@@ -33,6 +33,16 @@ fn push_frame(
     buffer.extend_from_slice(stamp)?;
     buffer.extend_from_slice(entry)?;
     Ok(sum)
+}
+
+/// How many bytes the last entry of a batch has with its stamp, and `earlier` where the batch has none.
+pub fn size_of_last(earlier: usize, stamp: &[u8], batch: &[Vec<u8>]) -> usize
+    ensures { (durable : ℕ) → result ≡ size_of_last earlier (frames_after durable stamp.now batch.now) }
+{
+    match batch.split_last() {
+        None => earlier,
+        Some((entry, _)) => stamp.len() + entry.len(),
+    }
 }
 
 /// Adds the frames of a batch, each after an open latch and with the same stamp, and gives the checksum of the last.

@@ -1,50 +1,29 @@
 //! A file that a crash may have left: its entries are read, and what a crash left after them is cut.
-ghost use Rattle.std.specs.Prelude.{◌≡◌, ◌⊎◌, ◌<◌, ◌≤◌, ◌+◌, ◌^◌, ℕ, [], ◌∷◌, ◌++◌, List, length, IsTrue, IfOk, IfErr, IfSome, OnOk, IsErrOf, MatchResult, ◌↔◌};
-ghost use Rattle.sqlite_disk.specs.Disk.{MoreFaults};
-ghost use Rattle.desk_journal.specs.Frames.{HasStamps, IsShut, StandsFor, StandsStamped};
+ghost use Rattle.std.specs.Prelude.{◌≡◌, ◌⊎◌, ◌<◌, ◌≤◌, ◌+◌, ◌^◌, ℕ, [], ◌∷◌, ◌++◌, All, List, length, IsTrue, IfOk, IfErr, IfSome, OnOk, IsErrOf, ◌↔◌};
+ghost use Rattle.desk_journal.specs.Frames.{Frame, HasStamps, IsFrame, IsShut, StandsFor, StandsStamped, first_checksum, frames};
 ghost use Rattle.desk_journal.specs.Batches.{batch_of};
 ghost use Rattle.desk_journal.specs.Disks.{IsDurable};
-ghost use Rattle.desk_journal.specs.Faults.{HasBeginFault, HasDiskFault, HasFileFault, HasOpenFault, HasReadFault, HasWriteFault};
-ghost use Rattle.desk_journal.specs.Reading.{IsFound, IsOlder, IsTail, IsWhole};
-ghost use Rattle.desk_journal.specs.Recovered.{EndsForeign, Finds, IsRepaired};
+ghost use Rattle.desk_journal.specs.Faults.{HasBeginFault, HasDiskFault, HasFileFault, HasOpenFault, HasWriteFault};
+ghost use Rattle.desk_journal.specs.Left.{BeginsWith, IsEndOf};
+ghost use Rattle.desk_journal.specs.Reading.{IsOlder, IsTail, IsWhole};
+ghost use Rattle.desk_journal.specs.Recovered.{EndsForeign, Finds, IsFound, IsRepaired};
+ghost use Rattle.desk_journal.specs.Stamps.{time_after};
 
 use crate::JournalFault;
+use crate::journal_end::JournalEnd;
 use crate::latch::{cut_behind, write_shut};
-use crate::stamp::Stamp;
+use crate::reading::{length_of, read_from};
+use crate::stamp::{Stamp, last_time};
 use crate::walk::{count_entries, is_foreign, walk_entries};
 use sqlite_disk::Disk;
 use std::alloc::Global;
 
-/// The entries of a file, their stamps, the place of its shut latch, and the checksum of the last entry.
+/// The entries of a file after those up to some end, their stamps, and where they end.
 #[derive(Drop)]
 pub struct Recovered {
     pub entries: Vec<Vec<u8>>,
     pub stamps: Vec<Stamp>,
-    pub end: usize,
-    pub last: [u8; 32],
-}
-
-// All bytes of a file.
-fn read_all<D: Disk>(alloc: Global, disk: &mut D) -> Result<Vec<u8>, JournalFault>
-    requires { IsTrue (D.Disk.is_usable disk.old) }
-    ensures bytes { IfOk result (λ bytes. IsTrue (D.Disk.is_clean disk.new) → bytes.items ≡ D.Disk.seen disk.old) }
-    ensures seen { D.Disk.seen disk.new ≡ D.Disk.seen disk.old }
-    ensures crash { (c : List ℕ) → D.Disk.may_leave disk.new c → D.Disk.may_leave disk.old c }
-    ensures usable { IsTrue (D.Disk.is_usable disk.new) }
-    ensures clean { IsTrue (D.Disk.is_clean disk.new) → IsTrue (D.Disk.is_clean disk.old) }
-    ensures faults { MatchResult result (λ _. D.Disk.faults disk.new ≡ D.Disk.faults disk.old) (λ e. e ≡ JournalFault.Read → MoreFaults (D.Disk.faults disk.old) (D.Disk.faults disk.new)) }
-    ensures cause { IfErr result HasReadFault }
-{
-    match disk.len() {
-        Err(_) => Err(JournalFault::Read),
-        Ok(len) => {
-            let mut bytes = vec![in alloc; 0u8; len]?;
-            match disk.read_at(0, &mut bytes) {
-                Ok(()) => Ok(bytes),
-                Err(_) => Err(JournalFault::Read),
-            }
-        }
-    }
+    pub end: JournalEnd,
 }
 
 // Whether after the shut latch with which these bytes begin comes what no crash leaves there.
@@ -55,24 +34,36 @@ fn ends_foreign(rest: &[u8], last: &[u8; 32], count: u32) -> bool
     is_foreign(rest.split_at(2).1, last, count)
 }
 
-// The entries of these bytes, where none is damaged, and where they end.
-fn read_file(alloc: Global, bytes: &[u8]) -> Result<Recovered, JournalFault>
-    requires { 2 < length bytes.now }
-    ensures found { IfOk result (λ r. IsFound bytes.now r.entries.items r.stamps.items r.last r.end) }
-    ensures whole { OnOk result (IsWhole bytes.now) }
-    ensures cause { IfErr result (HasFileFault bytes.now) }
+/// The entries of the bytes that come after those up to this end, where none is damaged, and where they end.
+pub fn read_after(
+    alloc: Global,
+    bytes: &[u8],
+    before: &JournalEnd,
+) -> Result<Recovered, JournalFault>
+    requires { before.now.place + length bytes.now < 2 ^ 64 }
+    ensures found { (fs : List Frame) → IsEndOf fs before.now → IfOk result (λ r. IsFound fs (frames first_checksum fs ++ bytes.now) r.entries.items r.stamps.items r.end) }
+    ensures whole { (fs : List Frame) → IsEndOf fs before.now → 2 < length (frames first_checksum fs ++ bytes.now) → OnOk result (IsWhole (frames first_checksum fs ++ bytes.now)) }
+    ensures count { IfOk result (λ r. r.end.count ≡ before.now.count + length r.entries.items) }
+    ensures few { before.now.count ≤ 1000000 → IfOk result (λ r. r.end.count ≤ 1000000) }
+    ensures fits { IfOk result (λ r. r.end.place + 2 < 2 ^ 64) }
+    ensures time { IfOk result (λ r. r.end.time ≡ time_after before.now.time r.stamps.items) }
+    ensures cause { (fs : List Frame) → IsEndOf fs before.now → 2 < length (frames first_checksum fs ++ bytes.now) → IfErr result (HasFileFault (frames first_checksum fs ++ bytes.now)) }
     ensures older { IsErrOf result (JournalFault.Damaged 1) → IsOlder bytes.now → ⊥ }
 {
-    let walked = walk_entries(alloc, bytes)?;
-    let count = walked.entries.len() as u32;
-    if ends_foreign(walked.rest, &walked.last, count) {
-        return Err(JournalFault::Damaged(count + 1));
+    let walked = walk_entries(alloc, bytes, before)?;
+    if ends_foreign(walked.rest, &walked.last, walked.count) {
+        return Err(JournalFault::Damaged(walked.count.saturating_add(1)));
     }
     Ok(Recovered {
-        end: bytes.len() - walked.rest.len(),
+        end: JournalEnd {
+            place: before.place + (bytes.len() - walked.rest.len()),
+            count: walked.count,
+            last: walked.last,
+            last_size: walked.last_size,
+            time: last_time(before.time, &walked.stamps),
+        },
         entries: walked.entries,
         stamps: walked.stamps,
-        last: walked.last,
     })
 }
 
@@ -92,7 +83,7 @@ pub fn stamped_in(alloc: Global, bytes: &[u8]) -> Result<(Vec<Vec<u8>>, Vec<Stam
     if bytes.len() <= 2 {
         return Ok((Vec::new(alloc), Vec::new(alloc)));
     }
-    let found = read_file(alloc, bytes)?;
+    let found = read_after(alloc, bytes, &JournalEnd::none())?;
     Ok((found.entries, found.stamps))
 }
 
@@ -118,13 +109,30 @@ pub fn tail_in(bytes: &[u8]) -> Result<&[u8], JournalFault>
     Ok(counted.rest.split_at(2).1)
 }
 
+/// What resuming a journal that was left at this end would cut off, where these bytes come from there on: all that comes after its shut
+/// latch. An `Err` says that it would cut nothing off, since an entry is damaged, or that memory ran out.
+pub fn tail_after<'a>(
+    alloc: Global,
+    bytes: &'a [u8],
+    end: &JournalEnd,
+) -> Result<&'a [u8], JournalFault>
+    ensures { (fs : List Frame) → IsEndOf fs end.now → 0 < length fs → IfOk result (λ tail. IsTail (frames first_checksum fs ++ bytes.now) tail.now) }
+{
+    let found = walk_entries(alloc, bytes, end)?;
+    if ends_foreign(found.rest, &found.last, found.count) {
+        return Err(JournalFault::Damaged(found.count.saturating_add(1)));
+    }
+    Ok(found.rest.split_at(2).1)
+}
+
 // The entries of a disk's file, and where they end: none of a file of at most two bytes. Nothing is written.
 fn read_disk<D: Disk>(alloc: Global, disk: &mut D) -> Result<Option<Recovered>, JournalFault>
     ensures found { (file : List ℕ) → IsDurable D.Disk file disk.old → IfOk result (λ found. IsTrue (D.Disk.is_clean disk.new)
         → Finds file found) }
     ensures durable { (file : List ℕ) → IsDurable D.Disk file disk.old → IsDurable D.Disk file disk.new }
     ensures usable { OnOk result (IsTrue (D.Disk.is_usable disk.new)) }
-    ensures few { IfOk result (λ found. IfSome found (λ r. (length r.entries.items ≤ 1000000) × (r.end + 2 < 2 ^ 64))) }
+    ensures few { IfOk result (λ found. IfSome found (λ r. (length r.entries.items ≤ 1000000) × (r.end.place + 2 < 2 ^ 64))) }
+    ensures time { IfOk result (λ found. IfSome found (λ r. r.end.time ≡ time_after 0 r.stamps.items)) }
     ensures clean { IsTrue (D.Disk.is_clean disk.new) → IsTrue (D.Disk.is_clean disk.old) }
     ensures faults { OnOk result (D.Disk.faults disk.new ≡ D.Disk.faults disk.old) }
     ensures cause { (file : List ℕ) → IsDurable D.Disk file disk.old
@@ -133,11 +141,12 @@ fn read_disk<D: Disk>(alloc: Global, disk: &mut D) -> Result<Option<Recovered>, 
     if !disk.may_be_used() {
         return Err(JournalFault::Sync);
     }
-    let bytes = read_all(alloc, disk)?;
+    let len = length_of(disk)?;
+    let bytes = read_from(alloc, disk, 0, len)?;
     if bytes.len() <= 2 {
         return Ok(None);
     }
-    let found = read_file(alloc, &bytes)?;
+    let found = read_after(alloc, &bytes, &JournalEnd::none())?;
     Ok(Some(found))
 }
 
@@ -145,11 +154,14 @@ fn read_disk<D: Disk>(alloc: Global, disk: &mut D) -> Result<Option<Recovered>, 
 /// that stands for the same entries. Where an entry is damaged, or there is none, nothing is written.
 pub fn recover<D: Disk>(alloc: Global, disk: &mut D) -> Result<Recovered, JournalFault>
     ensures entries { (file : List ℕ) → IsDurable D.Disk file disk.old
-        → IfOk result (λ r. IsTrue (D.Disk.is_clean disk.new) → IsRepaired D.Disk file r.entries.items r.stamps.items r.last r.end disk.new) }
+        → IfOk result (λ r. IsTrue (D.Disk.is_clean disk.new) → IsRepaired D.Disk [] file r.entries.items r.stamps.items r.end disk.new) }
     ensures some { IfOk result (λ r. 0 < length r.entries.items) }
     ensures few { IfOk result (λ r. length r.entries.items ≤ 1000000) }
+    ensures time { IfOk result (λ r. r.end.time ≡ time_after 0 r.stamps.items) }
     ensures crash { (file : List ℕ) (entries : List (List ℕ)) → IsDurable D.Disk file disk.old → StandsFor file entries
         → IsTrue (D.Disk.is_clean disk.new) → (c : List ℕ) → D.Disk.may_leave disk.new c → StandsFor c entries }
+    ensures begins { (file : List ℕ) (first : List Frame) → IsDurable D.Disk file disk.old → All IsFrame first → BeginsWith file first
+        → IsTrue (D.Disk.is_clean disk.new) → (c : List ℕ) → D.Disk.may_leave disk.new c → BeginsWith c first }
     ensures cause { (file : List ℕ) → IsDurable D.Disk file disk.old
         → IfErr result (λ e. IsTrue (D.Disk.is_clean disk.new) → HasOpenFault (D.Disk.faults disk.old) (D.Disk.faults disk.new) file e) }
     ensures untouched { (file : List ℕ) → IsDurable D.Disk file disk.old
@@ -161,7 +173,7 @@ pub fn recover<D: Disk>(alloc: Global, disk: &mut D) -> Result<Recovered, Journa
             if found.entries.is_empty() {
                 return Err(JournalFault::NoEntries);
             }
-            cut_behind(disk, found.end)?;
+            cut_behind(disk, found.end.place)?;
             Ok(found)
         }
     }
@@ -185,7 +197,7 @@ pub fn begin<D: Disk>(alloc: Global, disk: &mut D) -> Result<(), JournalFault>
             if !found.entries.is_empty() {
                 return Err(JournalFault::Taken);
             }
-            cut_behind(disk, found.end)
+            cut_behind(disk, found.end.place)
         }
     }
 }

@@ -125,12 +125,12 @@ pub fn stamp_in(alloc: Global, content: &[u8]) -> Result<Stamp, JournalFault>
     Ok(Stamp::new(time_of(time), Vec::from_slice(alloc, account)?))
 }
 
-/// The time of the last of these stamps, and 0 where there is none.
-pub fn last_time(stamps: &[Stamp]) -> u64
-    ensures { result ≡ time_after 0 stamps.now }
+/// The time of the last of these stamps, and `earlier` where there is none.
+pub fn last_time(earlier: u64, stamps: &[Stamp]) -> u64
+    ensures { result ≡ time_after earlier stamps.now }
 {
     match stamps.split_last() {
-        None => 0,
+        None => earlier,
         Some((stamp, _)) => stamp.time(),
     }
 }

@@ -1,22 +1,27 @@
 //! The entries of a file's bytes, up to its shut latch, and what comes after that.
-ghost use Rattle.std.specs.Prelude.{◌≡◌, ◌<◌, ◌≤◌, ◌↔◌, [], ◌∷◌, length, IsTrue, IfOk, IfErr, IsErrOf};
-ghost use Rattle.desk_journal.specs.Frames.{IsShut};
+ghost use Rattle.std.specs.Prelude.{◌≡◌, ◌<◌, ◌≤◌, ◌+◌, ◌↔◌, ◌++◌, ℕ, List, [], ◌∷◌, length, IsTrue, IfOk, IfErr, IsErrOf};
+ghost use Rattle.desk_journal.specs.Frames.{Frame, IsShut, first_checksum, frames};
 ghost use Rattle.desk_journal.specs.Faults.{HasFileFault};
-ghost use Rattle.desk_journal.specs.Reading.{HasFirst, IsCountedTo, IsDamaged, IsForeign, IsOlder, IsStampedTo, SaysOther};
+ghost use Rattle.desk_journal.specs.Left.{IsEndOf};
+ghost use Rattle.desk_journal.specs.Reading.{HasFirst, IsCountedFrom, IsDamaged, IsForeign, IsOlder, IsStampedFrom, SaysOther};
 
 use crate::JournalFault;
 use crate::checksum::first;
 use crate::journal::MOST;
+use crate::journal_end::JournalEnd;
 use crate::next::{behind_latch, is_older, is_shut, next_body, next_frame};
 use crate::stamp::{Stamp, entry_in, stamp_in};
 use std::alloc::Global;
 
-/// Entries that were read, their stamps, the checksum of the last, and what comes after them.
+/// Entries that were read, and their stamps; how many there are with those before them, the checksum of the last, and how many bytes it has
+/// with its stamp; and what comes after them.
 #[derive(Drop)]
 pub struct Walked<'a> {
     pub entries: Vec<Vec<u8>>,
     pub stamps: Vec<Stamp>,
+    pub count: u32,
     pub last: [u8; 32],
+    pub last_size: usize,
     pub rest: &'a [u8],
 }
 
@@ -28,9 +33,9 @@ pub struct Counted<'a> {
     pub rest: &'a [u8],
 }
 
-// What is said where the entry of this number is damaged.
+// What is said where the entry of this number is damaged: these are the bytes of the file where it is the first.
 fn fault_at(bytes: &[u8], number: u32) -> JournalFault
-    ensures cause { IsDamaged bytes.now number → HasFileFault bytes.now result }
+    ensures cause { (file : List ℕ) → (number ≡ 1 → file ≡ bytes.now) → IsDamaged file number → HasFileFault file result }
     ensures older { result ≡ JournalFault.Damaged 1 → IsOlder bytes.now → ⊥ }
     ensures memory { result ≡ JournalFault.OutOfMemory → ⊥ }
 {
@@ -40,30 +45,38 @@ fn fault_at(bytes: &[u8], number: u32) -> JournalFault
     JournalFault::Damaged(number)
 }
 
-/// The entries and their stamps up to the shut latch: `Damaged` where a latch isn't shut and no whole frame follows it, or the bytes
-/// end, and `Older` where they are of an earlier format.
-pub fn walk_entries<'a>(alloc: Global, bytes: &'a [u8]) -> Result<Walked<'a>, JournalFault>
-    requires { 2 < length bytes.now }
-    ensures read { IfOk result (λ w. IsStampedTo bytes.now w.entries.items w.stamps.items w.last w.rest.now) }
-    ensures few { IfOk result (λ w. length w.entries.items ≤ 1000000) }
+/// The entries and their stamps up to the shut latch, of the bytes that come after those up to this end: `Damaged` where a latch isn't shut
+/// and no whole frame follows it, or the bytes end, and `Older` where they are a whole file and of an earlier format.
+pub fn walk_entries<'a>(
+    alloc: Global,
+    bytes: &'a [u8],
+    before: &JournalEnd,
+) -> Result<Walked<'a>, JournalFault>
+    ensures read { IfOk result (λ w. IsStampedFrom before.now.last before.now.last_size bytes.now w.entries.items w.stamps.items w.last w.last_size w.rest.now) }
+    ensures count { IfOk result (λ w. w.count ≡ before.now.count + length w.entries.items) }
+    ensures few { before.now.count ≤ 1000000 → IfOk result (λ w. w.count ≤ 1000000) }
     ensures shut { IfOk result (λ w. IsShut w.rest.now) }
-    ensures cause { IfErr result (HasFileFault bytes.now) }
+    ensures cause { (fs : List Frame) → IsEndOf fs before.now → 2 < length (frames first_checksum fs ++ bytes.now) → IfErr result (HasFileFault (frames first_checksum fs ++ bytes.now)) }
     ensures older { IsErrOf result (JournalFault.Damaged 1) → IsOlder bytes.now → ⊥ }
 {
     let mut entries = Vec::new(alloc);
     let mut stamps = Vec::new(alloc);
-    let mut last = first();
+    let mut count = before.count;
+    let mut last = before.last;
+    let mut last_size = before.last_size;
     let mut rest = bytes;
     while !is_shut(rest) {
-        if entries.len() >= MOST {
+        if count as usize >= MOST {
             return Err(JournalFault::Full);
         }
         match next_frame(rest, &last) {
-            None => return Err(fault_at(bytes, entries.len() as u32 + 1)),
+            None => return Err(fault_at(bytes, count + 1)),
             Some(found) => {
                 entries.push(Vec::from_slice(alloc, entry_in(found.content))?)?;
                 stamps.push(stamp_in(alloc, found.content)?)?;
+                count += 1;
                 last = found.checksum;
+                last_size = found.content.len();
                 rest = found.rest;
             }
         }
@@ -71,15 +84,17 @@ pub fn walk_entries<'a>(alloc: Global, bytes: &'a [u8]) -> Result<Walked<'a>, Jo
     Ok(Walked {
         entries,
         stamps,
+        count,
         last,
+        last_size,
         rest,
     })
 }
 
-/// The same, where no entry is kept: how many there are up to the shut latch.
+/// The same of a whole file, where no entry is kept: how many there are up to the shut latch.
 pub fn count_entries<'a>(bytes: &'a [u8]) -> Result<Counted<'a>, JournalFault>
     requires { 2 < length bytes.now }
-    ensures read { IfOk result (λ c. IsCountedTo bytes.now c.count c.last c.rest.now) }
+    ensures read { IfOk result (λ c. IsCountedFrom first_checksum bytes.now c.count c.last c.rest.now) }
     ensures few { IfOk result (λ c. c.count ≤ 1000000) }
     ensures shut { IfOk result (λ c. IsShut c.rest.now) }
     ensures cause { IfErr result (HasFileFault bytes.now) }

@@ -16,7 +16,7 @@ pub returns-then-not-is_empty-clause-cause : goal.returns-then-not-is_empty-clau
 returns-then-not-is_empty-clause-cause g c = λ file was clean.
     let r = c.in-Some.found in
     let found = (subst (Finds file) c.in-Some.is (c.in_ok-read_disk.ensures.found file was clean)).0 in
-    some_found file r.entries.items r.stamps.items r.last r.end found (grind (arith, common_steps))
+    some_found file r.entries.items r.stamps.items r.end found (grind (arith, common_steps))
 
 pub returns-in-None-clause-crash : goal.returns-in-None-clause-crash
 returns-in-None-clause-crash g c = λ file entries was stood clean x left.
@@ -28,19 +28,19 @@ returns-else-not-is_empty-clause-begun g c = λ file was.
     let r = c.in-Some.found in
     on_ok_given c.cut_behind.result _ _ (λ clean.
     let (found, whole) = subst (Finds file) c.in-Some.is (c.in_ok-read_disk.ensures.found file was (sym c.cut_behind.ensures.clean ∙ clean)) in
-    let mid = found_durable file r.entries.items r.stamps.items r.last r.end found g.D.Disk c.read_disk.new.disk (c.read_disk.ensures.durable file was) in
+    let mid = found_durable [] file r.entries.items r.stamps.items r.end found g.D.Disk c.read_disk.new.disk (c.read_disk.ensures.durable file was) in
     let none : length r.entries.items ≡ 0 = grind (arith, common_steps) in
     on_ok_weaker c.cut_behind.result
     (λ durable. (
-      none_found file r.entries.items r.stamps.items r.last r.end found none,
+      none_found file r.entries.items r.stamps.items r.end found none,
       whole,
-      subst (λ (f : List ℕ). IsDurable g.D.Disk (f ++ 45 ∷ 45 ∷ []) c.cut_behind.new.disk) (no_frames file r.entries.items r.stamps.items r.last r.end found none) durable,
+      subst (λ (f : List ℕ). IsDurable g.D.Disk (f ++ 45 ∷ 45 ∷ []) c.cut_behind.new.disk) (no_frames file r.entries.items r.stamps.items r.end found none) durable,
     ))
-    (c.cut_behind.ensures.durable (frames first_checksum found.read.fs) (drop 2 found.rest) found.end_is mid))
+    (c.cut_behind.ensures.durable (frames first_checksum found.more) (drop 2 found.rest) found.end_is.place mid))
 
 pub returns-else-not-is_empty-clause-crash : goal.returns-else-not-is_empty-clause-crash
 returns-else-not-is_empty-clause-crash g c = λ file entries was stood clean x left.
     let r = c.in-Some.found in
     let found = (subst (Finds file) c.in-Some.is (c.in_ok-read_disk.ensures.found file was (sym c.cut_behind.ensures.clean ∙ clean))).0 in
-    let mid = found_durable file r.entries.items r.stamps.items r.last r.end found g.D.Disk c.read_disk.new.disk (c.read_disk.ensures.durable file was) in
-    found_left file r.entries.items r.stamps.items r.last r.end found x entries stood (c.cut_behind.ensures.crash (frames first_checksum found.read.fs) (drop 2 found.rest) found.end_is mid x left)
+    let mid = found_durable [] file r.entries.items r.stamps.items r.end found g.D.Disk c.read_disk.new.disk (c.read_disk.ensures.durable file was) in
+    found_left [] file r.entries.items r.stamps.items r.end found x entries stood (c.cut_behind.ensures.crash (frames first_checksum found.more) (drop 2 found.rest) found.end_is.place mid x left)

@@ -41,3 +41,7 @@ returns-clause-stamped g c = λ stamps has.
       (fs ++ frames_of (length fs) stamp c.args.batch.now, keeps, refl),
     ))
     (c.add.ensures.kept fs now)
+
+pub returns-clause-begins : goal.returns-clause-begins
+returns-clause-begins g c = λ fs kept x left.
+    c.add.ensures.begins fs (still_keeps g.D.Disk c.args.self.now c.is_unchanged.new.disk c.is_unchanged.ensures.untouched c.is_unchanged.ensures.usable fs kept) x left
