@@ -5,8 +5,10 @@ pub mod FaultLemmas
 pub mod LineLemmas
 pub mod OutcomeLemmas
 pub mod PromiseLemmas
+pub mod ReadingLemmas
 pub mod ShortLawLemmas
 pub mod ShortLineLemmas
 pub mod StampedLemmas
 pub mod TakenLemmas
 pub mod TogetherLemmas
+pub mod TurnLemmas

@@ -2,9 +2,11 @@ pub mod Account
 pub mod Faults
 pub mod Lines
 pub mod Outcomes
+pub mod Reading
 pub mod ShortLines
 pub mod Stamped
 pub mod Stopped
 pub mod Taken
 pub mod Served
+pub mod Turns
 pub mod Words

@@ -23,6 +23,10 @@ counted_with tally Refused = record { rows = counted tally.rows 1; faults = tall
 counted_with tally Held = record { rows = counted tally.rows 1; faults = tally.faults; held = counted tally.held 1 }
 counted_with tally Taken = record { rows = counted tally.rows 1; faults = tally.faults; held = tally.held }
 
+-- the tally of lines, and then of others
+abbrev pub tally_with : Tally → (more : Tally) → Tally
+tally_with tally more = record { rows = counted tally.rows more.rows; faults = counted tally.faults more.faults; held = counted tally.held more.held }
+
 -- with lines, after the entries `kept`: each counts by what comes of it after what those before it leave
 unfoldable pub tally_after : (leaves : List (List ℕ) → List ℕ → List (List ℕ)) → (outcome : List (List ℕ) → List ℕ → Outcome) → Tally → (kept : List (List ℕ)) → List (List ℕ) → Tally
 tally_after leaves outcome tally kept [] = tally

@@ -11,10 +11,12 @@ mod keeper;
 mod lines;
 mod outcome;
 mod publish;
+mod reading;
 mod register;
 mod session;
 mod short_lines;
 mod together;
+mod turns;
 
 pub use account::account_of;
 pub use asking::answer;
@@ -26,9 +28,11 @@ pub use lines::{
     split_line, unmarked,
 };
 pub use outcome::{Outcome, Tally};
+pub use reading::read_lines;
 pub use register::Register;
 pub use session::serve;
 pub use short_lines::{
     ShortLines, cut_lines_are_no_text, long_lines_are_cut, short_lines_are_short, short_lines_stay,
 };
 pub use together::{StoppedLine, serve_together};
+pub use turns::{each_line_is_in_place, turns_keep_one_history, turns_tell_what_they_kept};

@@ -1,6 +1,6 @@
 //! What comes of lines, and how many there were.
 ghost use Rattle.std.specs.Prelude.{◌≡◌};
-ghost use Rattle.desk_session.specs.Outcomes.{counted_with, is_held, no_lines};
+ghost use Rattle.desk_session.specs.Outcomes.{counted_with, is_held, no_lines, tally_with};
 ghost use Rattle.desk_session.specs.Stopped.{stops};
 
 /// What comes of a line.
@@ -61,6 +61,17 @@ impl Tally {
             rows: 0,
             faults: 0,
             held: 0,
+        }
+    }
+
+    /// With the tally of others.
+    pub fn with(&self, more: &Tally) -> Tally
+        ensures { result ≡ tally_with self.now more.now }
+    {
+        Tally {
+            rows: self.rows.saturating_add(more.rows),
+            faults: self.faults.saturating_add(more.faults),
+            held: self.held.saturating_add(more.held),
         }
     }
 
