@@ -5,6 +5,7 @@ pub mod ExportLemmas
 pub mod ReportedLemmas
 pub mod ReviewLemmas
 pub mod FaultyLemmas
+pub mod FollowLemmas
 pub mod PastLemmas
 pub mod PlaceLemmas
 pub mod RestoreLemmas

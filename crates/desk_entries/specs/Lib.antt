@@ -3,6 +3,7 @@ pub mod Export
 pub mod Reported
 pub mod Past
 pub mod Docketed
+pub mod Follow
 pub mod Laws
 pub mod Words
 pub mod Inside

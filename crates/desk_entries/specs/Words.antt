@@ -4,6 +4,7 @@ unfoldable pub use Rattle.desk_register.specs.Words.{came_shown, cases_of, fault
 pub use Rattle.desk_entries.specs.Review.{changes_by}
 unfoldable pub use Rattle.desk_entries.specs.Review.{changes_after}
 pub use Rattle.desk_entries.specs.Docketed.{AreHistory, HasDocketFault, HasFault, HasHistoryFault, IsDocketed}
+pub use Rattle.desk_entries.specs.Follow.{GoingOnIsOpeningAnew, StandForTheSame, are_rows, goes_on}
 pub use Rattle.desk_entries.specs.Laws.{ARestoreLeavesTheDocket, AnswersAreTheRuns, RowsAreWrittenAsTheyAre, plain}
 unfoldable pub use Rattle.desk_entries.specs.Export.{row_written, rows_written}
 pub use Rattle.desk_entries.specs.Reported.{ReportsAreOfTheDocket, rows_standing}

@@ -2,7 +2,7 @@
 ghost use Rattle.std.specs.Prelude.{◌≡◌, ◌<◌, ◌≤◌, ◌+◌, ◌&&◌, ◌++◌, ◌∷◌, [], ℕ, true, false, List, length, nat_lt, not, take, None, Some, IfErr, IfOk, IsSome, OnOk};
 ghost use Rattle.court_days.specs.Words.{CourtView};
 ghost use Rattle.desk_journal.specs.Words.{batch_of};
-ghost use Rattle.desk_register.specs.Words.{SaysCourt, StandsAt, corrections_then, entries_taken, later_file, most_entries, note_in, number_of_next, row_restored, row_struck};
+ghost use Rattle.desk_register.specs.Words.{SaysCourt, StandsAt, corrections_then, entries_taken, later_file, most_entries, note_in, row_restored, row_struck};
 ghost use Rattle.desk_numbers.specs.Strikes.Words.{is_struck, no_corrections, struck_with, struck_without};
 ghost use Rattle.desk_entries.specs.Docketed.{IsBadFile};
 
@@ -198,15 +198,19 @@ impl Docketed {
     }
 
     // Takes an entry that is a row, if it has the answer that it gets.
-    fn retake(&mut self, alloc: Global, entry: &[u8]) -> Result<(), HistoryFault>
+    pub(crate) fn retake(&mut self, alloc: Global, entry: &[u8]) -> Result<(), HistoryFault>
         requires row { note_in entry.now ≡ None }
         requires room { entries_taken self.old.register < most_entries }
-        requires stays { is_struck self.old.standing.corrections (number_of_next self.old.register) ≡ false }
         ensures docketed { (before : List (List ℕ)) → IsDocketed self.old before → OnOk result (IsDocketed self.new (before ++ entry.now ∷ [])) }
         ensures follows { (before : List (List ℕ)) → IsDocketed self.old before → OnOk result (MayFollow before entry.now) }
         ensures cause { (before : List (List ℕ)) → IsDocketed self.old before → IfErr result (IsFaultyEntry before entry.now) }
+        ensures count { OnOk result (entries_taken self.new.register ≡ entries_taken self.old.register + 1) }
     {
         let number = self.register.next_number();
+        // Rows that are struck come before, so this one isn't, where the docket is that of the entries.
+        if self.register.is_next_struck(&self.standing) {
+            return Err(HistoryFault::Other(number));
+        }
         let other = self.register.review(alloc, &self.standing, entry)?;
         if other.is_some() {
             return Err(HistoryFault::Other(number));
@@ -250,7 +254,6 @@ impl Docketed {
         requires some { 0 < length entries.now }
         requires few { length entries.now ≤ most_entries }
         requires room { entries_taken self.old.register < most_entries }
-        requires stays { is_struck self.old.standing.corrections (number_of_next self.old.register) ≡ false }
         ensures docketed { (before : List (List ℕ)) → batch_of entries.now ≡ before ++ entry.now ∷ [] → IsDocketed self.old before → OnOk result (IsDocketed self.new (before ++ entry.now ∷ [])) }
         ensures follows { (before : List (List ℕ)) → IsDocketed self.old before → OnOk result (MayFollow before entry.now) }
         ensures cause { (before : List (List ℕ)) → batch_of entries.now ≡ before ++ entry.now ∷ [] → IsDocketed self.old before → IfErr result (IsFaultyEntry before entry.now) }

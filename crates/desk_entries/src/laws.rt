@@ -1,5 +1,6 @@
 //! Laws of the definitions, the contracts of functions that do nothing.
 ghost use Rattle.desk_entries.specs.Reported.{ReportsAreOfTheDocket};
+ghost use Rattle.desk_entries.specs.Follow.{GoingOnIsOpeningAnew};
 ghost use Rattle.desk_entries.specs.Laws.{ARestoreLeavesTheDocket, AnAnswerShowsItsNumber, AnswersAreTheRuns, RowsAreWrittenAsTheyAre};
 
 /// With nothing struck, the answers to lines one by one are those that a run of clerk_office writes of their rows together.
@@ -29,4 +30,10 @@ pub fn an_answer_shows_its_number()
 #[tactic(auto, using(crate::proofs::ReportedLemmas::of_the_docket))]
 pub fn reports_are_of_the_docket()
     ensures { ReportsAreOfTheDocket }
+{}
+
+/// A docket that goes on with later entries stands for the same as one that is made of all entries anew.
+#[tactic(auto, using(crate::proofs::FollowLemmas::going_on))]
+pub fn going_on_is_opening_anew()
+    ensures { GoingOnIsOpeningAnew }
 {}

@@ -6,6 +6,7 @@
 mod docketed;
 mod export;
 mod fault;
+mod follow;
 mod laws;
 mod past;
 mod reported;
@@ -22,7 +23,7 @@ pub use export::push_row;
 pub use fault::HistoryFault;
 pub use laws::{
     a_restore_leaves_the_docket, an_answer_shows_its_number, answers_are_the_runs,
-    reports_are_of_the_docket, rows_are_written_as_they_are,
+    going_on_is_opening_anew, reports_are_of_the_docket, rows_are_written_as_they_are,
 };
 pub use past::{Corrected, corrections_in, refused_rows, struck_rows};
 pub use reported::{Reported, standing_rows};

@@ -4,7 +4,7 @@ ghost use Rattle.csv.specs.Records.{fields_of};
 ghost use Rattle.docket_rows.specs.Words.{setup_of};
 ghost use Rattle.office_texts.specs.Named.Words.{named_line_of};
 ghost use Rattle.office_texts.specs.Run.Words.{Holds};
-ghost use Rattle.desk_numbers.specs.Strikes.Words.{Fits};
+ghost use Rattle.desk_numbers.specs.Strikes.Words.{Fits, is_struck};
 ghost use Rattle.desk_numbers.specs.Words.{numbered};
 ghost use Rattle.desk_register.specs.declared.standing.Standing.{Standing as StandingOf};
 ghost use Rattle.desk_register.specs.Cases.{cases_of};
@@ -73,7 +73,7 @@ pub struct DocketRegister {
 }
 
 impl DocketRegister {
-    ghost use Rattle.desk_register.specs.Register.{IsDone, StandsAt, entries_taken};
+    ghost use Rattle.desk_register.specs.Register.{IsDone, StandsAt, entries_taken, number_of_next};
 
     /// The register of a court before its first row. `Err` says that memory ran out.
     pub fn new(alloc: Global, under: &Standing) -> Result<DocketRegister, AllocError>
@@ -257,6 +257,20 @@ impl DocketRegister {
     {
         let moved = self.numbers.moved();
         read_next(alloc, under, &self.docket, moved, &self.cases, line, fields)
+    }
+
+    /// How many entries there are, the court's file and corrections among them.
+    pub fn entries(&self) -> u32
+        ensures { result ≡ entries_taken self.now }
+    {
+        self.count
+    }
+
+    /// Whether the next row is struck already. It isn't, where what stands is that of the entries.
+    pub fn is_next_struck(&self, under: &Standing) -> bool
+        ensures { result ≡ is_struck under.now.corrections (number_of_next self.now) }
+    {
+        under.corrections.is_struck(self.number)
     }
 
     /// The number of the next row, counted from 1.

@@ -1,10 +1,9 @@
 use Rattle.std.proofs.Common.{◌≡◌, ◌∙◌, ◌+◌, ◌++◌, ◌∷◌, ℕ, List, [], ap, drop, sym, subst, arith, take}
 use Rattle.desk_journal.specs.Words.{batch_of}
 use Rattle.desk_entries.specs.Docketed.{AreHistory, HasFault, IsDocketed}
-use Rattle.desk_register.specs.Words.{IsHistory, next_number}
-use Rattle.desk_numbers.specs.Strikes.Words.{is_struck}
+use Rattle.desk_register.specs.Words.{IsHistory}
 use Rattle.desk_entries.proofs.FaultyLemmas.{faulty_so}
-use Rattle.desk_register.proofs.CallerLemmas.{history_more, not_struck, parts_at, take_batch}
+use Rattle.desk_register.proofs.CallerLemmas.{history_more, parts_at, take_batch}
 use Rattle.desk_entries.proofs.docketed.Docketed.take_from.Goals as goal
 
 pub returns-in-Err-clause-cause : goal.returns-in-Err-clause-cause
@@ -40,8 +39,3 @@ loop-place-preserved c =
       is = subst (IsDocketed c.take_entry.new.self) (sym then) (c.in-Ok.ensures.docketed kept (ap batch_of c.split_at.ensures.front ∙ then) c.loop-place.invariant.is);
       history = λ first. subst IsHistory (sym then) (history_more kept entry (c.loop-place.invariant.history first) (c.in-Ok.ensures.follows kept c.loop-place.invariant.is));
     }
-
-pub take_entry-requires-clause-stays : goal.take_entry-requires-clause-stays
-take_entry-requires-clause-stays c =
-    let ready = c.loop-place.invariant.is.stands in
-    ap (is_struck c.loop-place.self.standing.corrections) ready.at.number ∙ not_struck c.loop-place.self.standing.corrections (next_number (batch_of (take c.loop-place.place c.args.entries.now))) ready.before
