@@ -10,6 +10,7 @@ pub mod LogLemmas
 pub mod LogReadLemmas
 pub mod NoteLemmas
 pub mod OpenLemmas
+pub mod RememberedLemmas
 pub mod RowCaseLemmas
 pub mod RowsLemmas
 pub mod StruckLemmas

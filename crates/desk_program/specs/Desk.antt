@@ -66,6 +66,7 @@ IsUnopened before after file opening.NoJournal = HasNoDocket file history.NoCour
 IsUnopened before after file (opening.KeptCourt number cause) = HasNoDocket file (history.Court number cause)
 IsUnopened before after file (opening.Other number) = HasNoDocket file (history.Other number)
 IsUnopened before after file (opening.BadStrike number) = HasNoDocket file (history.Strike number)
+IsUnopened before after file opening.Replaced = ⊥
 IsUnopened before after file opening.OutOfMemory = Unit {0}
 
 -- What a session promises of a docket, however it ends: what `IsPromised` says of its lines, each of which leaves its row

@@ -34,6 +34,11 @@ unopened_journal journal.NoEntries = opening.NoJournal
 unopened_journal journal.OutOfMemory = opening.OutOfMemory
 unopened_journal fault = opening.Journal fault
 
+-- why one that was left isn't resumed
+abbrev pub unresumed_journal : JournalFault → OpenFault
+unresumed_journal journal.Changed = opening.Replaced
+unresumed_journal fault = unopened_journal fault
+
 -- and where its entries make none
 abbrev pub history_fault : HistoryFault → OpenFault
 history_fault history.NoCourt = opening.NoJournal
@@ -83,6 +88,7 @@ open_status opening.NoJournal = 10
 open_status (opening.KeptCourt number cause) = 10
 open_status (opening.Other number) = 10
 open_status (opening.BadStrike number) = 10
+open_status opening.Replaced = 10
 open_status (opening.Journal fault) = journal_status fault
 open_status opening.OutOfMemory = 5
 

@@ -11,6 +11,7 @@ pub mod Faults
 pub mod Log
 pub mod LogJson
 pub mod LogText
+pub mod Remembered
 pub mod RowCase
 pub mod RowCorrection
 pub mod Rows

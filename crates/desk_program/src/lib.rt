@@ -21,6 +21,7 @@ mod log;
 mod log_json;
 mod log_text;
 mod note;
+mod remembered;
 mod row_case;
 mod row_correction;
 mod rows;
@@ -43,6 +44,7 @@ pub use faults::{
 pub use file::{file_fault, open_file};
 pub use log::{LogChoice, write_log};
 pub use log_json::the_log_reads_back;
+pub use remembered::{Remembered, Resumed};
 pub use row_correction::RowCorrection;
 pub use rows::{checked_rows, write_count, write_rows};
 pub use shown::lines_shown;

@@ -22,6 +22,9 @@ pub enum OpenFault {
     /// that isn't struck, or says other numbers than rows had given.
     #[error("entry {0} of the journal strikes a row that isn't there or is struck already, restores one that isn't struck, or says other numbers than rows had given")]
     BadStrike(u32),
+    /// The file at the journal's name isn't the one that was open.
+    #[error("the file at the journal's name isn't the one that was open, or it was cut: nothing more is kept or answered; see that it is the right file, and open the folder again")]
+    Replaced,
     /// The journal can't be read or written.
     #[error(fmt = write_journal_fault)]
     Journal(JournalFault),
@@ -64,7 +67,17 @@ impl From<HistoryFault> for OpenFault {
 
 impl OpenFault {
     ghost use Rattle.std.specs.Prelude.{◌≡◌};
-    ghost use Rattle.desk_program.specs.Faults.{open_status};
+    ghost use Rattle.desk_program.specs.Faults.{open_status, unresumed_journal};
+
+    /// Why a docket that was left isn't resumed, where its journal isn't.
+    pub(crate) fn of_resumed(fault: JournalFault) -> OpenFault
+        ensures { result ≡ unresumed_journal fault }
+    {
+        match fault {
+            JournalFault::Changed => OpenFault::Replaced,
+            _ => OpenFault::from(fault),
+        }
+    }
 
     /// The status with which the program ends after the fault.
     pub(crate) fn status(&self) -> u8
