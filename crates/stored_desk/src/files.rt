@@ -10,8 +10,8 @@ use std::alloc::Global;
 /// More calls than the opening of a journal makes.
 const CALLS: u64 = 20;
 
-// A disk whose file has these bytes, all of them durable, and that passes this many calls on.
-fn disk_with(alloc: Global, file: &[u8], calls: u64) -> Result<Device> {
+/// A disk whose file has these bytes, all of them durable, and that passes this many calls on.
+pub fn disk_with(alloc: Global, file: &[u8], calls: u64) -> Result<Device> {
     let mut memory = Memory::new(alloc);
     memory.write_at(0, file)?;
     memory.sync()?;

@@ -6,6 +6,7 @@ mod crash;
 mod damage;
 mod expected;
 mod files;
+mod follow;
 mod moments;
 mod runs;
 mod session;
@@ -18,7 +19,7 @@ use std::io::Write;
 
 /// Makes the sessions that standard input holds: a court's file, and then journals with a line `%%` before each, which are
 /// rows with a line `--` between two batches. Each journal is filled again and again, on a disk that passes no call on, then
-/// one, and so on, and each file that a crash may leave then is opened again. Of the whole journal each byte is changed in
+/// one, and so on, and each file that a crash may leave then is opened again, and gone on with by a session that knows its first entry alone. Of the whole journal each byte is changed in
 /// turn. For each journal it writes how many there were of each, and the first that wasn't as it must be. Where the input isn't written so, it writes nothing, says in one
 /// line on standard error what is wrong, and ends with status 1.
 fn main(rt: HostRuntime) -> Result<()> {

@@ -2,12 +2,13 @@
 use crate::crash::{Crashed, FILLS, Fill, crash_of};
 use crate::expected::{Expected, State};
 use crate::files::{count_kept, lasts};
+use crate::follow::finds_others;
 use crate::session::Stopped;
 use crate::tally::Tally;
 use anyhow::{Context, Result};
 use std::alloc::Global;
 
-/// Of how many files one is also opened on disks that fail.
+/// Of how many files one is also opened on disks that fail, and gone on with by a session that left its journal before.
 const EACH: u64 = 4;
 
 // The states between which a session was stopped after this many steps.
@@ -83,5 +84,9 @@ fn is_good(
         return Ok(true);
     }
     tally.count_opening();
+    let entries = expected.entries.get(..count).context("too many entries")?;
+    if !finds_others(alloc, entries, file)? {
+        return Ok(false);
+    }
     lasts(alloc, &expected.entries, file, count)
 }
