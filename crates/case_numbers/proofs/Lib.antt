@@ -1,5 +1,6 @@
 pub mod FreeLemmas
 pub mod GroupLemmas
+pub mod FormLemmas
 pub mod LookupLemmas
 pub mod ApartLemmas
 pub mod NumberLemmas

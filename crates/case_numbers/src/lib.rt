@@ -2,6 +2,8 @@
 #![tactic(auto)]
 
 mod cases;
+mod forms;
+mod initials;
 mod laws;
 mod name;
 mod name_line;
