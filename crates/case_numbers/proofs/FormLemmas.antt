@@ -34,12 +34,12 @@ picked_all p letter so (l ∷ form) (b ∷ text) is = by (l == letter) refl (is_
         rw (so b (ap (λ n. is_at n b) (sym letters) ∙ at), more is) refl
 
 -- how often a form has a letter
-pub count_in : (letter : ℕ) → List ℕ → ℕ
+abbrev pub count_in : (letter : ℕ) → List ℕ → ℕ
 count_in letter [] = 0
 count_in letter (l ∷ form) = cond (l == letter) (suc (count_in letter form)) (count_in letter form)
 
 pub picked_length : (letter : ℕ) (form text : List ℕ) → fits form text ≡ true → length (picked letter form text) ≡ count_in letter form
-unfolding fits picked count_in
+unfolding fits picked
 picked_length letter [] text is = refl
 picked_length letter (l ∷ form) [] is = cc is
 picked_length letter (l ∷ form) (b ∷ text) is = by (l == letter) (is_at l b) is (picked_length letter form text)
@@ -51,8 +51,11 @@ picked_length letter (l ∷ form) (b ∷ text) is = by (l == letter) (is_at l b)
     by true true is more = ap suc (more is)
 
 -- a digit, a letter or another byte, and which of them is where a form has a letter
+abbrev sort : (digit letter : Bool) → ℕ
+sort digit letter = cond digit 0 (cond letter 1 2)
+
 sort_of : ℕ → ℕ
-sort_of b = cond (is_ascii_digit b) 0 (cond (is_ascii_alphabetic b) 1 2)
+sort_of b = sort (is_ascii_digit b) (is_ascii_alphabetic b)
 
 sort_at : ℕ → ℕ
 sort_at letter = cond ((letter == 111) || (letter == 121)) 0 (cond (letter == 107) 1 (sort_of letter))
@@ -61,12 +64,8 @@ sorts_fit : (letter b : ℕ) → is_at letter b ≡ true → sort_of b ≡ sort_
 unfolding sort_of sort_at
 sorts_fit letter b is = by ((letter == 111) || (letter == 121)) (letter == 107) is
   where
-    sort : (digit letter : Bool) → ℕ
-    sort digit letter = cond digit 0 (cond letter 1 2)
-
     by : (digit kind : Bool) → cond digit (is_ascii_digit b) (cond kind (is_ascii_alphabetic b) (b == letter)) ≡ true
         → sort (is_ascii_digit b) (is_ascii_alphabetic b) ≡ cond digit 0 (cond kind 1 (sort (is_ascii_digit letter) (is_ascii_alphabetic letter)))
-    unfolding sort
     by true kind is = rw is refl
     by false true is = grind (arith, nat_tests, common_steps)
     by false false is = let same : b ≡ letter = grind (arith, nat_tests) in rw same refl
