@@ -149,4 +149,3 @@ found_fits (f ∷ all) form text is = by (fits f text) refl is (found_fits all f
     by false e is more =
         let (there, fit) = more is in
         ((suc there.0, omega (arith, there.1), there.2), fit)
-

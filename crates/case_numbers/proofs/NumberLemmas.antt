@@ -25,7 +25,6 @@ module _ (form text : List ℕ) where
   tail = drop (prefix_len is_ascii_digit rest) rest
 
   pub record IsRead (n : CaseNumber) : Type 0 where
-    pub fit : fits form text ≡ true
     pub few : length digits ≤ 5
     pub office : has_office form (office_in form text tail) ≡ true
     pub initials : are_initials (initials_in form tail) ≡ true
@@ -34,16 +33,15 @@ module _ (form text : List ℕ) where
   pub read_is : (n : CaseNumber) → number_in form text ≡ Some n → IsRead n
   unfolding number_in
   read_is n h =
-      by (fits form text) refl (nat_le 1 (length digits)) (nat_le (length digits) 5) refl (has_office form (office_in form text tail)) refl (are_initials (initials_in form tail)) refl h
+      by (nat_le 1 (length digits)) (nat_le (length digits) 5) refl (has_office form (office_in form text tail)) refl (are_initials (initials_in form tail)) refl h
     where
-      by : (fit : Bool) → fits form text ≡ fit → (some few : Bool) → nat_le (length digits) 5 ≡ few → (office : Bool) → has_office form (office_in form text tail) ≡ office → (initials : Bool) → are_initials (initials_in form tail) ≡ initials
-          → cond fit (cond (some && few && office && initials) (Some (number_with form text digits (office_in form text tail) (initials_in form tail))) None) None ≡ Some n → IsRead n
-      by false a some few b office c initials d h = cc h
-      by true a false few b office c initials d h = cc h
-      by true a true false b office c initials d h = cc h
-      by true a true true b false c initials d h = cc h
-      by true a true true b true c false d h = cc h
-      by true a true true b true c true d h = record { fit = a; few = grind (arith, nat_tests); office = c; initials = d; same = cc h }
+      by : (some few : Bool) → nat_le (length digits) 5 ≡ few → (office : Bool) → has_office form (office_in form text tail) ≡ office → (initials : Bool) → are_initials (initials_in form tail) ≡ initials
+          → cond (some && few && office && initials) (Some (number_with form text digits (office_in form text tail) (initials_in form tail))) None ≡ Some n → IsRead n
+      by false few b office c initials d h = cc h
+      by true false b office c initials d h = cc h
+      by true true b false c initials d h = cc h
+      by true true b true c false d h = cc h
+      by true true b true c true d h = record { few = grind (arith, nat_tests); office = c; initials = d; same = cc h }
 
 -- a small letter
 unfoldable pub is_small : ℕ → Bool
@@ -147,21 +145,25 @@ module _ (form text : List ℕ) (formed : is_form form ≡ true) where
             let few = offices in
             one_office (picked 111 form text) (omega (arith, long, few)) (picked_all is_ascii_digit 111 (λ b is. is) form text fit)
 
-  pub whole : (n : CaseNumber) → IsRead form text n → IsWhole n.office n.year n.kind n.digits n.initials
-  whole n r = rw (← r.same) (record {
-    office_is = its_office r.fit (tail form text);
-    year_is = its_year r.fit;
-    kind_is = small_letters (picked 107 form text) (its_kind r.fit);
-    five = five_length (digits form text) r.few;
-    all = five_all (digits form text) (all_prefix is_ascii_digit (rest form text));
-    initials_are = upper_initials (initials_in form (tail form text)) ∙ r.initials;
-    capitals = upper_again (initials_in form (tail form text));
-  })
+    pub whole : (n : CaseNumber) → IsRead form text n → IsWhole n.office n.year n.kind n.digits n.initials
+    whole n r = rw (← r.same) (record {
+      office_is = its_office (tail form text);
+      year_is = its_year;
+      kind_is = small_letters (picked 107 form text) its_kind;
+      five = five_length (digits form text) r.few;
+      all = five_all (digits form text) (all_prefix is_ascii_digit (rest form text));
+      initials_are = upper_initials (initials_in form (tail form text)) ∙ r.initials;
+      capitals = upper_again (initials_in form (tail form text));
+    })
 
 -- a text that is a case number in a form is read as it
-pub in_its_form : (form text : List ℕ) (n : CaseNumber) → Contains forms form → number_in form text ≡ Some n → number_read text ≡ Some n
-in_its_form form text n known says = ap (λ f. number_if f text) (form_is form text known (read_is form text n says).fit) ∙ says
+pub in_its_form : (form text : List ℕ) (n : CaseNumber) → Contains forms form → fits form text ≡ true → number_in form text ≡ Some n → number_read text ≡ Some n
+in_its_form form text n known fit says = ap (λ f. number_if f text) (form_is form text known fit) ∙ says
 
 pub spellings_are_read_lem : SpellingsAreRead
 unfolding case_read
-spellings_are_read_lem text n is = ap named_if (in_its_form is.form text n is.known is.says)
+spellings_are_read_lem text n is = ap named_if (in_its_form is.form text n is.known is.fit is.says)
+
+-- so is one that fits the first form that fits
+pub found_whole : (form text : List ℕ) (n : CaseNumber) → form_of text ≡ Some form → number_in form text ≡ Some n → IsWhole n.office n.year n.kind n.digits n.initials
+found_whole form text n found says = let (known, fit) = found_fits forms form text found in whole form text (is_form_of form known) fit n (read_is form text n says)

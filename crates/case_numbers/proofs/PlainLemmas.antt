@@ -1,5 +1,6 @@
 -- The bytes of a case number as it is shown: letters, digits, dashes and a colon.
-use Rattle.std.proofs.Common.{◌≡◌, ◌∙◌, inl, inr, ◌<◌, ◌==◌, ◌&&◌, ◌||◌, ℕ, Bool, true, false, not, cond, List, [], ◌∷◌, ◌++◌, Some, length, nat_eq, refl, sym, ap, arith}
+use Rattle.std.proofs.Common.{◌≡◌, ◌∙◌, inl, inr, ◌<◌, ◌≤◌, ◌==◌, ◌&&◌, ◌||◌, ℕ, Bool, true, false, not, cond, List, [], ◌∷◌, ◌++◌, Option, Some, None, length, nat_eq, nat_le, refl, sym, ap, arith}
+use Rattle.std.specs.Prelude.{if◌then◌else◌}
 use Rattle.std.proofs.lemmas.Bool.Decides.{nat_tests}
 use Rattle.std.proofs.lemmas.Grind.{common_steps}
 use Rattle.std.proofs.lemmas.List.Folds.{list_all-append}
@@ -9,9 +10,9 @@ use Rattle.std.proofs.lemmas.List.Elements.{All-cons, All-nil}
 use Rattle.std.specs.Char.{is_ascii_alphabetic, is_ascii_digit}
 use Rattle.std.specs.List.{list_all, prefix_len}
 use Rattle.std.specs.Str.{IsAscii}
-use Rattle.case_numbers.specs.Forms.{are_groups, are_initials}
-use Rattle.case_numbers.specs.Number.{CaseNumber, NameView, case_read, key_of}
-use Rattle.case_numbers.proofs.NumberLemmas.{IsWhole}
+use Rattle.case_numbers.specs.Forms.{are_groups, are_initials, form_of}
+use Rattle.case_numbers.specs.Number.{CaseNumber, NameView, case_read, has_office, is_whole, key_of, named, number_in, number_with, whole_number}
+use Rattle.case_numbers.proofs.NumberLemmas.{IsWhole, found_whole}
 use Rattle.case_numbers.proofs.ShownLemmas.{number_is, small_letter}
 
 pub plain : ℕ → Bool
@@ -78,7 +79,7 @@ office_plain : (d : ℕ) (rest : List ℕ) → is_ascii_digit d ≡ true → lis
 unfolding plain
 office_plain d rest is more = rw (is, more) (by (is_ascii_alphabetic d))
   where
-    by : (a : Bool) → (a || true || (d == 45) || (d == 58)) ≡ true
+    by : (a : Bool) → ((a || true || (d == 45) || (d == 58)) && true) ≡ true
     by true = refl
     by false = refl
 
@@ -89,7 +90,7 @@ plain_whole office year kind digits initials w =
     let part = part_plain w.year_is.first w.year_is.second w.kind_is.first w.kind_is.second (digits ++ initials) w.year_is.one w.year_is.two (small_letter w.kind_is.first w.kind_is.one) (small_letter w.kind_is.second w.kind_is.two) rest in
     elim w.office_is [
       | inl none ↦ rw (none, w.year_is.is, w.kind_is.is) part
-      | inr some ↦ rw (some.1, w.year_is.is, w.kind_is.is) (office_plain some.0 _ some.2 part)
+      | inr some ↦ rw (some.1, w.year_is.is, w.kind_is.is) (office_plain some.0 (w.year_is.first ∷ w.year_is.second ∷ 45 ∷ w.kind_is.first ∷ w.kind_is.second ∷ 45 ∷ (digits ++ initials)) some.2 part)
     ]
 
 pub plain_case : (text : List ℕ) (name : NameView) → case_read text ≡ Some name → list_all plain name.shown ≡ true
@@ -110,3 +111,20 @@ line_of_plain (b ∷ text) rest is = by (plain b) refl is (line_of_plain text re
         → prefix_len (λ b. not (nat_eq b 10)) ((b ∷ text) ++ 10 ∷ rest) ≡ length (b ∷ text)
     by true e h more = let m = more h in rw (plain_no_end b e) (omega (arith, m))
     by false e h more = cc h
+
+-- and is ASCII
+pub ascii_number : (form text digits office initials : List ℕ) → form_of text ≡ Some form → number_in form text ≡ whole_number form text digits office initials → is_whole form digits office initials ≡ true
+    → IsAscii (named (number_with form text digits office initials)).shown
+ascii_number form text digits office initials found is whole =
+    let n = number_with form text digits office initials in
+    let says : number_in form text ≡ Some n = is ∙ ap (λ (b : Bool). if b then Some n else None) whole in
+    plain_ascii (named n).shown (plain_whole n.office n.year n.kind n.digits n.initials (found_whole form text n found says))
+
+-- its parts
+pub few_digits : (form digits office initials : List ℕ) → is_whole form digits office initials ≡ true → length digits ≤ 5
+few_digits form digits office initials = by (nat_le 1 (length digits)) (nat_le (length digits) 5) refl
+  where
+    by : (some few : Bool) → nat_le (length digits) 5 ≡ few → (some && few && has_office form office && are_initials initials) ≡ true → length digits ≤ 5
+    by false few e h = cc h
+    by true false e h = cc h
+    by true true e h = grind (arith, nat_tests)

@@ -9,7 +9,7 @@ use Rattle.case_numbers.specs.Forms.{are_initials, dashed, fits, form_of, forms,
 use Rattle.case_numbers.specs.Number.{CaseNumber, IsSameCase, IsSpelling, NameView, case_read, five_digits, key_of, named, named_if, number_if, number_in, number_read, office_text}
 use Rattle.case_numbers.specs.Laws.{KeysTellCasesApart, ShownIsReadBack}
 use Rattle.case_numbers.proofs.FormLemmas.{found_fits}
-use Rattle.case_numbers.proofs.NumberLemmas.{IsWhole, in_its_form, is_form_of, is_small, read_is, whole}
+use Rattle.case_numbers.proofs.NumberLemmas.{IsWhole, found_whole, in_its_form, is_form_of, is_small, read_is, whole}
 use Rattle.case_numbers.proofs.PartLemmas.{IsPair, back, count_again, dashed_initials, front}
 
 -- a small letter is a letter, and stays
@@ -32,7 +32,7 @@ small_stays b is = by (is_ascii_alphabetic b) (to_ascii_lowercase b == b) refl i
 
 -- the parts of a case number, with its bytes by themselves
 module _ (y1 y2 k1 k2 : ℕ) (digits initials : List ℕ) (d1 : is_ascii_digit y1 ≡ true) (d2 : is_ascii_digit y2 ≡ true) (l1 : is_small k1 ≡ true) (l2 : is_small k2 ≡ true)
-  (five : length digits ≡ 5) (all : list_all is_ascii_digit digits ≡ true) (are : are_initials initials ≡ true) (capitals : map to_ascii_uppercase initials ≡ initials) where
+    (five : length digits ≡ 5) (all : list_all is_ascii_digit digits ≡ true) (are : are_initials initials ≡ true) (capitals : map to_ascii_uppercase initials ≡ initials) where
   abbrev text : List ℕ
   text = y1 ∷ y2 ∷ 45 ∷ k1 ∷ k2 ∷ 45 ∷ (digits ++ initials)
 
@@ -74,18 +74,18 @@ module _ (y1 y2 k1 k2 : ℕ) (digits initials : List ℕ) (d1 : is_ascii_digit y
   in_plain : number_in (codes "yy-kk-") text ≡ Some (number [])
   unfolding number_in
   in_plain =
-      rw (fits_again, count_again digits initials five all are, front digits initials five all are, back digits initials five all are, dashed_initials initials are, are, five, no_office, year_again, kind_again, capitals, small_stays k1 l1, small_stays k2 l2) refl
+      rw (count_again digits initials five all are, front digits initials five all are, back digits initials five all are, dashed_initials initials are, are, five, no_office, year_again, kind_again, capitals, small_stays k1 l1, small_stays k2 l2) refl
 
-  in_office : (d : ℕ) → is_ascii_digit d ≡ true → number_in (codes "o:yy-kk-") (d ∷ 58 ∷ text) ≡ Some (number (d ∷ []))
+  in_office : (d : ℕ) → number_in (codes "o:yy-kk-") (d ∷ 58 ∷ text) ≡ Some (number (d ∷ []))
   unfolding number_in
-  in_office d is =
-      rw (office_fits d is, count_again digits initials five all are, front digits initials five all are, back digits initials five all are, dashed_initials initials are, are, five, office_again d, office_year d, office_kind d, capitals, small_stays k1 l1, small_stays k2 l2) refl
+  in_office d =
+      rw (count_again digits initials five all are, front digits initials five all are, back digits initials five all are, dashed_initials initials are, are, five, office_again d, office_year d, office_kind d, capitals, small_stays k1 l1, small_stays k2 l2) refl
 
   read_plain : number_read text ≡ Some (number [])
-  read_plain = in_its_form (codes "yy-kk-") text (number []) (1, omega arith, refl) in_plain
+  read_plain = in_its_form (codes "yy-kk-") text (number []) (1, omega arith, refl) fits_again in_plain
 
   read_office : (d : ℕ) → is_ascii_digit d ≡ true → number_read (d ∷ 58 ∷ text) ≡ Some (number (d ∷ []))
-  read_office d is = in_its_form (codes "o:yy-kk-") (d ∷ 58 ∷ text) (number (d ∷ [])) (0, omega arith, refl) (in_office d is)
+  read_office d is = in_its_form (codes "o:yy-kk-") (d ∷ 58 ∷ text) (number (d ∷ [])) (0, omega arith, refl) (office_fits d is) (in_office d)
 
 pub whole_again : (office year kind digits initials : List ℕ) → IsWhole office year kind digits initials
     → number_read (key_of (record { office = office; year = year; kind = kind; digits = digits; initials = initials }) ++ initials) ≡ Some (record { office = office; year = year; kind = kind; digits = digits; initials = initials })
@@ -107,7 +107,7 @@ number_is text name h = by (form_of text) refl h
   where
     read : (form : List ℕ) → form_of text ≡ Some form → (n : Option CaseNumber) → number_in form text ≡ n → named_if n ≡ Some name → IsNumber name
     read form found None e h = cc h
-    read form found (Some n) e h = record { number = n; same = cc h; parts = whole form text (is_form_of form (found_fits forms form text found).0) n (read_is form text n e) }
+    read form found (Some n) e h = record { number = n; same = cc h; parts = found_whole form text n found e }
 
     by : (form : Option (List ℕ)) → form_of text ≡ form → named_if (number_if form text) ≡ Some name → IsNumber name
     by None e h = cc h
@@ -158,7 +158,7 @@ keys_apart m n w v same =
     ]
 
 spelled_whole : (text : List ℕ) (n : CaseNumber) → IsSpelling text n → Whole n
-spelled_whole text n is = whole is.form text (is_form_of is.form is.known) n (read_is is.form text n is.says)
+spelled_whole text n is = whole is.form text (is_form_of is.form is.known) is.fit n (read_is is.form text n is.says)
 
 pub keys_tell_cases_apart_lem : KeysTellCasesApart
 keys_tell_cases_apart_lem a b m n is other =

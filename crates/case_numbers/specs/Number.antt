@@ -54,19 +54,20 @@ number_with form text digits office initials = record {
   initials = map to_ascii_uppercase initials;
 }
 
--- one to five digits and what comes after them, in a text that fits a form
-abbrev pub tail_read : (form text digits tail : List ℕ) → Option CaseNumber
-tail_read form text digits tail =
-    let office = office_in form text tail in
-    let initials = initials_in form tail in
-    if nat_le 1 (length digits) && nat_le (length digits) 5 && has_office form office && are_initials initials then Some (number_with form text digits office initials) else None
+-- one to five digits, an office and initials
+abbrev pub is_whole : (form digits office initials : List ℕ) → Bool
+is_whole form digits office initials = nat_le 1 (length digits) && nat_le (length digits) 5 && has_office form office && are_initials initials
 
--- the case number that a text is in a form
+abbrev pub whole_number : (form text digits office initials : List ℕ) → Option CaseNumber
+whole_number form text digits office initials = if is_whole form digits office initials then Some (number_with form text digits office initials) else None
+
+-- the case number that a text is in a form that fits
 unfoldable pub number_in : (form text : List ℕ) → Option CaseNumber
 number_in form text =
     let rest = drop (length form) text in
     let count = prefix_len is_ascii_digit rest in
-    if fits form text then tail_read form text (take count rest) (drop count rest) else None
+    let tail = drop count rest in
+    whole_number form text (take count rest) (office_in form text tail) (initials_in form tail)
 
 abbrev pub number_if : Option (List ℕ) → (text : List ℕ) → Option CaseNumber
 number_if None text = None
@@ -87,6 +88,7 @@ case_read text = named_if (number_read text)
 pub record IsSpelling (text : List ℕ) (n : CaseNumber) : Type 0 where
   pub form : List ℕ
   pub known : Contains forms form
+  pub fit : fits form text ≡ true
   pub says : number_in form text ≡ Some n
 
 -- the same case, whatever the initials

@@ -1,5 +1,5 @@
 //! The forms in which courts write case numbers.
-ghost use Rattle.std.specs.Prelude.{◌≡◌, ◌≤◌, ◌++◌, length, option_map, true, IfOk, IfSome, OnOk};
+ghost use Rattle.std.specs.Prelude.{◌≡◌, ◌≤◌, ◌++◌, length, option_map, IfOk, OnOk};
 ghost use Rattle.std.specs.Char.{is_ascii_digit};
 ghost use Rattle.std.specs.List.{prefix_len};
 ghost use Rattle.case_numbers.specs.Forms.{fits, form_of, is_at, is_worded, office_of, picked};
@@ -33,8 +33,7 @@ fn fits(form: &[u8], text: &[u8]) -> bool
 
 /// The first form that fits a text: what comes before the number.
 pub(crate) fn form_of(text: &[u8]) -> Option<&'static [u8]>
-    ensures form { option_map (λ form. form.now) result ≡ form_of text.now }
-    ensures fits { IfSome result (λ form. fits form.now text.now ≡ true) }
+    ensures { option_map (λ form. form.now) result ≡ form_of text.now }
 {
     if fits(b"o:yy-kk-", text) {
         Some(b"o:yy-kk-")

@@ -11,9 +11,7 @@ mod names;
 mod texts;
 
 pub use cases::Cases;
-pub use laws::{
-    keys_tell_cases_apart, names_stay_apart, shown_is_read_back, spellings_are_read,
-};
+pub use laws::{keys_tell_cases_apart, names_stay_apart, shown_is_read_back, spellings_are_read};
 pub use name::{CaseName, case_read};
 pub use name_line::{after_name, name_before, push_name_line};
 pub use names::NamedCase;

@@ -3,8 +3,8 @@ ghost use Rattle.std.specs.Prelude.{◌≡◌, ◌≤◌, ◌++◌, ℕ, List, m
 ghost use Rattle.std.specs.Char.{to_ascii_uppercase};
 ghost use Rattle.std.specs.Str.{IsAscii};
 ghost use Rattle.std.specs.Char.{to_ascii_lowercase};
-ghost use Rattle.case_numbers.specs.Forms.{fits};
-ghost use Rattle.case_numbers.specs.Number.{NameView, case_read, five_digits, initials_in, key_of, named_if, number_in, number_with, office_in, office_text};
+ghost use Rattle.case_numbers.specs.Forms.{form_of};
+ghost use Rattle.case_numbers.specs.Number.{NameView, case_read, five_digits, has_office, initials_in, is_whole, key_of, named, named_if, number_in, number_with, office_in, office_text, whole_number};
 
 use crate::forms::{digits_before, form_of, is_worded, office_of, push_picked};
 use crate::initials::{are_initials, dashed};
@@ -61,24 +61,58 @@ pub fn case_read(alloc: Global, text: &[u8]) -> Result<Option<CaseName>, AllocEr
     }
 }
 
-// Reads a case number in a form that fits.
+// Reads a case number in the first form that fits.
 #[tactic(auto, unfolding(crate::specs::Number::number_in))]
 fn number_in(alloc: Global, form: &[u8], text: &[u8]) -> Result<Option<CaseName>, AllocError>
-    requires { fits form.now text.now ≡ true }
+    requires { form_of text.now ≡ Some form.now }
     ensures { IfOk result (λ name. name ≡ named_if (number_in form.now text.now)) }
 {
     let rest = text.split_at(form.len()).1;
-    let (digits, tail) = rest.split_at(digits_before(rest));
-    if digits.is_empty() || digits.len() > 5 {
-        return Ok(None);
-    }
+    let count = digits_before(rest);
+    let (digits, tail) = rest.split_at(count);
     let office = office_in(alloc, form, text, tail)?;
     let initials = initials_in(alloc, form, tail)?;
-    if (is_worded(form) && office.is_empty()) || !are_initials(initials.as_slice()) {
+    whole_number(
+        alloc,
+        form,
+        text,
+        digits,
+        office.as_slice(),
+        initials.as_slice(),
+    )
+}
+
+// Whether a form has an office, in the word after its number if it needs one.
+fn has_office(form: &[u8], office: &[u8]) -> bool
+    ensures { result ≡ has_office form.now office.now }
+{
+    !(is_worded(form) && office.is_empty())
+}
+
+// Whether these are one to five digits, an office and initials.
+fn is_whole(form: &[u8], digits: &[u8], office: &[u8], initials: &[u8]) -> bool
+    ensures { result ≡ is_whole form.now digits.now office.now initials.now }
+{
+    1 <= digits.len() && digits.len() <= 5 && has_office(form, office) && are_initials(initials)
+}
+
+// The case number with these parts, if they are whole.
+fn whole_number(
+    alloc: Global,
+    form: &[u8],
+    text: &[u8],
+    digits: &[u8],
+    office: &[u8],
+    initials: &[u8],
+) -> Result<Option<CaseName>, AllocError>
+    requires { is_whole form.now digits.now office.now initials.now ≡ true → IsAscii (named (number_with form.now text.now digits.now office.now initials.now)).shown }
+    ensures { IfOk result (λ name. name ≡ named_if (whole_number form.now text.now digits.now office.now initials.now)) }
+{
+    if !is_whole(form, digits, office, initials) {
         return Ok(None);
     }
-    let key = key_of(alloc, office.as_slice(), form, text, digits)?;
-    named(alloc, key, initials.as_slice())
+    let key = key_of(alloc, office, form, text, digits)?;
+    named(alloc, key, initials)
 }
 
 // The office that a text says that fits a form: its digit, or nothing.
