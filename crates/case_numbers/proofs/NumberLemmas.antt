@@ -1,5 +1,5 @@
 -- A case number that was read, and as it is shown.
-use Rattle.std.proofs.Common.{◌≡◌, ◌⊎◌, inl, inr, ◌∙◌, ◌+◌, ◌≤◌, ◌==◌, ◌&&◌, ℕ, Bool, true, false, not, cond, List, [], ◌∷◌, ◌++◌, Option, Some, None, codes, drop, take, length, map, nat_eq, nat_le, refl, sym, ap, arith}
+use Rattle.std.proofs.Common.{◌≡◌, ◌⊎◌, inl, inr, ◌∙◌, ◌+◌, ◌≤◌, ◌==◌, ◌&&◌, ℕ, suc, Bool, true, false, not, cond, List, [], ◌∷◌, ◌++◌, Option, Some, None, codes, drop, take, length, map, nat_eq, nat_le, refl, sym, ap, arith}
 use Rattle.std.specs.Prelude.{◌↔◌, Contains, find, if◌then◌else◌}
 use Rattle.std.proofs.lemmas.Bool.Decides.{nat_tests}
 use Rattle.std.proofs.lemmas.Grind.{common_steps}
@@ -167,3 +167,32 @@ spellings_are_read_lem text n is = ap named_if (in_its_form is.form text n is.kn
 -- so is one that fits the first form that fits
 pub found_whole : (form text : List ℕ) (n : CaseNumber) → form_of text ≡ Some form → number_in form text ≡ Some n → IsWhole n.office n.year n.kind n.digits n.initials
 found_whole form text n found says = let (known, fit) = found_fits forms form text found in whole form text (is_form_of form known) fit n (read_is form text n says)
+
+-- a text of digits fits no form, since each has a kind
+no_kind : (form text : List ℕ) → list_all is_ascii_digit text ≡ true → fits form text ≡ true → count_in 107 form ≡ 0
+unfolding fits
+no_kind [] text all fit = refl
+no_kind (l ∷ form) [] all fit = cc fit
+no_kind (l ∷ form) (b ∷ text) all fit = by (l == 107) refl (is_ascii_digit b) refl (is_at l b) refl all fit (no_kind form text)
+  where
+    by : (kind : Bool) → (l == 107) ≡ kind → (digit : Bool) → is_ascii_digit b ≡ digit → (at : Bool) → is_at l b ≡ at → (digit && list_all is_ascii_digit text) ≡ true → (at && fits form text) ≡ true
+        → (list_all is_ascii_digit text ≡ true → fits form text ≡ true → count_in 107 form ≡ 0) → cond kind (suc (count_in 107 form)) (count_in 107 form) ≡ 0
+    by kind e false d at a all fit more = cc all
+    by kind e true d false a all fit more = cc fit
+    by false e true d true a all fit more = more all fit
+    by true e true d true a all fit more =
+        let same : l ≡ 107 = grind (arith, nat_tests) in
+        let letter : is_ascii_alphabetic b ≡ true = ap (λ n. is_at n b) (sym same) ∙ a in
+        absurd (grind (arith, nat_tests, common_steps))
+
+pub digits_no_case : (text : List ℕ) → list_all is_ascii_digit text ≡ true → case_read text ≡ None
+unfolding case_read
+digits_no_case text all = by (form_of text) refl
+  where
+    by : (form : Option (List ℕ)) → form_of text ≡ form → named_if (number_if form text) ≡ None
+    by None e = refl
+    by (Some form) e =
+        let (known, fit) = found_fits forms form text e in
+        let two = kinds form text (is_form_of form known) in
+        let none = no_kind form text all fit in
+        absurd (omega (arith, two, none))
