@@ -1,10 +1,9 @@
 -- Numbers that are read have the digits of their fields.
-use Rattle.std.proofs.Common.{◌≡◌, ◌∙◌, ◌==◌, ◌&&◌, ℕ, Bool, true, false, List, [], ◌∷◌, length, refl, sym, ap, arith}
+use Rattle.std.proofs.Common.{◌≡◌, ◌∙◌, ◌==◌, ◌&&◌, ℕ, Bool, true, false, List, [], length, refl, sym, ap}
 use Rattle.std.specs.Prelude.{Option, Some, None, codes, nat_eq, if◌then◌else◌}
-use Rattle.std.specs.Char.{is_ascii_alphabetic, is_ascii_digit}
+use Rattle.std.specs.Char.{is_ascii_digit}
 use Rattle.std.specs.List.{list_all, list_any, starts_with}
 use Rattle.std.specs.Str.{bytes_eq}
-use Rattle.std.proofs.lemmas.Bool.Decides.{nat_tests}
 use Rattle.std.proofs.lemmas.Slice.Eq.{bytes_eq-Decides}
 use Rattle.case_numbers.specs.Words.{NameView, case_read}
 use Rattle.case_numbers.proofs.CallerLemmas.{digits_no_case, shown_is_read_back_lem}
@@ -36,11 +35,7 @@ said_if : (so : Bool) (text plain : List ℕ) → clear_if so text ≡ Clear pla
 said_if true text plain is = sym (same_text text plain is)
 said_if false text plain is = cc is
 
--- a test of two has both
-first_of : (a b : Bool) → (a && b) ≡ true → a ≡ true
-first_of true b is = refl
-first_of false b is = cc is
-
+-- a test of two has the second
 second_of : (a b : Bool) → (a && b) ≡ true → b ≡ true
 second_of true b is = is
 second_of false b is = cc is
