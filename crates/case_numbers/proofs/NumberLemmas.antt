@@ -1,17 +1,15 @@
 -- A case number that was read, and as it is shown.
-use Rattle.std.proofs.Common.{◌≡◌, ◌⊎◌, inl, inr, ◌∙◌, ◌+◌, ◌≤◌, ◌==◌, ◌&&◌, ℕ, suc, Bool, true, false, not, cond, List, [], ◌∷◌, ◌++◌, Option, Some, None, codes, drop, take, length, map, nat_eq, nat_le, refl, sym, ap, arith}
-use Rattle.std.specs.Prelude.{◌↔◌, Contains, find, if◌then◌else◌}
+use Rattle.std.proofs.Common.{◌≡◌, ◌⊎◌, inl, inr, ◌∙◌, ◌≤◌, ◌==◌, ◌&&◌, ℕ, suc, Bool, true, false, cond, List, [], ◌∷◌, Option, Some, None, codes, drop, take, length, map, nat_eq, nat_le, refl, sym, ap, arith}
+use Rattle.std.specs.Prelude.{Contains}
 use Rattle.std.proofs.lemmas.Bool.Decides.{nat_tests}
 use Rattle.std.proofs.lemmas.Grind.{common_steps}
-use Rattle.std.proofs.lemmas.List.{length-map}
-use Rattle.std.proofs.lemmas.Str.Ascii.{lowercase-lowercase}
 use Rattle.std.specs.Char.{is_ascii_alphabetic, is_ascii_digit, to_ascii_lowercase, to_ascii_uppercase}
 use Rattle.std.specs.List.{list_all, prefix_len, starts_with}
-use Rattle.case_numbers.specs.Forms.{are_initials, dashed, fits, form_of, forms, is_at, is_worded, office_of, picked}
-use Rattle.case_numbers.specs.Number.{CaseNumber, IsSameCase, IsSpelling, NameView, case_read, five_digits, has_office, initials_in, key_of, named, named_if, number_if, number_in, number_read, number_with, office_in, office_text}
-use Rattle.case_numbers.specs.Laws.{KeysTellCasesApart, ShownIsReadBack, SpellingsAreRead}
+use Rattle.case_numbers.specs.Forms.{are_initials, fits, form_of, forms, is_at, is_worded, office_of, picked}
+use Rattle.case_numbers.specs.Number.{CaseNumber, case_read, has_office, initials_in, named_if, number_if, number_in, number_read, number_with, office_in}
+use Rattle.case_numbers.specs.Laws.{SpellingsAreRead}
 use Rattle.case_numbers.proofs.FormLemmas.{all_contains, count_in, form_is, found_fits, picked_all, picked_length}
-use Rattle.case_numbers.proofs.PartLemmas.{IsPair, all_prefix, back, count_again, dashed_initials, five_again, five_all, five_length, front, pair_of, upper_again, upper_initials}
+use Rattle.case_numbers.proofs.PartLemmas.{IsPair, all_prefix, five_all, five_length, pair_of, upper_again, upper_initials}
 
 -- what a text says in a form
 module _ (form text : List ℕ) where

@@ -1,5 +1,5 @@
 -- The bytes of a case number as it is shown: letters, digits, dashes and a colon.
-use Rattle.std.proofs.Common.{◌≡◌, ◌∙◌, inl, inr, ◌<◌, ◌≤◌, ◌==◌, ◌&&◌, ◌||◌, ℕ, Bool, true, false, not, cond, List, [], ◌∷◌, ◌++◌, Option, Some, None, length, nat_eq, nat_le, refl, sym, ap, arith}
+use Rattle.std.proofs.Common.{◌≡◌, ◌∙◌, inl, inr, ◌<◌, ◌≤◌, ◌==◌, ◌&&◌, ◌||◌, ℕ, Bool, true, false, not, cond, List, [], ◌∷◌, ◌++◌, Some, None, length, nat_eq, nat_le, refl, sym, ap, arith}
 use Rattle.std.specs.Prelude.{if◌then◌else◌}
 use Rattle.std.proofs.lemmas.Bool.Decides.{nat_tests}
 use Rattle.std.proofs.lemmas.Grind.{common_steps}
@@ -11,7 +11,7 @@ use Rattle.std.specs.Char.{is_ascii_alphabetic, is_ascii_digit}
 use Rattle.std.specs.List.{list_all, prefix_len}
 use Rattle.std.specs.Str.{IsAscii}
 use Rattle.case_numbers.specs.Forms.{are_groups, are_initials, form_of}
-use Rattle.case_numbers.specs.Number.{CaseNumber, NameView, case_read, has_office, is_whole, key_of, named, number_in, number_with, whole_number}
+use Rattle.case_numbers.specs.Number.{NameView, case_read, has_office, is_whole, key_of, named, number_in, number_with, whole_number}
 use Rattle.case_numbers.proofs.NumberLemmas.{IsWhole, found_whole}
 use Rattle.case_numbers.proofs.ShownLemmas.{number_is, small_letter}
 

@@ -1,16 +1,13 @@
 -- A case number as it is shown, read again.
-use Rattle.std.proofs.Common.{◌≡◌, ◌⊎◌, inl, inr, ◌∙◌, ◌+◌, ◌≤◌, ◌==◌, ◌&&◌, ℕ, Bool, true, false, true≢false, List, [], ◌∷◌, ◌++◌, Option, Some, None, codes, drop, take, length, map, nat_eq, refl, sym, ap, arith}
-use Rattle.std.specs.Prelude.{◌↔◌, Contains, find}
+use Rattle.std.proofs.Common.{◌≡◌, inl, inr, ◌∙◌, ◌==◌, ◌&&◌, ℕ, Bool, true, false, List, [], ◌∷◌, ◌++◌, Option, Some, None, codes, length, map, refl, sym, ap, arith}
 use Rattle.std.proofs.lemmas.Bool.Decides.{nat_tests}
-use Rattle.std.proofs.lemmas.Grind.{common_steps}
 use Rattle.std.specs.Char.{is_ascii_alphabetic, is_ascii_digit, to_ascii_lowercase, to_ascii_uppercase}
-use Rattle.std.specs.List.{list_all, prefix_len}
-use Rattle.case_numbers.specs.Forms.{are_initials, dashed, fits, form_of, forms, is_at, picked}
-use Rattle.case_numbers.specs.Number.{CaseNumber, IsSameCase, IsSpelling, NameView, case_read, five_digits, key_of, named, named_if, number_if, number_in, number_read, office_text}
+use Rattle.std.specs.List.{list_all}
+use Rattle.case_numbers.specs.Forms.{are_initials, fits, form_of, picked}
+use Rattle.case_numbers.specs.Number.{CaseNumber, IsSameCase, IsSpelling, NameView, case_read, key_of, named, named_if, number_if, number_in, number_read}
 use Rattle.case_numbers.specs.Laws.{KeysTellCasesApart, ShownIsReadBack}
-use Rattle.case_numbers.proofs.FormLemmas.{found_fits}
 use Rattle.case_numbers.proofs.NumberLemmas.{IsWhole, found_whole, in_its_form, is_form_of, is_small, read_is, whole}
-use Rattle.case_numbers.proofs.PartLemmas.{IsPair, back, count_again, dashed_initials, front}
+use Rattle.case_numbers.proofs.PartLemmas.{back, count_again, dashed_initials, front}
 
 -- a small letter is a letter, and stays
 pub small_letter : (b : ℕ) → is_small b ≡ true → is_ascii_alphabetic b ≡ true

@@ -1,6 +1,4 @@
-use Rattle.std.proofs.Common.{◌≡◌, ◌∙◌, ap, drop, length, refl, sym, take}
-use Rattle.std.specs.Char.{is_ascii_digit}
-use Rattle.std.specs.List.{prefix_len}
+use Rattle.std.proofs.Common.{◌≡◌, refl}
 use Rattle.case_numbers.specs.Forms.{forms}
 use Rattle.case_numbers.specs.Number.{number_in, whole_number}
 use Rattle.case_numbers.proofs.FormLemmas.{fits_within, found_fits}
