@@ -1,4 +1,4 @@
-//! What the program does while no other one has the folder's journal open, but for entering rows.
+//! What the program does while no other one has the folder, but for entering rows.
 ghost use Rattle.std.specs.Prelude.{◌≡◌, ◌<◌, ◌≤◌, ◌++◌, codes, length, false, string_bytes, IfOk, OnOk};
 ghost use Rattle.court_clock.specs.Words.{day_text};
 ghost use Rattle.desk_register.specs.declared.standing.Standing.{Standing};
@@ -9,20 +9,39 @@ ghost use Rattle.program_streams.specs.Words.{has_failed, watched};
 
 use crate::fault::Fault;
 use crate::folder::{end_desk, make_folder, opened, read_file, remove_spare, stamp_now, sync_made};
-use crate::journal_file::{check_place, journal_name};
+use crate::journal_file::{check_place, find_own_journal, journal_name};
+use crate::lock::{FolderLock, take_lock};
+use crate::shared_file::share;
 use court_clock::Day;
 use court_days::Court;
-use desk_program::{Desk, DeskFault, RowCorrection, StrikingFault, check_court, open_file};
+use desk_program::{
+    Desk, DeskFault, FileFault, RowCorrection, StrikingFault, check_court, file_fault, open_file,
+};
 use desk_session::account_of;
 use program_main::today_by;
 use program_streams::Watched;
-use program_words::Correcting;
+use program_words::{Changing, Correcting};
 use sqlite_disk::Disk;
 use sqlite_std_file::Wary;
 use std::alloc::{AllocError, Global};
 use std::io::Write;
 use std::sync::Wait;
 use std::thread::Threads;
+
+// Lets those use a folder's journal who may use the folder.
+fn shared(rt: &HostRuntime, folder: &str, journal: &str) -> Result<(), FileFault> {
+    match share(rt, folder, journal) {
+        Ok(()) => Ok(()),
+        Err(error) => Err(file_fault(rt.alloc(), journal, error)),
+    }
+}
+
+// The lock of a folder that has a journal.
+fn lock_of(rt: &HostRuntime, folder: &str, wait: u32) -> Result<FolderLock, Fault> {
+    let name = journal_name(rt.alloc(), folder)?;
+    find_own_journal(rt, name.as_str())?;
+    take_lock(rt, folder, wait)
+}
 
 /// Makes a folder with a court's file as the first entry of its journal, and has the disk keep it. A file with a fault makes no
 /// folder.
@@ -37,6 +56,7 @@ pub fn init(rt: &HostRuntime, folder: &str, court: &str) -> Result<(), Fault> {
     match Desk::begin(rt.alloc(), disk, file, stamp) {
         Ok(_) => {
             remove_spare(rt, folder);
+            shared(rt, folder, name.as_str())?;
             Ok(sync_made(rt, folder)?)
         }
         Err((fault, disk)) => {
@@ -140,6 +160,7 @@ pub fn correct<H: Threads + Wait + Sync, W: Write>(
     requires { has_failed writer.old ≡ false }
 {
     let account = account_of(rt)?;
+    let lock = lock_of(rt, folder, correcting.wait)?;
     let (mut desk, entries) = opened(rt, threads, folder, Wary)?;
     let ended = corrected(
         rt.alloc(),
@@ -151,6 +172,7 @@ pub fn correct<H: Threads + Wait + Sync, W: Write>(
         correcting,
     );
     end_desk(rt, folder, desk);
+    drop(lock);
     Ok(ended?)
 }
 
@@ -161,14 +183,15 @@ pub fn change<H: Threads + Wait + Sync, W: Write>(
     threads: &H,
     writer: &mut Watched<W>,
     folder: &str,
-    court: &str,
-    accept: bool,
+    changing: &Changing,
 ) -> Result<(), Fault>
     requires { has_failed writer.old ≡ false }
 {
-    let file = read_file(rt, court)?;
+    let file = read_file(rt, changing.file.as_str())?;
+    let lock = lock_of(rt, folder, changing.wait)?;
     let (mut desk, entries) = opened(rt, threads, folder, Wary)?;
-    let ended = desk.change(rt.alloc(), &entries, &file, accept, writer);
+    let ended = desk.change(rt.alloc(), &entries, &file, changing.accept, writer);
     end_desk(rt, folder, desk);
+    drop(lock);
     Ok(ended?)
 }

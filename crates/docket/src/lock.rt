@@ -1,0 +1,136 @@
+//! The lock of a folder. A program has it while it has the folder's journal open; the others wait.
+ghost use Rattle.std.specs.Prelude.{◌≡◌, string_bytes, IfOk};
+ghost use Rattle.docket.specs.Lock.{lock_name, unlocked_line, waited_line};
+
+use crate::fault::Fault;
+use crate::place::{Place, is_replaced, place_in};
+use crate::shared_file::new_file;
+use desk_program::{FileFault, file_fault};
+use std::alloc::{AllocError, Global};
+use std::fs::{File, TryLockError};
+use std::io::ErrorKind;
+use std::thread;
+use std::time::{Duration, Instant};
+
+// How long a program pauses before it asks again: shortly at first, since a turn is short.
+const SHORT_PAUSE: u64 = 100;
+
+const LONG_PAUSE: u64 = 2_000;
+
+// How often it pauses shortly.
+const SHORT_PAUSES: u64 = 200;
+
+/// The lock of a folder, which this program has until the value is dropped.
+#[derive(Drop)]
+pub struct FolderLock {
+    file: File,
+}
+
+// The name of the file whose lock is the folder's.
+fn lock_name(alloc: Global, folder: &str) -> Result<String, AllocError>
+    ensures { IfOk result (λ name. string_bytes name ≡ lock_name folder.now) }
+{
+    format!(in alloc; "{folder}/lock")
+}
+
+// What is said where the lock didn't come in time.
+fn waited_line(alloc: Global, folder: &str, wait: u32) -> Result<String, AllocError>
+    ensures { IfOk result (λ line. string_bytes line ≡ waited_line folder.now wait) }
+{
+    format!(in alloc;
+        "other programs had {folder} for {wait} seconds, so nothing was written: try again, or wait longer with --wait\n"
+    )
+}
+
+// What is said where the file system keeps no locks.
+fn unlocked_line(alloc: Global, folder: &str) -> Result<String, AllocError>
+    ensures { IfOk result (λ line. string_bytes line ≡ unlocked_line folder.now) }
+{
+    format!(in alloc;
+        "the file system of {folder} doesn't keep locks apart, so programs can't share the folder: move it to a disk of this machine\n"
+    )
+}
+
+// The lock's file, open to be locked, unless it was taken away meanwhile.
+fn reopened(rt: &HostRuntime, name: &str) -> Result<Option<File>, FileFault> {
+    match File::options().read(true).write(true).open(rt, name) {
+        Ok(file) => Ok(Some(file)),
+        Err(error) if error.kind() == ErrorKind::NotFound => Ok(None),
+        Err(error) => Err(file_fault(rt.alloc(), name, error)),
+    }
+}
+
+// The lock's file, open to be locked, which is made where there is none; nothing where another program makes it now.
+fn lock_file(rt: &HostRuntime, folder: &str, name: &str) -> Result<Option<File>, FileFault> {
+    match reopened(rt, name)? {
+        Some(file) => Ok(Some(file)),
+        None => new_file(rt, folder, name),
+    }
+}
+
+// Whether a file that is open is the one at its name.
+fn is_at(rt: &HostRuntime, name: &str, file: &File) -> bool {
+    match place_in(file) {
+        Ok(place) => !is_replaced(rt, name, place),
+        Err(_) => false,
+    }
+}
+
+// The lock, if no other program has it.
+fn try_lock(rt: &HostRuntime, folder: &str, name: &str) -> Result<Option<FolderLock>, FileFault> {
+    let Some(file) = lock_file(rt, folder, name)? else {
+        return Ok(None);
+    };
+    match file.try_lock() {
+        Ok(()) if is_at(rt, name, &file) => Ok(Some(FolderLock { file })),
+        Ok(()) => Ok(None),
+        Err(TryLockError::WouldBlock) => Ok(None),
+        Err(TryLockError::Error(error)) => Err(file_fault(rt.alloc(), name, error)),
+    }
+}
+
+// Whether so many seconds have passed since then; so it is where the clock can't be read.
+fn has_passed(rt: &HostRuntime, since: Option<Instant>, wait: u32) -> bool {
+    match since {
+        Some(since) => match since.elapsed(rt) {
+            Ok(elapsed) => elapsed.as_secs() >= u64::from(wait),
+            Err(_) => true,
+        },
+        None => true,
+    }
+}
+
+// How long the pause after so many is.
+fn pause_after(pauses: u64) -> Duration {
+    if pauses < SHORT_PAUSES {
+        Duration::from_micros(SHORT_PAUSE)
+    } else {
+        Duration::from_micros(LONG_PAUSE)
+    }
+}
+
+/// Takes the lock of a folder. Where other programs have it for so many seconds, it isn't taken, and the fault says so.
+pub fn take_lock(rt: &HostRuntime, folder: &str, wait: u32) -> Result<FolderLock, Fault> {
+    let name = lock_name(rt.alloc(), folder)?;
+    let since = Instant::now(rt).ok();
+    for pauses in 0..u64::MAX {
+        if let Some(lock) = try_lock(rt, folder, name.as_str())? {
+            return Ok(lock);
+        }
+        if has_passed(rt, since, wait) {
+            break;
+        }
+        thread::sleep(rt, pause_after(pauses));
+    }
+    Err(Fault::Waited(waited_line(rt.alloc(), folder, wait)?))
+}
+
+/// Looks whether a second program would be kept from a lock that this one has. Where it wouldn't, the file system keeps no locks, and the
+/// folder can't be shared.
+pub fn check_lock(rt: &HostRuntime, folder: &str, _lock: &FolderLock) -> Result<(), Fault> {
+    let name = lock_name(rt.alloc(), folder)?;
+    match try_lock(rt, folder, name.as_str())? {
+        None => Ok(()),
+        Some(_) => Err(Fault::Unusable(unlocked_line(rt.alloc(), folder)?)),
+    }
+}
