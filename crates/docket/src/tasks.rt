@@ -28,15 +28,15 @@ pub fn done<H: Threads + Wait + Sync, W: Write, E: Write>(
 {
     match task {
         Task::Init(folder, court) => init(rt, folder.as_str(), court.as_str())?,
-        Task::Enter(folder, lines, held_back, keeping) => enter(
+        Task::Enter(folder, entering) => enter(
             rt,
             threads,
             writer,
             errors,
             folder.as_str(),
-            *lines,
-            *held_back,
-            *keeping,
+            entering.lines,
+            entering.held_back,
+            entering.keeping,
         )?,
         Task::Try(folder, lines, held_back) => {
             try_rows(
@@ -84,9 +84,14 @@ pub fn done<H: Threads + Wait + Sync, W: Write, E: Write>(
         Task::Memo(source, asked) => memo(rt, threads, writer, source, asked)?,
         Task::CourtCheck(file, asked) => return check_file(rt, writer, file.as_str(), asked),
         Task::CourtWrite(court, from, to) => write_file(rt.alloc(), writer, *court, *from, *to)?,
-        Task::CourtChange(folder, file, accept) => {
-            change(rt, threads, writer, folder.as_str(), file.as_str(), *accept)?
-        }
+        Task::CourtChange(folder, changing) => change(
+            rt,
+            threads,
+            writer,
+            folder.as_str(),
+            changing.file.as_str(),
+            changing.accept,
+        )?,
     }
     Ok(0)
 }

@@ -4,12 +4,12 @@ ghost use Rattle.std.specs.Prelude.{◌≡◌, codes, IfOk, ℤ};
 ghost use Rattle.clap.specs.Words.{Text, first_of, found_of, rows_of};
 ghost use Rattle.program_main.specs.Options.Words.{IsAnswerFor};
 ghost use Rattle.program_words.specs.declared.subcommand.Subcommand.{Subcommand};
-ghost use Rattle.program_words.specs.Task.{IsTask, beside_faults, faults_given, held_back_faults, held_back_of, keeping_faults, keeping_of, lines_faults, lines_of, style_faults, style_of};
+ghost use Rattle.program_words.specs.Task.{IsEntering, IsTask, beside_faults, entering_faults, faults_given, held_back_faults, held_back_of, keeping_faults, keeping_of, lines_faults, lines_of, style_faults, style_of};
 
 use crate::as_of::as_of_in;
 use crate::given::{beside, both, has_flag, is_given, needed};
-use crate::task::{Keeping, Lines, Style, Task};
-use crate::values::{day_if_given, order_in};
+use crate::task::{Entering, Keeping, Lines, Style, Task};
+use crate::values::{day_if_given, order_in, wait_in};
 use clap::ArgMatches;
 use court_clock::Instant;
 use desk_warnings::HeldBack;
@@ -91,19 +91,34 @@ fn keeping_in(alloc: Global, given: &ArgMatches<'_>) -> Result<Keeping, OptionsF
     }
 }
 
+/// How rows are entered.
+fn entering_in(alloc: Global, given: &ArgMatches<'_>) -> Result<Entering, OptionsFault>
+    ensures entering { IfOk result (IsEntering (rows_of (found_of given.now))) }
+    ensures faults { IsAnswerFor (entering_faults (rows_of (found_of given.now))) result }
+{
+    let rows = both(
+        lines_in(alloc, given),
+        both(held_back_in(alloc, given), keeping_in(alloc, given)),
+    );
+    let ((lines, (held_back, keeping)), wait) = both(rows, wait_in(alloc, given))?;
+    Ok(Entering {
+        lines,
+        held_back,
+        keeping,
+        wait,
+    })
+}
+
 /// Rows that are kept.
 pub(crate) fn enter(alloc: Global, given: &ArgMatches<'_>) -> Result<Task, OptionsFault>
     ensures task { (clock_time : ℤ) (name : Text) → IfOk result (IsTask clock_time Subcommand.Enter name (rows_of (found_of given.now))) }
     ensures faults { IsAnswerFor (faults_given Subcommand.Enter (rows_of (found_of given.now))) result }
 {
-    let (folder, (lines, (held_back, keeping))) = both(
+    let (folder, entering) = both(
         needed(alloc, given, "folder", "<FOLDER>"),
-        both(
-            lines_in(alloc, given),
-            both(held_back_in(alloc, given), keeping_in(alloc, given)),
-        ),
+        entering_in(alloc, given),
     )?;
-    Ok(Task::Enter(folder, lines, held_back, keeping))
+    Ok(Task::Enter(folder, entering))
 }
 
 /// Rows that are answered and not kept.

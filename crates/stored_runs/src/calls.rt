@@ -122,9 +122,9 @@ fn opened(
     requires few { length entries.now ≤ 1000000 }
 {
     let ended = match task {
-        Task::Enter(_, _, held_back, keeping) => {
-            desk.hold_back(*held_back);
-            entered(alloc, &mut desk, *keeping, input, writer, errors)
+        Task::Enter(_, entering) => {
+            desk.hold_back(entering.held_back);
+            entered(alloc, &mut desk, entering.keeping, input, writer, errors)
         }
         Task::Try(_, _, held_back) => {
             desk.hold_back(*held_back);
@@ -150,8 +150,8 @@ fn opened(
                 writer,
             )
         }
-        Task::CourtChange(_, _, accept) => {
-            changed(alloc, &mut desk, entries, input, *accept, writer)
+        Task::CourtChange(_, changing) => {
+            changed(alloc, &mut desk, entries, input, changing.accept, writer)
         }
         Task::Cases(_, _) => {
             let disk = desk.into_disk();
