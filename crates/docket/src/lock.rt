@@ -8,14 +8,14 @@ use crate::shared_file::new_file;
 use desk_program::{FileFault, file_fault};
 use std::alloc::{AllocError, Global};
 use std::fs::{File, TryLockError};
-use std::io::ErrorKind;
+use std::io::{self, ErrorKind};
 use std::thread;
 use std::time::{Duration, Instant};
 
 // How long a program pauses before it asks again: shortly at first, since a turn is short.
 const SHORT_PAUSE: u64 = 100;
 
-const LONG_PAUSE: u64 = 2_000;
+const LONG_PAUSE: u64 = 1_000;
 
 // How often it pauses shortly.
 const SHORT_PAUSES: u64 = 200;
@@ -76,19 +76,6 @@ fn is_at(rt: &HostRuntime, name: &str, file: &File) -> bool {
     }
 }
 
-// The lock, if no other program has it.
-fn try_lock(rt: &HostRuntime, folder: &str, name: &str) -> Result<Option<FolderLock>, FileFault> {
-    let Some(file) = lock_file(rt, folder, name)? else {
-        return Ok(None);
-    };
-    match file.try_lock() {
-        Ok(()) if is_at(rt, name, &file) => Ok(Some(FolderLock { file })),
-        Ok(()) => Ok(None),
-        Err(TryLockError::WouldBlock) => Ok(None),
-        Err(TryLockError::Error(error)) => Err(file_fault(rt.alloc(), name, error)),
-    }
-}
-
 // Whether so many seconds have passed since then; so it is where the clock can't be read.
 fn has_passed(rt: &HostRuntime, since: Option<Instant>, wait: u32) -> bool {
     match since {
@@ -109,18 +96,60 @@ fn pause_after(pauses: u64) -> Duration {
     }
 }
 
-/// Takes the lock of a folder. Where other programs have it for so many seconds, it isn't taken, and the fault says so.
-pub fn take_lock(rt: &HostRuntime, folder: &str, wait: u32) -> Result<FolderLock, Fault> {
-    let name = lock_name(rt.alloc(), folder)?;
-    let since = Instant::now(rt).ok();
+// Whether the lock of a file that is open comes within so many seconds.
+fn comes(rt: &HostRuntime, file: &File, since: Option<Instant>, wait: u32) -> io::Result<bool> {
     for pauses in 0..u64::MAX {
-        if let Some(lock) = try_lock(rt, folder, name.as_str())? {
-            return Ok(lock);
+        match file.try_lock() {
+            Ok(()) => return Ok(true),
+            Err(TryLockError::WouldBlock) => {}
+            Err(TryLockError::Error(error)) => return Err(error),
         }
         if has_passed(rt, since, wait) {
             break;
         }
         thread::sleep(rt, pause_after(pauses));
+    }
+    Ok(false)
+}
+
+// What came of waiting for a lock.
+#[derive(Drop)]
+enum Waited {
+    Taken(FolderLock),
+    // The lock's file was made or taken away by another program meanwhile.
+    Again,
+    TooLong,
+}
+
+// Waits for the lock of a folder, so many seconds from then on.
+fn wait_for(
+    rt: &HostRuntime,
+    folder: &str,
+    name: &str,
+    since: Option<Instant>,
+    wait: u32,
+) -> Result<Waited, FileFault> {
+    let Some(file) = lock_file(rt, folder, name)? else {
+        return Ok(Waited::Again);
+    };
+    match comes(rt, &file, since, wait) {
+        Ok(true) if is_at(rt, name, &file) => Ok(Waited::Taken(FolderLock { file })),
+        Ok(true) => Ok(Waited::Again),
+        Ok(false) => Ok(Waited::TooLong),
+        Err(error) => Err(file_fault(rt.alloc(), name, error)),
+    }
+}
+
+/// Takes the lock of a folder. Where other programs have it for so many seconds, it isn't taken, and the fault says so.
+pub fn take_lock(rt: &HostRuntime, folder: &str, wait: u32) -> Result<FolderLock, Fault> {
+    let name = lock_name(rt.alloc(), folder)?;
+    let since = Instant::now(rt).ok();
+    for _ in 0..u64::MAX {
+        match wait_for(rt, folder, name.as_str(), since, wait)? {
+            Waited::Taken(lock) => return Ok(lock),
+            Waited::Again => {}
+            Waited::TooLong => break,
+        }
     }
     Err(Fault::Waited(waited_line(rt.alloc(), folder, wait)?))
 }
@@ -129,8 +158,8 @@ pub fn take_lock(rt: &HostRuntime, folder: &str, wait: u32) -> Result<FolderLock
 /// folder can't be shared.
 pub fn check_lock(rt: &HostRuntime, folder: &str, _lock: &FolderLock) -> Result<(), Fault> {
     let name = lock_name(rt.alloc(), folder)?;
-    match try_lock(rt, folder, name.as_str())? {
-        None => Ok(()),
-        Some(_) => Err(Fault::Unusable(unlocked_line(rt.alloc(), folder)?)),
+    match wait_for(rt, folder, name.as_str(), None, 0)? {
+        Waited::Taken(_) => Err(Fault::Unusable(unlocked_line(rt.alloc(), folder)?)),
+        _ => Ok(()),
     }
 }

@@ -158,7 +158,7 @@ impl OwnRows {
         standing: &Standing,
         entries: &[Vec<u8>],
     ) -> Result<Vec<u8>, AllocError> {
-        if self.numbers.is_empty() || entries.is_empty() || entries.len() > MOST_ENTRIES {
+        if self.numbers.is_empty() || entries.is_empty() || entries.len() > MOST_ENTRIES as usize {
             return Ok(Vec::new(alloc));
         }
         let review = decided_again(alloc, standing, entries)?;

@@ -28,16 +28,9 @@ pub fn done<H: Threads + Wait + Sync, W: Write, E: Write>(
 {
     match task {
         Task::Init(folder, court) => init(rt, folder.as_str(), court.as_str())?,
-        Task::Enter(folder, entering) => enter(
-            rt,
-            threads,
-            writer,
-            errors,
-            folder.as_str(),
-            entering.lines,
-            entering.held_back,
-            entering.keeping,
-        )?,
+        Task::Enter(folder, entering) => {
+            enter(rt, threads, writer, errors, folder.as_str(), entering)?
+        }
         Task::Try(folder, lines, held_back) => {
             try_rows(
                 rt,
@@ -84,14 +77,9 @@ pub fn done<H: Threads + Wait + Sync, W: Write, E: Write>(
         Task::Memo(source, asked) => memo(rt, threads, writer, source, asked)?,
         Task::CourtCheck(file, asked) => return check_file(rt, writer, file.as_str(), asked),
         Task::CourtWrite(court, from, to) => write_file(rt.alloc(), writer, *court, *from, *to)?,
-        Task::CourtChange(folder, changing) => change(
-            rt,
-            threads,
-            writer,
-            folder.as_str(),
-            changing.file.as_str(),
-            changing.accept,
-        )?,
+        Task::CourtChange(folder, changing) => {
+            change(rt, threads, writer, folder.as_str(), changing)?
+        }
     }
     Ok(0)
 }
