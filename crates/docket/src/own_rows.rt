@@ -60,7 +60,7 @@ fn from_number(differences: &[Difference], number: u32) -> &[Difference] {
 }
 
 // What has become of the row of that number, where these differences are left from it on.
-fn became<'a>(corrections: &Corrections, differences: &'a [Difference], number: u32) -> Became<'a> {
+fn made_of<'a>(corrections: &Corrections, differences: &'a [Difference], number: u32) -> Became<'a> {
     if corrections.is_struck(number) {
         return Became::Struck;
     }
@@ -141,7 +141,7 @@ impl OwnRows {
         let (mut known, mut left) = (self.known.as_slice(), differences);
         for number in &self.numbers {
             left = from_number(left, *number);
-            let now = became(corrections, left, *number);
+            let now = made_of(corrections, left, *number);
             push_change(alloc, &mut text, *number, first_known(known, *number), now)?;
             push_known(alloc, &mut next, *number, now)?;
             known = rest_known(known, *number);
