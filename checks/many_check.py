@@ -1,0 +1,487 @@
+#!/usr/bin/env python3
+"""Enters rows into one folder by several programs at the same time, and looks whether each row was decided on all before it.
+
+    many_check.py DOCKET CLERK_OFFICE [SEED [COUNT]]
+
+2, 4, 10 and 64 programs enter rows drawn from SEED that get in one another's way, and rows that don't, each row after the answer
+to the one before, or many at once. The journal must have the rows of each program in their order with the answers that it got, each
+once, under numbers that only grow; and it must be what a replay in Python and clerk_office answer to its rows, one after another.
+Then, COUNT times (30 without it), several programs enter rows while some are killed at random moments, and beside them rows are
+struck and restored and the court is given another file: nothing that was answered is lost, `docket check` passes, and the next
+programs go on. Calls of the system fail, and kill, in one of four programs (it needs strace). The lock is held by another process,
+a program waits for rows and another isn't read; rows that are kept together stay neighbours; and what is in the folder belongs to its
+group. It needs Linux and Python 3.8 or later.
+"""
+import fcntl
+import itertools
+import os
+import random
+import shutil
+import signal
+import subprocess
+import sys
+import tempfile
+import time
+from collections import Counter
+
+from desk_kill import bursts_of
+from lib.desk import CUT_OFF, Desk, KEEP_REFUSED, REFUSED, SHORT_COURT, TOGETHER
+from lib.journal import corrections_in, read_journal, rows_of
+from lib.programs import programs_of, seed_and_count
+from lib.races_inputs import about_days, apart, court_text, for_slots, in_cases
+from lib.sessions import FAULTY, Session, by_one_clerk, explained, replayed, sound, turns
+from strike_check import drawn_row, opened, other_court
+
+# The status with which a call ends that waits too long for others.
+LOCKED = 11
+# Rows by what they have to do with those of others, with the court: which is the most that clerks can get in one another's way.
+LOADS = (("one judge", court_text(1, 2), for_slots), ("shared cases", court_text(1, 1), in_cases),
+         ("holidays and hearings", court_text(1, 1), about_days), ("nothing shared", court_text(32, 32), apart))
+# How many programs there are, and how many rows each has.
+SIZES = ((2, 60), (4, 30), (10, 20), (64, 8))
+# How many rounds go on with one folder.
+ROUNDS = 25
+WHY = ["--accept", "--reason", "entered twice"]
+OPEN, ROW = b"%d,open,%d,2025-03-03\n", b"%d,compute,59e,2025-08-04,,,\n"
+# How many rows have more answers than a pipe holds.
+MANY = 10_000
+
+
+def of_clerk(clerk, rows):
+    """Rows, each given as bytes of clerk 1 or as a text without a clerk, as those of this clerk; now and then one that can't be read."""
+    return [b"%d," % clerk + (row.partition(b",")[2] if isinstance(row, bytes) else row.encode() + b"\n") for row in rows]
+
+
+def with_faults(draw, clerk, rows):
+    """The same with lines between them, now and then, that can't be read."""
+    return [line for row in rows for line in ([b"%d" % clerk + FAULTY] if draw.random() < 0.05 else []) + [row]]
+
+
+def whole(sessions, statuses=(0, 8)):
+    """Waits for the end of sessions, which must have come to the end of their inputs."""
+    for session in sessions:
+        assert session.end() in statuses, (session.clerk, session.process.returncode, session.errors)
+
+
+# Loads
+
+
+def check_load(programs, draw, load, count, each):
+    """A load of so many programs: how many rows were kept, and how often the next was another program's."""
+    name, court, made = load
+    with tempfile.TemporaryDirectory() as parent:
+        desk = Desk(programs, parent, court.encode())
+        sessions = [Session(desk, clerk) for clerk in range(1, count + 1)]
+        for session, rows in zip(sessions, made(draw, count, each)):
+            given = with_faults(draw, session.clerk, of_clerk(session.clerk, rows))
+            if draw.random() < 0.5:
+                session.start([[row] for row in given], itertools.repeat(0), waits=True)
+            else:
+                session.start(bursts_of_rows(draw, given), iter(lambda: draw.random() / 100, None))
+        whole(sessions)
+        journal = desk.read()
+        kept = rows_of(journal)
+        assert explained(sessions, kept, 0) == (len(kept), 0), name
+        assert replayed(journal).count == len(kept)
+        by_one_clerk(desk)
+        sound(desk, len(kept))
+        return len(kept), turns(kept, 0)
+
+
+def bursts_of_rows(draw, rows):
+    """Lists of one row or of some."""
+    bursts, at = [], 0
+    while at < len(rows):
+        size = draw.choice([1, 1, 3, 10])
+        bursts.append(rows[at:at + size])
+        at += size
+    return bursts
+
+
+def check_loads(programs, draw):
+    """Each load, by each number of programs."""
+    told = []
+    for count, each in SIZES:
+        rows, met = zip(*(check_load(programs, draw, load, count, each) for load in LOADS))
+        assert sum(met) > 4 * count, ("the programs didn't meet", count, met)
+        told.append("{} with {} rows, {} by turns".format(count, sum(rows), sum(met)))
+    return "programs that enter rows at the same time: {}; each row was decided on all before it".format(", ".join(told))
+
+
+# Programs that are killed
+
+
+class Correction:
+    """A strike, a restore or another court's file, beside sessions."""
+
+    def __init__(self, desk, draw, number):
+        word = draw.choice(["strike", "strike", "restore", "court change"])
+        self.words = [word, draw.randint(1, max(1, number)), *WHY]
+        if word == "court change":
+            file = desk.folder.parent / "court{}.toml".format(draw.randint(1, 1_000_000))
+            file.write_bytes(other_court(draw))
+            self.words = [word, file, "--accept"]
+        self.process = subprocess.Popen(desk.words(*self.words), stdin=subprocess.DEVNULL, stdout=subprocess.PIPE, stderr=subprocess.PIPE)
+
+    def end(self):
+        """Whether it was kept; None where it was killed, and may be kept or not."""
+        _, errors = self.process.communicate()
+        assert self.process.returncode in (0, 3, -signal.SIGKILL), (self.words, self.process.returncode, errors)
+        return None if self.process.returncode < 0 else self.process.returncode == 0
+
+
+def killed_sessions(desk, draw, pace):
+    """Sessions, some of which are killed while corrections are made: all, once each has ended, and what came of the corrections."""
+    begun, count, moments = time.monotonic(), len(rows_of(desk.read())), []
+    sessions = [Session(desk, clerk) for clerk in draw.sample(range(1, 65), draw.choice([2, 3, 4, 6]))]
+    for session in sessions:
+        rows = of_clerk(session.clerk, opened(draw) + [drawn_row(draw) for _ in range(draw.choice([3, 10, 40]))])
+        slow = draw.choice([0, pace / 10])
+        session.start(bursts_of_rows(draw, with_faults(draw, session.clerk, rows)), iter(lambda slow=slow: draw.random() * slow, None), draw.random() < 0.5)
+        if draw.random() < 0.6:
+            moments.append((draw.random() * pace, session.process, draw.choice([signal.SIGKILL] * 4 + [signal.SIGTERM])))
+    corrections = []
+    if draw.random() < 0.5:
+        corrections.append(Correction(desk, draw, count))
+        if draw.random() < 0.3:
+            moments.append((draw.random() * pace, corrections[0].process, signal.SIGKILL))
+    for moment, process, by in sorted(moments, key=lambda each: each[0]):
+        time.sleep(max(0, begun + moment - time.monotonic()))
+        if process.poll() is None:
+            process.send_signal(by)
+    for session in sessions:
+        session.end()
+        assert session.process.returncode in (0, 8, -signal.SIGKILL, -signal.SIGTERM), (session.process.returncode, session.errors)
+    return sessions, [correction.end() for correction in corrections]
+
+
+def check_round(desk, draw, counts):
+    """A round: what was answered is kept, and the folder is sound."""
+    before, tail = desk.read(), desk.tail()
+    began = time.monotonic()
+    sound(desk, len(rows_of(before)))
+    sessions, corrections = killed_sessions(desk, draw, 3 * (time.monotonic() - began) + 0.05)
+    journal = desk.read()
+    assert journal.entries[:len(before.entries)] == before.entries, "entries of earlier rounds were changed"
+    kept, unanswered = explained(sessions, rows_of(journal), len(rows_of(before)))
+    made = len(corrections_in(journal)) - len(corrections_in(before))
+    assert corrections.count(True) <= made <= corrections.count(True) + corrections.count(None), (corrections, made)
+    assert not (tail and kept) or tail in desk.cut().values(), "what was cut off wasn't saved"
+    counts.update({"kept": kept, "unanswered": unanswered, "corrections": made,
+                   "killed": sum(session.process.returncode < 0 for session in sessions), "sessions": len(sessions)})
+
+
+def check_killed(programs, draw, count):
+    """Rounds, of which some go on with the same folder."""
+    counts = Counter()
+    for first in range(0, count, ROUNDS):
+        with tempfile.TemporaryDirectory() as parent:
+            desk = Desk(programs, parent, SHORT_COURT)
+            for _ in range(min(ROUNDS, count - first)):
+                check_round(desk, draw, counts)
+            ended = desk.call("enter")
+            assert ended.status == 0 and not list(desk.folder.glob("entering*")), ended
+            assert replayed(desk.read()).count == len(rows_of(desk.read()))
+    return "{} rounds, {} sessions, {} of them killed, with {} corrections: {} rows kept, {} of them not answered any more, none lost that was".format(
+        count, *(counts[what] for what in ("sessions", "killed", "corrections", "kept", "unanswered")))
+
+
+# Calls of the system that fail
+
+
+CALLS = (("flock", "ENOLCK"), ("openat", "EMFILE"), ("pread64", "EIO"), ("pwrite64", "ENOSPC"), ("fdatasync", "EIO"))
+
+
+def failing(call, how, when):
+    """The words before a program's under which one of its calls of the system fails, or kills it."""
+    return ["strace", "-f", "-qq", "-o", "/dev/null", "-e", "trace=" + call, "-e", "inject={}:{}:when={}".format(call, how, when)]
+
+
+def check_failing(programs, draw, count):
+    """Each of these calls fails, or ends the program, in one of four: the others go on, and nothing that was answered is lost."""
+    if shutil.which("strace") is None:
+        return "calls of the system that fail: NOT CHECKED, since there is no strace"
+    counts = Counter()
+    for call, error in CALLS:
+        with tempfile.TemporaryDirectory() as parent:
+            desk = Desk(programs, parent, SHORT_COURT)
+            for _ in range(count):
+                before = len(rows_of(desk.read()))
+                how = draw.choice(["error=" + error, "signal=SIGKILL"])
+                under = failing(call, how, draw.choice([1, 2, 3, 4, 5, 6, 8, 10, 15, 20, 30]))
+                sessions = [Session(desk, clerk, under=under if clerk == 4 else ()) for clerk in range(1, 5)]
+                for session in sessions:
+                    rows = of_clerk(session.clerk, [drawn_row(draw) for _ in range(8)])
+                    session.start([[row] for row in rows], itertools.repeat(0), waits=True)
+                whole(sessions[:3])
+                sessions[3].end()
+                kept, unanswered = explained(sessions, rows_of(desk.read()), before)
+                sound(desk, before + kept)
+                counts.update({call: sessions[3].process.returncode not in (0, 8)})
+            assert replayed(desk.read()).count == len(rows_of(desk.read()))
+    return "calls that fail or kill in one of four programs, {} times each; so many ended it: {}".format(
+        count, ", ".join("{} {}".format(call, counts[call]) for call, _ in CALLS))
+
+
+# Waiting
+
+
+def held(desk):
+    """The folder's lock, held by this process."""
+    lock = open(desk.folder / "lock", "a")
+    fcntl.flock(lock, fcntl.LOCK_EX)
+    return lock
+
+
+def check_waits(programs):
+    """Another process holds the lock: a program waits as long as it is told to, keeps nothing, and goes on once it is free."""
+    with tempfile.TemporaryDirectory() as parent:
+        desk, file = Desk(programs, parent, SHORT_COURT), parent + "/court.toml"
+        desk.enter([OPEN % (1, 1)])
+        idle = Session(desk, 3, "--wait", "1")
+        idle.ask(ROW % 3)
+        whole_before = desk.journal.read_bytes()
+        lock = held(desk)
+        for wait in (0, 1):
+            for words, given in ((("enter",), ROW % 1), (("enter", TOGETHER), ROW % 1), (("enter", "--as-written"), ROW % 1), (("strike", 1, *WHY), b""),
+                                 (("restore", 1, *WHY), b""), (("court change", file), b"")):
+                began = time.monotonic()
+                ended = desk.call(*words, "--wait", wait, given=given)
+                assert ended.status == LOCKED and not ended.output and ended.errors, (words, ended)
+                assert wait <= time.monotonic() - began < wait + 10, (words, time.monotonic() - began)
+        # One that has had a turn isn't let through either, and what only reads waits for nobody.
+        idle.ask(ROW % 3, ROW % 3)
+        assert idle.end() == LOCKED and idle.answered == 1, (idle.process.returncode, idle.lines)
+        for words, given in ((("ask",), ROW % 1), (("try",), ROW % 1), (("check",), b""), (("rows",), b""), (("log",), b""), (("due",), b"")):
+            assert desk.call(*words, given=given).status == 0, words
+        assert desk.journal.read_bytes() == whole_before
+        waiting = [Session(desk, clerk) for clerk in (5, 6)]
+        for session in waiting:
+            session.start([[ROW % session.clerk]], [0])
+        time.sleep(1)
+        assert not any(session.answered for session in waiting) and desk.journal.read_bytes() == whole_before
+        lock.close()
+        whole(waiting)
+        assert explained([idle, *waiting], rows_of(desk.read()), 1) == (3, 0)
+    return "programs that wait for another which holds the lock, and keep nothing where it doesn't let go"
+
+
+def unread_session(desk, file):
+    """A session of clerk 5 with many rows, once it waits for its answers to be read."""
+    with open(file, "wb") as rows:
+        rows.write(ROW % 5 * MANY)
+    with open(file, "rb") as rows:
+        session = subprocess.Popen(desk.words("enter"), stdin=rows, stdout=subprocess.PIPE, stderr=subprocess.DEVNULL)
+    size = -1
+    while size != desk.journal.stat().st_size:
+        size = desk.journal.stat().st_size
+        time.sleep(0.5)
+    return session
+
+
+def check_idle(programs):
+    """Beside three sessions that wait for rows, one that is stopped and one whose answers aren't read, all go on."""
+    with tempfile.TemporaryDirectory() as parent:
+        desk = Desk(programs, parent, SHORT_COURT)
+        idle = [Session(desk, clerk) for clerk in (1, 2, 3)]
+        for session in idle:
+            session.ask(OPEN % (session.clerk, session.clerk))
+        stopped = Session(desk, 4)
+        stopped.ask(ROW % 4)
+        stopped.process.send_signal(signal.SIGSTOP)
+        unread = unread_session(desk, parent + "/rows")
+        for words in (("strike", 1, *WHY), ("restore", 1, *WHY), ("strike", 2, *WHY), ("court change", parent + "/court.toml")):
+            ended = desk.call(*words, "--wait", 5)
+            assert ended.status == 0, (words, ended)
+        for session in idle:
+            session.ask(ROW % session.clerk)
+        assert len(unread.stdout.read().splitlines()) == MANY and unread.wait() == 0
+        stopped.process.send_signal(signal.SIGCONT)
+        stopped.ask(ROW % 4)
+        for session in [*idle, stopped]:
+            session.close()
+        whole([*idle, stopped])
+        kept = [each for each in rows_of(desk.read()) if not each.row.startswith(b"5,")]
+        assert len(kept) == 8 and all(session.answered == 2 for session in [*idle, stopped])
+        sound(desk, MANY + 8)
+    return "sessions that wait, are stopped or aren't read stand in nobody's way"
+
+
+def check_together(programs, draw):
+    """Rows that are kept together, or written as people do, are neighbours in the journal beside others."""
+    with tempfile.TemporaryDirectory() as parent:
+        desk = Desk(programs, parent, SHORT_COURT)
+        others = [Session(desk, clerk) for clerk in (1, 2, 3)]
+        for session in others:
+            session.start([[ROW % session.clerk]] * 150, itertools.repeat(0), waits=True)
+        lists = []
+        for clerk, words in itertools.islice(zip(itertools.count(4), itertools.cycle([(TOGETHER, KEEP_REFUSED), ("--as-written",), (TOGETHER, "--warn", KEEP_REFUSED)])), 18):
+            lists.append(Session(desk, clerk, *words))
+            lists[-1].start([of_clerk(clerk, [b"1,open,%d,2025-03-03\n" % clerk] + [ROW % 1] * draw.choice([1, 8, 30]))], [0])
+            time.sleep(0.02)
+        whole([*others, *lists])
+        kept = rows_of(desk.read())
+        assert explained([*others, *lists], kept, 0) == (len(kept), 0)
+        places = {session.clerk: [at for at, (row, _) in enumerate(kept) if row.startswith(b"%d," % session.clerk)] for session in lists}
+        divided = {clerk for clerk, at in places.items() if at[-1] - at[0] + 1 != len(at)}
+        assert not divided, ("rows that are kept together were divided", divided)
+        assert any(kept[at[0] - 1].row[:2] in (b"1,", b"2,", b"3,") for at in places.values() if at[0]), "nobody entered rows meanwhile"
+        sound(desk, len(kept))
+    return "{} lists that are kept together, each undivided among rows of others".format(len(lists))
+
+
+# What is said of others
+
+
+def told_of_own(own, known, kept, replay):
+    """What a session says of its rows once others have corrected the docket: `known` has what their clerk knows."""
+    text = b""
+    for number in own:
+        answer, now = kept[number - 1].answer, replay.answers[number - 1]
+        if now == known.get(number, answer):
+            continue
+        known[number] = now
+        if now is None:
+            text += b"docket: row %d was struck\n" % number
+        elif now == answer:
+            text += b"docket: row %d is answered again as it was\n" % number
+        else:
+            text += b"docket: since others corrected the docket, row %d is answered\n" % number + now
+    return text
+
+
+def check_told(programs, draw, count):
+    """Between the rows of two sessions others strike and restore rows and take another court's file: each session says which of its own
+    rows are struck or answered otherwise than its clerk knows."""
+    told, corrections = 0, 0
+    for _ in range(count):
+        with tempfile.TemporaryDirectory() as parent:
+            desk = Desk(programs, parent, SHORT_COURT)
+            sessions, own, known, said = [Session(desk, 1), Session(desk, 2)], {1: [], 2: []}, {1: {}, 2: {}}, {1: b"", 2: b""}
+            for turn in range(10):
+                journal = desk.read()
+                corrections += Correction(desk, draw, len(rows_of(journal))).end()
+                journal = desk.read()
+                replay = replayed(journal)
+                for session in sessions:
+                    said[session.clerk] += told_of_own(own[session.clerk], known[session.clerk], rows_of(journal), replay)
+                    before = len(rows_of(desk.read()))
+                    session.ask(*of_clerk(session.clerk, [drawn_row(draw) for _ in range(2)] + (opened(draw) if turn == 0 else [])))
+                    own[session.clerk] += range(before + 1, len(rows_of(desk.read())) + 1)
+            for session in sessions:
+                session.close()
+                assert session.end() == 0 and session.errors == said[session.clerk], (session.errors, said[session.clerk], desk.read().entries)
+                told += session.errors.count(b"docket: ")
+            assert explained(sessions, rows_of(desk.read()), 0) == (len(rows_of(desk.read())), 0)
+    assert told, "no session had anything to say"
+    return "{} corrections beside sessions, which said {} times what became of their rows".format(corrections, told)
+
+
+def check_marks(programs):
+    """Who was cut off is said once, to the next that begins; more sessions than marks are served; and nothing is said of one that ends
+    while another begins."""
+    with tempfile.TemporaryDirectory() as parent:
+        desk = Desk(programs, parent, SHORT_COURT)
+        first, second = Session(desk, 1), Session(desk, 2)
+        first.ask(ROW % 1)
+        second.ask(ROW % 2)
+        first.process.kill()
+        first.end()
+        third, fourth = Session(desk, 3), Session(desk, 4)
+        third.ask(ROW % 3)
+        fourth.ask(ROW % 4)
+        many = [Session(desk, 5 + number % 60) for number in range(70)]
+        for session in many:
+            session.ask(ROW % session.clerk)
+        assert len(list(desk.folder.glob("entering-*"))) == 64, list(desk.folder.iterdir())
+        for session in (second, third, fourth, *many):
+            session.close()
+        whole([second, third, fourth, *many])
+        said = [session.errors for session in (third, fourth) if session.errors]
+        line = b"docket: a session of %s was cut off; the last row that is kept is row 2: see " % desk.read().stamps[-1].account
+        assert len(said) == 1 and CUT_OFF.fullmatch(said[0]) and said[0].startswith(line), (said, line)
+        assert not any(session.errors for session in many) and not list(desk.folder.glob("entering-*"))
+        if shutil.which("strace"):
+            ending = Session(desk, 1)
+            ending.ask(ROW % 1)
+            beginning = Session(desk, 2, under=["strace", "-f", "-qq", "-o", "/dev/null", "-e", "trace=flock", "-e", "inject=flock:delay_enter=300000"])
+            time.sleep(0.75)
+            ending.close()
+            beginning.ask(ROW % 2)
+            beginning.close()
+            whole([ending, beginning])
+            assert not beginning.errors, beginning.errors
+        sound(desk, len(rows_of(desk.read())))
+    return "sessions that were cut off, of which the next says so once, and 73 at once"
+
+
+# Files
+
+
+# A group of a folder, and accounts that are in it. What each leaves to itself alone of what it makes is its own business.
+GROUP, ACCOUNTS = 54_321, ((20_001, 0o000), (20_002, 0o022), (20_003, 0o077))
+
+
+def as_account(account, mask):
+    """What a process does first that root has started, for an account of the group."""
+    def first():
+        os.setgroups([GROUP])
+        os.setgid(account)
+        os.setuid(account)
+        os.umask(mask)
+    return first
+
+
+def shared_desk(programs, parent):
+    """A folder that belongs to a group, with what a crash left after the journal's end."""
+    desk = Desk(programs, parent, SHORT_COURT)
+    for path, mode in ((desk.folder, 0o2770), (desk.journal, 0o660)):
+        os.chown(path, -1, GROUP)
+        os.chmod(path, mode)
+    os.chmod(parent, 0o755)
+    desk.journal.write_bytes(desk.journal.read_bytes() + b"a crash's")
+    return desk
+
+
+def check_files(programs):
+    """Accounts of a group enter rows into its folder. What they make there belongs to the group, and others may not read it."""
+    if os.getuid() != 0:
+        return "the groups of files: NOT CHECKED, since only root may use other accounts"
+    with tempfile.TemporaryDirectory() as parent:
+        desk, sessions = shared_desk(programs, parent), []
+        try:
+            for clerk, (account, mask) in enumerate(ACCOUNTS, 1):
+                sessions.append(Session(desk, clerk, preexec_fn=as_account(account, mask)))
+                sessions[-1].ask(ROW % clerk)
+        except PermissionError:
+            return "the groups of files: NOT CHECKED, since nobody else may run the program where it stands"
+        sessions[1].process.kill()
+        sessions[1].end()
+        found = {path.name: path.stat() for path in desk.folder.iterdir()}
+        assert {"lock", "entering-1", "entering-2", "entering-3", "journal"} < set(found) and desk.cut(), found
+        for name, of in found.items():
+            assert of.st_gid == GROUP and not of.st_mode & 0o007 and of.st_mode & 0o060 == 0o060, (name, of.st_gid, oct(of.st_mode))
+        for session in (sessions[0], sessions[2]):
+            session.ask(ROW % session.clerk)
+            session.close()
+        last = Session(desk, 4, preexec_fn=as_account(*ACCOUNTS[0]))
+        last.ask(ROW % 4)
+        last.close()
+        whole([sessions[0], sessions[2], last])
+        assert CUT_OFF.fullmatch(last.errors) and b"(20002)" in last.errors, last.errors
+        assert explained([*sessions, last], rows_of(desk.read()), 0) == (6, 0) and not list(desk.folder.glob("entering-*"))
+    return "accounts of a group that enter rows into its folder, whatever their umask is"
+
+
+def main(words):
+    programs, (seed, count) = programs_of(words[:2]), seed_and_count(words[2:], 30)
+    draw = random.Random(seed)
+    for check in (lambda: check_loads(programs, draw), lambda: check_waits(programs), lambda: check_idle(programs), lambda: check_together(programs, draw),
+                  lambda: check_told(programs, draw, max(3, count // 10)), lambda: check_marks(programs), lambda: check_files(programs), lambda: check_failing(programs, draw, max(2, count // 10)), lambda: check_killed(programs, draw, count)):
+        print(check(), flush=True)
+
+
+if __name__ == "__main__":
+    if not 3 <= len(sys.argv) <= 5:
+        sys.exit("usage: many_check.py DOCKET CLERK_OFFICE [SEED [COUNT]]")
+    main(sys.argv[1:])
