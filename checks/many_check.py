@@ -6,11 +6,10 @@
 2, 4, 10 and 64 programs enter rows drawn from SEED that get in one another's way, and rows that don't, each row after the answer
 to the one before, or many at once. The journal must have the rows of each program in their order with the answers that it got, each
 once, under numbers that only grow; and it must be what a replay in Python and clerk_office answer to its rows, one after another.
-Then, COUNT times (30 without it), several programs enter rows while some are killed at random moments, and beside them rows are
-struck and restored and the court is given another file: nothing that was answered is lost, `docket check` passes, and the next
-programs go on. Calls of the system fail, and kill, in one of four programs (it needs strace). The lock is held by another process,
-a program waits for rows and another isn't read; rows that are kept together stay neighbours; and what is in the folder belongs to its
-group. It needs Linux and Python 3.8 or later.
+The lock is held by another process, a program waits for rows and another isn't read; rows that are kept together stay neighbours;
+each program says what becomes of its rows when others correct the docket, and the next which one was cut off; and accounts of a group
+share a folder. Then COUNT times (30 without it) programs are killed, and calls fail in one of four, as many_kill.py does it. It needs
+Linux, root for the accounts, strace for calls that fail or take long, and Python 3.8 or later.
 """
 import fcntl
 import itertools
@@ -22,15 +21,15 @@ import subprocess
 import sys
 import tempfile
 import time
-from collections import Counter
 
-from desk_kill import bursts_of
-from lib.desk import CUT_OFF, Desk, KEEP_REFUSED, REFUSED, SHORT_COURT, TOGETHER
-from lib.journal import corrections_in, read_journal, rows_of
+from lib.desk import CUT_OFF, Desk, KEEP_REFUSED, SHORT_COURT, TOGETHER
+from lib.journal import rows_of
 from lib.programs import programs_of, seed_and_count
 from lib.races_inputs import about_days, apart, court_text, for_slots, in_cases
-from lib.sessions import FAULTY, Session, by_one_clerk, explained, replayed, sound, turns
-from strike_check import drawn_row, opened, other_court
+from lib.sessions import (Correction, OPEN, ROW, Session, WHY, bursts_of_rows, by_one_clerk, explained, of_clerk, replayed, sound, turns, whole,
+                          with_faults)
+from many_kill import failing, killed, under
+from strike_check import drawn_row, opened
 
 # The status with which a call ends that waits too long for others.
 LOCKED = 11
@@ -39,28 +38,8 @@ LOADS = (("one judge", court_text(1, 2), for_slots), ("shared cases", court_text
          ("holidays and hearings", court_text(1, 1), about_days), ("nothing shared", court_text(32, 32), apart))
 # How many programs there are, and how many rows each has.
 SIZES = ((2, 60), (4, 30), (10, 20), (64, 8))
-# How many rounds go on with one folder.
-ROUNDS = 25
-WHY = ["--accept", "--reason", "entered twice"]
-OPEN, ROW = b"%d,open,%d,2025-03-03\n", b"%d,compute,59e,2025-08-04,,,\n"
 # How many rows have more answers than a pipe holds.
 MANY = 10_000
-
-
-def of_clerk(clerk, rows):
-    """Rows, each given as bytes of clerk 1 or as a text without a clerk, as those of this clerk; now and then one that can't be read."""
-    return [b"%d," % clerk + (row.partition(b",")[2] if isinstance(row, bytes) else row.encode() + b"\n") for row in rows]
-
-
-def with_faults(draw, clerk, rows):
-    """The same with lines between them, now and then, that can't be read."""
-    return [line for row in rows for line in ([b"%d" % clerk + FAULTY] if draw.random() < 0.05 else []) + [row]]
-
-
-def whole(sessions, statuses=(0, 8)):
-    """Waits for the end of sessions, which must have come to the end of their inputs."""
-    for session in sessions:
-        assert session.end() in statuses, (session.clerk, session.process.returncode, session.errors)
 
 
 # Loads
@@ -88,16 +67,6 @@ def check_load(programs, draw, load, count, each):
         return len(kept), turns(kept, 0)
 
 
-def bursts_of_rows(draw, rows):
-    """Lists of one row or of some."""
-    bursts, at = [], 0
-    while at < len(rows):
-        size = draw.choice([1, 1, 3, 10])
-        bursts.append(rows[at:at + size])
-        at += size
-    return bursts
-
-
 def check_loads(programs, draw):
     """Each load, by each number of programs."""
     told = []
@@ -106,121 +75,6 @@ def check_loads(programs, draw):
         assert sum(met) > 4 * count, ("the programs didn't meet", count, met)
         told.append("{} with {} rows, {} by turns".format(count, sum(rows), sum(met)))
     return "programs that enter rows at the same time: {}; each row was decided on all before it".format(", ".join(told))
-
-
-# Programs that are killed
-
-
-class Correction:
-    """A strike, a restore or another court's file, beside sessions."""
-
-    def __init__(self, desk, draw, number):
-        word = draw.choice(["strike", "strike", "restore", "court change"])
-        self.words = [word, draw.randint(1, max(1, number)), *WHY]
-        if word == "court change":
-            file = desk.folder.parent / "court{}.toml".format(draw.randint(1, 1_000_000))
-            file.write_bytes(other_court(draw))
-            self.words = [word, file, "--accept"]
-        self.process = subprocess.Popen(desk.words(*self.words), stdin=subprocess.DEVNULL, stdout=subprocess.PIPE, stderr=subprocess.PIPE)
-
-    def end(self):
-        """Whether it was kept; None where it was killed, and may be kept or not."""
-        _, errors = self.process.communicate()
-        assert self.process.returncode in (0, 3, -signal.SIGKILL), (self.words, self.process.returncode, errors)
-        return None if self.process.returncode < 0 else self.process.returncode == 0
-
-
-def killed_sessions(desk, draw, pace):
-    """Sessions, some of which are killed while corrections are made: all, once each has ended, and what came of the corrections."""
-    begun, count, moments = time.monotonic(), len(rows_of(desk.read())), []
-    sessions = [Session(desk, clerk) for clerk in draw.sample(range(1, 65), draw.choice([2, 3, 4, 6]))]
-    for session in sessions:
-        rows = of_clerk(session.clerk, opened(draw) + [drawn_row(draw) for _ in range(draw.choice([3, 10, 40]))])
-        slow = draw.choice([0, pace / 10])
-        session.start(bursts_of_rows(draw, with_faults(draw, session.clerk, rows)), iter(lambda slow=slow: draw.random() * slow, None), draw.random() < 0.5)
-        if draw.random() < 0.6:
-            moments.append((draw.random() * pace, session.process, draw.choice([signal.SIGKILL] * 4 + [signal.SIGTERM])))
-    corrections = []
-    if draw.random() < 0.5:
-        corrections.append(Correction(desk, draw, count))
-        if draw.random() < 0.3:
-            moments.append((draw.random() * pace, corrections[0].process, signal.SIGKILL))
-    for moment, process, by in sorted(moments, key=lambda each: each[0]):
-        time.sleep(max(0, begun + moment - time.monotonic()))
-        if process.poll() is None:
-            process.send_signal(by)
-    for session in sessions:
-        session.end()
-        assert session.process.returncode in (0, 8, -signal.SIGKILL, -signal.SIGTERM), (session.process.returncode, session.errors)
-    return sessions, [correction.end() for correction in corrections]
-
-
-def check_round(desk, draw, counts):
-    """A round: what was answered is kept, and the folder is sound."""
-    before, tail = desk.read(), desk.tail()
-    began = time.monotonic()
-    sound(desk, len(rows_of(before)))
-    sessions, corrections = killed_sessions(desk, draw, 3 * (time.monotonic() - began) + 0.05)
-    journal = desk.read()
-    assert journal.entries[:len(before.entries)] == before.entries, "entries of earlier rounds were changed"
-    kept, unanswered = explained(sessions, rows_of(journal), len(rows_of(before)))
-    made = len(corrections_in(journal)) - len(corrections_in(before))
-    assert corrections.count(True) <= made <= corrections.count(True) + corrections.count(None), (corrections, made)
-    assert not (tail and kept) or tail in desk.cut().values(), "what was cut off wasn't saved"
-    counts.update({"kept": kept, "unanswered": unanswered, "corrections": made,
-                   "killed": sum(session.process.returncode < 0 for session in sessions), "sessions": len(sessions)})
-
-
-def check_killed(programs, draw, count):
-    """Rounds, of which some go on with the same folder."""
-    counts = Counter()
-    for first in range(0, count, ROUNDS):
-        with tempfile.TemporaryDirectory() as parent:
-            desk = Desk(programs, parent, SHORT_COURT)
-            for _ in range(min(ROUNDS, count - first)):
-                check_round(desk, draw, counts)
-            ended = desk.call("enter")
-            assert ended.status == 0 and not list(desk.folder.glob("entering*")), ended
-            assert replayed(desk.read()).count == len(rows_of(desk.read()))
-    return "{} rounds, {} sessions, {} of them killed, with {} corrections: {} rows kept, {} of them not answered any more, none lost that was".format(
-        count, *(counts[what] for what in ("sessions", "killed", "corrections", "kept", "unanswered")))
-
-
-# Calls of the system that fail
-
-
-CALLS = (("flock", "ENOLCK"), ("openat", "EMFILE"), ("pread64", "EIO"), ("pwrite64", "ENOSPC"), ("fdatasync", "EIO"))
-
-
-def failing(call, how, when):
-    """The words before a program's under which one of its calls of the system fails, or kills it."""
-    return ["strace", "-f", "-qq", "-o", "/dev/null", "-e", "trace=" + call, "-e", "inject={}:{}:when={}".format(call, how, when)]
-
-
-def check_failing(programs, draw, count):
-    """Each of these calls fails, or ends the program, in one of four: the others go on, and nothing that was answered is lost."""
-    if shutil.which("strace") is None:
-        return "calls of the system that fail: NOT CHECKED, since there is no strace"
-    counts = Counter()
-    for call, error in CALLS:
-        with tempfile.TemporaryDirectory() as parent:
-            desk = Desk(programs, parent, SHORT_COURT)
-            for _ in range(count):
-                before = len(rows_of(desk.read()))
-                how = draw.choice(["error=" + error, "signal=SIGKILL"])
-                under = failing(call, how, draw.choice([1, 2, 3, 4, 5, 6, 8, 10, 15, 20, 30]))
-                sessions = [Session(desk, clerk, under=under if clerk == 4 else ()) for clerk in range(1, 5)]
-                for session in sessions:
-                    rows = of_clerk(session.clerk, [drawn_row(draw) for _ in range(8)])
-                    session.start([[row] for row in rows], itertools.repeat(0), waits=True)
-                whole(sessions[:3])
-                sessions[3].end()
-                kept, unanswered = explained(sessions, rows_of(desk.read()), before)
-                sound(desk, before + kept)
-                counts.update({call: sessions[3].process.returncode not in (0, 8)})
-            assert replayed(desk.read()).count == len(rows_of(desk.read()))
-    return "calls that fail or kill in one of four programs, {} times each; so many ended it: {}".format(
-        count, ", ".join("{} {}".format(call, counts[call]) for call, _ in CALLS))
 
 
 # Waiting
@@ -404,7 +258,7 @@ def check_marks(programs):
         if shutil.which("strace"):
             ending = Session(desk, 1)
             ending.ask(ROW % 1)
-            beginning = Session(desk, 2, under=["strace", "-f", "-qq", "-o", "/dev/null", "-e", "trace=flock", "-e", "inject=flock:delay_enter=300000"])
+            beginning = Session(desk, 2, under=under("flock", "-e", "inject=flock:delay_enter=300000"))
             time.sleep(0.75)
             ending.close()
             beginning.ask(ROW % 2)
@@ -475,9 +329,10 @@ def check_files(programs):
 
 def main(words):
     programs, (seed, count) = programs_of(words[:2]), seed_and_count(words[2:], 30)
-    draw = random.Random(seed)
+    draw, few = random.Random(seed), max(3, count // 10)
     for check in (lambda: check_loads(programs, draw), lambda: check_waits(programs), lambda: check_idle(programs), lambda: check_together(programs, draw),
-                  lambda: check_told(programs, draw, max(3, count // 10)), lambda: check_marks(programs), lambda: check_files(programs), lambda: check_failing(programs, draw, max(2, count // 10)), lambda: check_killed(programs, draw, count)):
+                  lambda: check_told(programs, draw, few), lambda: check_marks(programs), lambda: check_files(programs),
+                  lambda: failing(programs, draw, few), lambda: killed(programs, draw, count)):
         print(check(), flush=True)
 
 

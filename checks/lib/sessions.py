@@ -3,6 +3,7 @@
 Each session has a clerk's number of its own, by which its rows are known in the journal.
 """
 import re
+import signal
 import subprocess
 import threading
 import time
@@ -10,7 +11,7 @@ import time
 from lib.desk import answers_alone
 from lib.journal import CORRECTIONS, COURT_MARK, STRIKE_MARK, after_name, rows_of, struck_in
 from reference.court_file import court_of
-from strike_check import Replay
+from strike_check import Replay, other_court
 
 # With what the answer to a line begins, with the number of its row; and the number in the answer to a line that can't be read.
 ANSWER, FAULT = re.compile(rb"(?:(\d+) \d+|row (\d+) fault) "), re.compile(rb"^row \d+ fault ", re.MULTILINE)
@@ -18,6 +19,10 @@ ANSWER, FAULT = re.compile(rb"(?:(\d+) \d+|row (\d+) fault) "), re.compile(rb"^r
 FAULTY, UNREADABLE = b",no,row\n", b"row 0 fault 2 UnknownCommand\n"
 # The statuses with which a session has come to the end of its input, and how long one may take, in seconds.
 TO_THE_END, LONGEST = (0, 8), 300
+# A row that opens a case of its clerk's number, and one that asks for the end of a period.
+OPEN, ROW = b"%d,open,%d,2025-03-03\n", b"%d,compute,59e,2025-08-04,,,\n"
+# The words by which a row is struck or restored whatever else changes, and the status with which it can't be.
+WHY, CANNOT = ["--accept", "--reason", "entered twice"], 3
 # The number with which a row of the journal begins, and the first number in an answer to clerk 1.
 CLERK, ANSWERED = re.compile(rb"^\d+,"), re.compile(rb"^(\d+) \d+ ")
 
@@ -184,3 +189,48 @@ def sound(desk, count):
     """`docket check` finds so many rows, each answered as it was."""
     ended = desk.call("check")
     assert ended.status == 0 and ended.output.startswith(b"rows kept: %d," % count), ended
+
+
+def of_clerk(clerk, rows):
+    """Rows, each given as bytes of clerk 1 or as a text without a clerk, as those of this clerk; now and then one that can't be read."""
+    return [b"%d," % clerk + (row.partition(b",")[2] if isinstance(row, bytes) else row.encode() + b"\n") for row in rows]
+
+
+def with_faults(draw, clerk, rows):
+    """The same with lines between them, now and then, that can't be read."""
+    return [line for row in rows for line in ([b"%d" % clerk + FAULTY] if draw.random() < 0.05 else []) + [row]]
+
+
+def whole(sessions):
+    """Waits for the end of sessions, which must have come to the end of their inputs."""
+    for session in sessions:
+        assert session.end() in TO_THE_END, (session.clerk, session.process.returncode, session.errors)
+
+
+def bursts_of_rows(draw, rows):
+    """Lists of one row or of some."""
+    bursts, at = [], 0
+    while at < len(rows):
+        size = draw.choice([1, 1, 3, 10])
+        bursts.append(rows[at:at + size])
+        at += size
+    return bursts
+
+
+class Correction:
+    """A strike, a restore or another court's file, beside sessions."""
+
+    def __init__(self, desk, draw, number):
+        word = draw.choice(["strike", "strike", "restore", "court change"])
+        self.words = [word, draw.randint(1, max(1, number)), *WHY]
+        if word == "court change":
+            file = desk.folder.parent / "court{}.toml".format(draw.randint(1, 1_000_000))
+            file.write_bytes(other_court(draw))
+            self.words = [word, file, "--accept"]
+        self.process = subprocess.Popen(desk.words(*self.words), stdin=subprocess.DEVNULL, stdout=subprocess.PIPE, stderr=subprocess.PIPE)
+
+    def end(self):
+        """Whether it was kept; None where it was killed, and may be kept or not."""
+        _, errors = self.process.communicate()
+        assert self.process.returncode in (0, CANNOT, -signal.SIGKILL), (self.words, self.process.returncode, errors)
+        return None if self.process.returncode < 0 else self.process.returncode == 0
