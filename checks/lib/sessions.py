@@ -17,8 +17,9 @@ from strike_check import Replay, other_court
 ANSWER, FAULT = re.compile(rb"(?:(\d+) \d+|row (\d+) fault) "), re.compile(rb"^row \d+ fault ", re.MULTILINE)
 # What a row ends with that can't be read, and how it is answered, with another number.
 FAULTY, UNREADABLE = b",no,row\n", b"row 0 fault 2 UnknownCommand\n"
-# The statuses with which a session has come to the end of its input, and how long one may take, in seconds.
-TO_THE_END, LONGEST = (0, 8), 300
+# The statuses with which a session has come to the end of its input, for how many seconds a program waits for others that have the
+# folder, so that none gives up on a busy machine, and how long one may take.
+TO_THE_END, WAIT, LONGEST = (0, 8), ["--wait", "600"], 1200
 # A row that opens a case of its clerk's number, and one that asks for the end of a period.
 OPEN, ROW = b"%d,open,%d,2025-03-03\n", b"%d,compute,59e,2025-08-04,,,\n"
 # The words by which a row is struck or restored whatever else changes, and the status with which it can't be.
@@ -33,6 +34,7 @@ class Session:
     def __init__(self, desk, clerk, *words, under=(), **how):
         self.clerk, self.given, self.lines, self.errors = clerk, [], [], b""
         self.answered, self.ended, self.changed = 0, False, threading.Condition()
+        words = words if "--wait" in words else (*words, *WAIT)
         self.process = subprocess.Popen([*under, *desk.words("enter", *words)], stdin=subprocess.PIPE, stdout=subprocess.PIPE,
                                         stderr=subprocess.PIPE, **how)
         self.threads = []
@@ -227,7 +229,7 @@ class Correction:
             file = desk.folder.parent / "court{}.toml".format(draw.randint(1, 1_000_000))
             file.write_bytes(other_court(draw))
             self.words = [word, file, "--accept"]
-        self.process = subprocess.Popen(desk.words(*self.words), stdin=subprocess.DEVNULL, stdout=subprocess.PIPE, stderr=subprocess.PIPE)
+        self.process = subprocess.Popen(desk.words(*self.words, *WAIT), stdin=subprocess.DEVNULL, stdout=subprocess.PIPE, stderr=subprocess.PIPE)
 
     def end(self):
         """Whether it was kept; None where it was killed, and may be kept or not."""
