@@ -60,7 +60,11 @@ fn from_number(differences: &[Difference], number: u32) -> &[Difference] {
 }
 
 // What has become of the row of that number, where these differences are left from it on.
-fn made_of<'a>(corrections: &Corrections, differences: &'a [Difference], number: u32) -> Became<'a> {
+fn made_of<'a>(
+    corrections: &Corrections,
+    differences: &'a [Difference],
+    number: u32,
+) -> Became<'a> {
     if corrections.is_struck(number) {
         return Became::Struck;
     }
@@ -90,7 +94,9 @@ fn push_change(
             text.extend_from_slice(line.as_bytes())
         }
         (_, Became::Answered(now)) => {
-            let line = format!(in alloc; "docket: since others corrected the docket, row {number} is answered\n")?;
+            let line = format!(in alloc;
+                "docket: since others corrected the docket, row {number} is answered\n"
+            )?;
             text.extend_from_slice(line.as_bytes())?;
             text.extend_from_slice(now)
         }

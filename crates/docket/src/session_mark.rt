@@ -33,12 +33,7 @@ fn mark_name(alloc: Global, folder: &str, number: u32) -> Result<String, AllocEr
 }
 
 // What is said of a session of that account that was cut off, after which so many rows are kept.
-fn cut_off_line(
-    alloc: Global,
-    folder: &str,
-    account: &str,
-    rows: u32,
-) -> Result<String, AllocError>
+fn cut_off_line(alloc: Global, folder: &str, account: &str, rows: u32) -> Result<String, AllocError>
     ensures { IfOk result (λ line. string_bytes line ≡ cut_off_line folder.now account.now rows) }
 {
     format!(in alloc;

@@ -18,7 +18,12 @@ pub fn share(rt: &HostRuntime, folder: &str, name: &str) -> io::Result<()> {
 }
 
 // The file, shared as the folder is.
-fn shared(rt: &HostRuntime, folder: &str, name: &str, file: File) -> Result<Option<File>, FileFault> {
+fn shared(
+    rt: &HostRuntime,
+    folder: &str,
+    name: &str,
+    file: File,
+) -> Result<Option<File>, FileFault> {
     match share(rt, folder, name) {
         Ok(()) => Ok(Some(file)),
         Err(error) => Err(file_fault(rt.alloc(), name, error)),

@@ -5,10 +5,10 @@ ghost use Rattle.desk_program.specs.Words.{KeepsDocket, disk_under, standing_at}
 ghost use Rattle.docket.specs.Sessions.{EntersFile, IsLeftIn, PromisesLines, Resumes};
 ghost use Rattle.program_streams.specs.Words.{has_failed, watched};
 
-use crate::keep::kept;
 use crate::fault::Fault;
 use crate::folder::opened;
 use crate::journal_file::{find_own_journal, journal_name};
+use crate::keep::kept;
 use crate::saved::save_tail_after;
 use desk_journal::Stamp;
 use desk_program::{Desk, DeskFault, Remembered, Resumed, open_file};
