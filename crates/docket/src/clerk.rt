@@ -117,7 +117,7 @@ pub fn lines_of(rt: &HostRuntime, lines: Lines) -> Result<ShortLines<OfClerk<Std
     Ok(ShortLines::new(OfClerk::new(rt.alloc(), rt.stdin(), clerk)?))
 }
 
-impl<R: Read> Read for OfClerk<R> {
+impl<R: Read + Drop> Read for OfClerk<R> {
     fn read(&mut self, buf: &mut [u8]) -> io::Result<usize> {
         if self.number.is_empty() {
             return self.inner.read(buf);
