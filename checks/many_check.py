@@ -231,6 +231,21 @@ def check_told(programs, draw, count):
     return "{} corrections beside sessions, which said {} times what became of their rows".format(corrections, told)
 
 
+def check_mark_meets(desk):
+    """A session ends just as another one, which begins, has opened its mark and doesn't know yet whether it is held."""
+    ending, told = Session(desk, 1), desk.folder.parent / "told"
+    ending.ask(ROW % 1)
+    beginning = Session(desk, 2, under=under("flock,openat", "-e", "inject=flock:delay_enter=3000000:when=3", told=told))
+    while not told.exists() or "/entering-1\"" not in told.read_text():
+        time.sleep(0.01)
+    ending.close()
+    ending.end()
+    beginning.ask(ROW % 2)
+    beginning.close()
+    whole([ending, beginning])
+    assert not beginning.errors, beginning.errors
+
+
 def check_marks(programs):
     """Who was cut off is said once, to the next that begins; more sessions than marks are served; and nothing is said of one that ends
     while another begins."""
@@ -256,15 +271,7 @@ def check_marks(programs):
         assert len(said) == 1 and CUT_OFF.fullmatch(said[0]) and said[0].startswith(line), (said, line)
         assert not any(session.errors for session in many) and not list(desk.folder.glob("entering-*"))
         if shutil.which("strace"):
-            ending = Session(desk, 1)
-            ending.ask(ROW % 1)
-            beginning = Session(desk, 2, under=under("flock", "-e", "inject=flock:delay_enter=300000"))
-            time.sleep(0.75)
-            ending.close()
-            beginning.ask(ROW % 2)
-            beginning.close()
-            whole([ending, beginning])
-            assert not beginning.errors, beginning.errors
+            check_mark_meets(desk)
         sound(desk, len(rows_of(desk.read())))
     return "sessions that were cut off, of which the next says so once, and 73 at once"
 

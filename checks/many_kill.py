@@ -25,13 +25,12 @@ from collections import Counter
 from lib.desk import Desk, SHORT_COURT
 from lib.journal import corrections_in, rows_of
 from lib.programs import programs_of, seed_and_count
-from lib.sessions import Correction, ROW, Session, bursts_of_rows, explained, of_clerk, replayed, sound, whole, with_faults
+from lib.sessions import (Correction, ENDED, ROW, Session, TO_THE_END, bursts_of_rows, explained, of_clerk, replayed, sound, whole,
+                          with_faults)
 from strike_check import drawn_row, opened
 
 # How many rounds go on with one folder.
 ROUNDS = 25
-# With which statuses a program may end that is ended.
-ENDED = (0, 8, -signal.SIGKILL, -signal.SIGTERM)
 # The calls of the system that fail, each with an error.
 CALLS = (("flock", "ENOLCK"), ("openat", "EMFILE"), ("pread64", "EIO"), ("pwrite64", "ENOSPC"), ("fdatasync", "EIO"))
 # How many rows each of the four programs has whose calls fail, and by which of them that is.
@@ -44,36 +43,32 @@ BESIDE, PORTIONS, GROWTH = 495, 10, 500
 # Programs that are killed
 
 
-def end_some(draw, pace, processes, begun):
-    """Ends some processes, each at a moment of its own."""
-    moments = [(draw.random() * pace, process, draw.choice([signal.SIGKILL] * 4 + [signal.SIGTERM])) for process in processes if draw.random() < 0.6]
-    for moment, process, by in sorted(moments, key=lambda each: each[0]):
-        time.sleep(max(0, begun + moment - time.monotonic()))
-        if process.poll() is None:
-            process.send_signal(by)
-
-
-def killed_sessions(desk, draw, pace):
-    """Sessions, some of which are ended while a correction is made: all, once each has ended, and what came of the corrections."""
-    begun, count = time.monotonic(), len(rows_of(desk.read()))
+def killed_sessions(desk, draw):
+    """Sessions, some of which are ended, while the docket is corrected: all, once each has ended, and what came of the corrections."""
+    count, corrections = len(rows_of(desk.read())), []
     sessions = [Session(desk, clerk) for clerk in draw.sample(range(1, 65), draw.choice([2, 3, 4, 6]))]
     for session in sessions:
-        rows = of_clerk(session.clerk, opened(draw) + [drawn_row(draw) for _ in range(draw.choice([3, 10, 40]))])
-        slow = draw.choice([0, pace / 10])
-        session.start(bursts_of_rows(draw, with_faults(draw, session.clerk, rows)), iter(lambda slow=slow: draw.random() * slow, None), draw.random() < 0.5)
-    corrections = [Correction(desk, draw, count)] if draw.random() < 0.5 else []
-    end_some(draw, pace, [each.process for each in sessions + corrections], begun)
+        rows = with_faults(draw, session.clerk, of_clerk(session.clerk, opened(draw) + [drawn_row(draw) for _ in range(draw.choice([3, 10, 40]))]))
+        slow = draw.choice([0, 0, 0.01])
+        session.start(bursts_of_rows(draw, rows), iter(lambda slow=slow: draw.random() * slow, None), draw.random() < 0.5)
+        if draw.random() < 0.6:
+            session.end_after(draw.randint(0, len(rows)), draw.random() * draw.choice([0.002, 0.01]), draw.choice([signal.SIGKILL] * 4 + [signal.SIGTERM]))
+    if count and draw.random() < 0.5:
+        corrections.append(Correction(desk, draw, count))
+        if draw.random() < 0.3:
+            time.sleep(draw.random() * 0.05)
+            corrections[0].process.kill()
     for session in sessions:
-        assert session.end() in ENDED, (session.process.returncode, session.errors)
+        assert session.end() in (*TO_THE_END, *ENDED), (session.process.returncode, session.errors)
     return sessions, [correction.end() for correction in corrections]
 
 
 def check_round(desk, draw, counts):
     """A round: what was answered is kept, and the folder is sound."""
-    before, tail, began = desk.read(), desk.tail(), time.monotonic()
-    sound(desk, len(rows_of(before)))
-    sessions, corrections = killed_sessions(desk, draw, 3 * (time.monotonic() - began) + 0.05)
+    before, tail = desk.read(), desk.tail()
+    sessions, corrections = killed_sessions(desk, draw)
     journal = desk.read()
+    sound(desk, len(rows_of(journal)))
     assert journal.entries[:len(before.entries)] == before.entries, "entries of earlier rounds were changed"
     kept, unanswered = explained(sessions, rows_of(journal), len(rows_of(before)))
     made = len(corrections_in(journal)) - len(corrections_in(before))
@@ -126,7 +121,7 @@ def check_failing_call(desk, call, how, when):
     status = sessions[FAILING - 1].end()
     kept, _ = explained(sessions, rows_of(desk.read()), before)
     sound(desk, before + kept)
-    return status not in (0, 8)
+    return status not in TO_THE_END
 
 
 def failing(programs, draw, most):

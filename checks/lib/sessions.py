@@ -24,6 +24,8 @@ TO_THE_END, WAIT, LONGEST = (0, 8), ["--wait", "600"], 1200
 OPEN, ROW = b"%d,open,%d,2025-03-03\n", b"%d,compute,59e,2025-08-04,,,\n"
 # The words by which a row is struck or restored whatever else changes, and the status with which it can't be.
 WHY, CANNOT = ["--accept", "--reason", "entered twice"], 3
+# How a process ends that is ended.
+ENDED = (-signal.SIGKILL, -signal.SIGTERM)
 # The number with which a row of the journal begins, and the first number in an answer to clerk 1.
 CLERK, ANSWERED = re.compile(rb"^\d+,"), re.compile(rb"^(\d+) \d+ ")
 
@@ -90,6 +92,15 @@ class Session:
     def start(self, bursts, pauses, waits=False):
         """Gives it bursts of rows as time goes on."""
         self.begin(self.give, bursts, pauses, waits)
+
+    def end_after(self, count, pause, by):
+        """Ends it by a signal, shortly after so many lines are answered, unless it has ended by then."""
+        def end():
+            self.wait_for(count)
+            time.sleep(pause)
+            if self.process.poll() is None:
+                self.process.send_signal(by)
+        self.begin(end)
 
     def close(self):
         try:
@@ -229,10 +240,10 @@ class Correction:
             file = desk.folder.parent / "court{}.toml".format(draw.randint(1, 1_000_000))
             file.write_bytes(other_court(draw))
             self.words = [word, file, "--accept"]
-        self.process = subprocess.Popen(desk.words(*self.words, *WAIT), stdin=subprocess.DEVNULL, stdout=subprocess.PIPE, stderr=subprocess.PIPE)
+        self.process = subprocess.Popen(desk.words(*self.words, *WAIT), stdin=subprocess.DEVNULL, stdout=subprocess.DEVNULL, stderr=subprocess.PIPE)
 
     def end(self):
-        """Whether it was kept; None where it was killed, and may be kept or not."""
+        """Whether it was kept; None where it was ended, and may be kept or not."""
         _, errors = self.process.communicate()
-        assert self.process.returncode in (0, CANNOT, -signal.SIGKILL), (self.words, self.process.returncode, errors)
+        assert self.process.returncode in (0, CANNOT, *ENDED), (self.words, self.process.returncode, errors)
         return None if self.process.returncode < 0 else self.process.returncode == 0
