@@ -30,7 +30,7 @@ from lib.sessions import (Correction, ENDED, ROW, Session, TO_THE_END, bursts_of
 from strike_check import drawn_row, opened
 
 # How many rounds go on with one folder.
-ROUNDS = 25
+ROUNDS = 10
 # The calls of the system that fail, each with an error.
 CALLS = (("flock", "ENOLCK"), ("openat", "EMFILE"), ("pread64", "EIO"), ("pwrite64", "ENOSPC"), ("fdatasync", "EIO"))
 # How many rows each of the four programs has whose calls fail, and by which of them that is.
@@ -48,7 +48,7 @@ def killed_sessions(desk, draw):
     count, corrections = len(rows_of(desk.read())), []
     sessions = [Session(desk, clerk) for clerk in draw.sample(range(1, 65), draw.choice([2, 3, 4, 6]))]
     for session in sessions:
-        rows = with_faults(draw, session.clerk, of_clerk(session.clerk, opened(draw) + [drawn_row(draw) for _ in range(draw.choice([3, 10, 40]))]))
+        rows = with_faults(draw, session.clerk, of_clerk(session.clerk, opened(draw) + [drawn_row(draw) for _ in range(draw.choice([3, 10, 40, 150]))]))
         slow = draw.choice([0, 0, 0.01])
         session.start(bursts_of_rows(draw, rows), iter(lambda slow=slow: draw.random() * slow, None), draw.random() < 0.5)
         if draw.random() < 0.6:

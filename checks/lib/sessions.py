@@ -224,7 +224,7 @@ def bursts_of_rows(draw, rows):
     """Lists of one row or of some."""
     bursts, at = [], 0
     while at < len(rows):
-        size = draw.choice([1, 1, 3, 10])
+        size = draw.choice([1, 1, 3, 10, 100])
         bursts.append(rows[at:at + size])
         at += size
     return bursts
