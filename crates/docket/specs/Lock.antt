@@ -6,6 +6,10 @@ use Rattle.std.specs.Fmt.{decimal}
 abbrev pub lock_name : (folder : List ℕ) → List ℕ
 lock_name folder = folder ++ codes "/lock"
 
+-- the name of the file whose lock who is next has
+abbrev pub next_name : (folder : List ℕ) → List ℕ
+next_name folder = folder ++ codes "/next"
+
 -- what is said where others had the lock for so many seconds
 abbrev pub waited_line : (folder : List ℕ) → (wait : ℕ) → List ℕ
 waited_line folder wait =

@@ -8,7 +8,9 @@ ghost use Rattle.docket.specs.Sessions.{done_text, remark_by, remark_text};
 ghost use Rattle.program_streams.specs.Words.{has_failed, watched};
 
 use crate::fault::Fault;
-use crate::folder::{end_desk, make_folder, opened, read_file, remove_spare, stamp_now, sync_made};
+use crate::folder::{
+    end_desk, make_folder, opened, put, read_file, remove_spare, stamp_now, sync_made,
+};
 use crate::journal_file::{check_place, journal_name};
 use crate::lock::lock_of;
 use crate::shared_file::share;
@@ -140,6 +142,16 @@ fn corrected<D: Disk, W: Write>(
     )
 }
 
+// Writes what was said while the folder was this program's, now that it is others' again.
+fn write_said<W: Write>(writer: &mut Watched<W>, said: &Watched<Vec<u8>>) -> Result<(), Fault>
+    requires { has_failed writer.old ≡ false }
+{
+    if said.failed() {
+        return Err(Fault::Desk(DeskFault::OutOfMemory));
+    }
+    Ok(put(writer, said.inner())?)
+}
+
 /// Writes what would change without a row, or with one that is struck, and strikes or restores it if no answer would, or where that is
 /// accepted.
 pub fn correct<H: Threads + Wait + Sync, W: Write>(
@@ -155,9 +167,10 @@ pub fn correct<H: Threads + Wait + Sync, W: Write>(
     let account = account_of(rt)?;
     let lock = lock_of(rt, folder, correcting.wait)?;
     let (mut desk, entries) = opened(rt, threads, folder, Wary)?;
+    let mut said = Watched::new(Vec::new(rt.alloc()));
     let ended = corrected(
         rt.alloc(),
-        writer,
+        &mut said,
         &mut desk,
         &entries,
         done,
@@ -166,6 +179,7 @@ pub fn correct<H: Threads + Wait + Sync, W: Write>(
     );
     end_desk(rt, folder, desk);
     drop(lock);
+    write_said(writer, &said)?;
     Ok(ended?)
 }
 
@@ -183,8 +197,10 @@ pub fn change<H: Threads + Wait + Sync, W: Write>(
     let file = read_file(rt, changing.file.as_str())?;
     let lock = lock_of(rt, folder, changing.wait)?;
     let (mut desk, entries) = opened(rt, threads, folder, Wary)?;
-    let ended = desk.change(rt.alloc(), &entries, &file, changing.accept, writer);
+    let mut said = Watched::new(Vec::new(rt.alloc()));
+    let ended = desk.change(rt.alloc(), &entries, &file, changing.accept, &mut said);
     end_desk(rt, folder, desk);
     drop(lock);
+    write_said(writer, &said)?;
     Ok(ended?)
 }

@@ -1,10 +1,10 @@
 //! The lock of a folder. A program has it while it has the folder's journal open; the others wait.
 ghost use Rattle.std.specs.Prelude.{◌≡◌, string_bytes, IfOk};
-ghost use Rattle.docket.specs.Lock.{lock_name, unlocked_line, waited_line};
+ghost use Rattle.docket.specs.Lock.{lock_name, next_name, unlocked_line, waited_line};
 
 use crate::fault::Fault;
 use crate::journal_file::{find_own_journal, journal_name};
-use crate::place::{Place, is_replaced, place_in};
+use crate::place::is_at;
 use crate::shared_file::new_file;
 use desk_program::{FileFault, file_fault};
 use std::alloc::{AllocError, Global};
@@ -32,6 +32,13 @@ fn lock_name(alloc: Global, folder: &str) -> Result<String, AllocError>
     ensures { IfOk result (λ name. string_bytes name ≡ lock_name folder.now) }
 {
     format!(in alloc; "{folder}/lock")
+}
+
+// The name of the file whose lock who is next has.
+fn next_name(alloc: Global, folder: &str) -> Result<String, AllocError>
+    ensures { IfOk result (λ name. string_bytes name ≡ next_name folder.now) }
+{
+    format!(in alloc; "{folder}/next")
 }
 
 // What is said where the lock didn't come in time.
@@ -66,14 +73,6 @@ fn lock_file(rt: &HostRuntime, folder: &str, name: &str) -> Result<Option<File>,
     match reopened(rt, name)? {
         Some(file) => Ok(Some(file)),
         None => new_file(rt, folder, name),
-    }
-}
-
-// Whether a file that is open is the one at its name.
-fn is_at(rt: &HostRuntime, name: &str, file: &File) -> bool {
-    match place_in(file) {
-        Ok(place) => !is_replaced(rt, name, place),
-        Err(_) => false,
     }
 }
 
@@ -141,18 +140,34 @@ fn wait_for(
     }
 }
 
-/// Takes the lock of a folder. Where other programs have it for so many seconds, it isn't taken, and the fault says so.
-pub fn take_lock(rt: &HostRuntime, folder: &str, wait: u32) -> Result<FolderLock, Fault> {
-    let name = lock_name(rt.alloc(), folder)?;
-    let since = Instant::now(rt).ok();
+// Takes the lock of that name, or the fault says that others have it for so many seconds from then on.
+fn taken(
+    rt: &HostRuntime,
+    folder: &str,
+    name: &str,
+    since: Option<Instant>,
+    wait: u32,
+) -> Result<FolderLock, Fault> {
     for _ in 0..u64::MAX {
-        match wait_for(rt, folder, name.as_str(), since, wait)? {
+        match wait_for(rt, folder, name, since, wait)? {
             Waited::Taken(lock) => return Ok(lock),
             Waited::Again => {}
             Waited::TooLong => break,
         }
     }
     Err(Fault::Waited(waited_line(rt.alloc(), folder, wait)?))
+}
+
+/// Takes the lock of a folder. Where other programs have it for so many seconds, it isn't taken, and the fault says so. Who waits for it has
+/// a lock of its own first, that of who is next: so a program that lets the folder go doesn't have it again before one that waits.
+pub fn take_lock(rt: &HostRuntime, folder: &str, wait: u32) -> Result<FolderLock, Fault> {
+    let since = Instant::now(rt).ok();
+    let next = next_name(rt.alloc(), folder)?;
+    let name = lock_name(rt.alloc(), folder)?;
+    let turn = taken(rt, folder, next.as_str(), since, wait)?;
+    let lock = taken(rt, folder, name.as_str(), since, wait)?;
+    drop(turn);
+    Ok(lock)
 }
 
 /// Takes the lock of a folder that has a journal, as above.

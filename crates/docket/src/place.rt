@@ -23,8 +23,8 @@ pub fn place_of(rt: &HostRuntime, name: &str) -> io::Result<Place> {
     Ok(place_by(&fs::metadata(rt, name)?))
 }
 
-/// The file that is open.
-pub fn place_in(file: &File) -> io::Result<Place> {
+// The file that is open.
+fn place_in(file: &File) -> io::Result<Place> {
     Ok(place_by(&file.metadata()?))
 }
 
@@ -33,5 +33,13 @@ pub fn is_replaced(rt: &HostRuntime, name: &str, place: Place) -> bool {
     match place_of(rt, name) {
         Ok(now) => now != place,
         Err(_) => true,
+    }
+}
+
+/// Whether a file that is open is the one at its name.
+pub fn is_at(rt: &HostRuntime, name: &str, file: &File) -> bool {
+    match place_in(file) {
+        Ok(place) => !is_replaced(rt, name, place),
+        Err(_) => false,
     }
 }

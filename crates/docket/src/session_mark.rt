@@ -5,18 +5,21 @@ ghost use Rattle.std.specs.Prelude.{◌≡◌, string_bytes, IfOk};
 ghost use Rattle.docket.specs.SessionMark.{cut_off_line, mark_name};
 
 use crate::fault::Fault;
-use crate::folder::read_file;
 use crate::lock::FolderLock;
+use crate::place::is_at;
 use crate::shared_file::new_file;
 use desk_program::lines_shown;
 use program_runs::refused;
 use program_streams::Watched;
 use std::alloc::{AllocError, Global};
 use std::fs::{self, File};
-use std::io::Write;
+use std::io::{Read, Write};
 
 // How many marks a folder may have. A session more has none.
 const MOST_MARKS: u32 = 64;
+
+// How many bytes of a mark are read: an account has fewer.
+const MOST_READ: usize = 256;
 
 /// The mark of a session that is on.
 #[derive(Drop)]
@@ -41,20 +44,28 @@ fn cut_off_line(alloc: Global, folder: &str, account: &str, rows: u32) -> Result
     )
 }
 
-// Whether the session of a mark was cut off: there is the mark, and nobody holds it.
-fn is_left(rt: &HostRuntime, name: &str) -> bool {
+// The mark of a session that was cut off: there is the file, and nobody holds it. One that was taken away meanwhile is none.
+fn left_mark(rt: &HostRuntime, name: &str) -> Option<File> {
     match File::options().read(true).write(true).open(rt, name) {
-        Ok(file) => file.try_lock().is_ok(),
-        Err(_) => false,
+        Ok(file) if file.try_lock().is_ok() && is_at(rt, name, &file) => Some(file),
+        _ => None,
     }
 }
 
+// The account that a mark says, as far as it can be read.
+fn account_in(alloc: Global, mut mark: File) -> Result<Vec<u8>, AllocError> {
+    let mut account = vec![in alloc; 0u8; MOST_READ]?;
+    let count = mark.read(account.as_mut_slice()).unwrap_or(0);
+    account.truncate(count);
+    Ok(account)
+}
+
 // Says that the session of a mark was cut off, where a row is kept.
-fn tell_left(rt: &HostRuntime, folder: &str, name: &str, rows: u32) -> Result<(), Fault> {
+fn tell_left(rt: &HostRuntime, folder: &str, mark: File, rows: u32) -> Result<(), Fault> {
     if rows == 0 {
         return Ok(());
     }
-    let account = lines_shown(rt.alloc(), &read_file(rt, name)?)?;
+    let account = lines_shown(rt.alloc(), &account_in(rt.alloc(), mark)?)?;
     let account = str::from_utf8(&account).unwrap_or("an account");
     let line = cut_off_line(rt.alloc(), folder, account, rows)?;
     let _ = refused(&mut Watched::new(rt.stderr()), line.as_str());
@@ -64,9 +75,9 @@ fn tell_left(rt: &HostRuntime, folder: &str, name: &str, rows: u32) -> Result<()
 // Takes a mark away that a session left which was cut off, and says so.
 fn clear_mark(rt: &HostRuntime, folder: &str, number: u32, rows: u32) -> Result<(), Fault> {
     let name = mark_name(rt.alloc(), folder, number)?;
-    if is_left(rt, name.as_str()) {
-        tell_left(rt, folder, name.as_str(), rows)?;
+    if let Some(mark) = left_mark(rt, name.as_str()) {
         let _ = fs::remove_file(rt, name.as_str());
+        tell_left(rt, folder, mark, rows)?;
     }
     Ok(())
 }
