@@ -9,7 +9,7 @@ ghost use Rattle.program_streams.specs.Words.{has_failed, watched};
 
 use crate::fault::Fault;
 use crate::folder::{
-    end_desk, make_folder, opened, put, read_file, remove_spare, stamp_now, sync_made,
+    end_desk, gathered, make_folder, opened, put, read_file, remove_spare, stamp_now, sync_made,
 };
 use crate::journal_file::{check_place, journal_name};
 use crate::lock::lock_of;
@@ -167,7 +167,7 @@ pub fn correct<H: Threads + Wait + Sync, W: Write>(
     let account = account_of(rt)?;
     let lock = lock_of(rt, folder, correcting.wait)?;
     let (mut desk, entries) = opened(rt, threads, folder, Wary)?;
-    let mut said = Watched::new(Vec::new(rt.alloc()));
+    let mut said = gathered(rt.alloc());
     let ended = corrected(
         rt.alloc(),
         &mut said,
@@ -197,7 +197,7 @@ pub fn change<H: Threads + Wait + Sync, W: Write>(
     let file = read_file(rt, changing.file.as_str())?;
     let lock = lock_of(rt, folder, changing.wait)?;
     let (mut desk, entries) = opened(rt, threads, folder, Wary)?;
-    let mut said = Watched::new(Vec::new(rt.alloc()));
+    let mut said = gathered(rt.alloc());
     let ended = desk.change(rt.alloc(), &entries, &file, changing.accept, &mut said);
     end_desk(rt, folder, desk);
     drop(lock);

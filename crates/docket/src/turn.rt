@@ -6,7 +6,7 @@ ghost use Rattle.docket.specs.Sessions.{EntersFile, IsLeftIn, PromisesLines, Res
 ghost use Rattle.program_streams.specs.Words.{has_failed, watched};
 
 use crate::fault::Fault;
-use crate::folder::opened;
+use crate::folder::{gathered, opened};
 use crate::journal_file::{find_own_journal, journal_name};
 use crate::keep::kept;
 use crate::saved::save_tail_after;
@@ -63,8 +63,8 @@ fn turn_at<D: Disk, C: Clock>(
         → PromisesLines (standing_at desk) asked.now.held_back kept (Some []) (Some (watched result.told.said).items) (has_failed result.told.said ≡ false) (D.Disk.may_leave result.disk) }
     ensures clean { IsTrue (D.Disk.is_clean result.disk) → IsTrue (D.Disk.is_clean (disk_under desk)) }
 {
-    let mut said = Watched::new(Vec::new(alloc));
-    let mut errors = Watched::new(Vec::new(alloc));
+    let mut said = gathered(alloc);
+    let mut errors = gathered(alloc);
     let before = desk.rows();
     desk.hold_back(asked.held_back);
     let ended = kept(alloc, clock, &mut said, &mut errors, &mut desk, asked, rows);
