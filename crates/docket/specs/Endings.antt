@@ -7,9 +7,10 @@ use Rattle.desk_program.specs.Words.{desk_status}
 use Rattle.docket.specs.declared.fault.Fault.{Fault}
 use Rattle.docket.specs.declared.fault.Fault.TheVariants.{Desk, Input, Missing, NotWritten, Told, Unusable}
 
--- where no court's file is written: 1 for the years, 2 for a text that doesn't read back
+-- where no court's file is written: 1 for the years and the hours, 2 for a text that doesn't read back
 abbrev pub write_status : WriteFault → ℕ
 write_status write.BadYears = 1
+write_status write.BadHours = 1
 write_status write.NotReadBack = 2
 write_status write.OutOfMemory = 5
 

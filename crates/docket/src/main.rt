@@ -5,6 +5,7 @@
 mod alone;
 mod beside;
 mod court;
+mod court_update;
 mod enter;
 mod fault;
 mod folder;

@@ -52,6 +52,7 @@ fn task_of(
         Subcommand::Court => Err(missing(alloc, "the command after 'court'")),
         Subcommand::CourtCheck => court_tasks::check(alloc, given),
         Subcommand::CourtWrite => court_tasks::write(alloc, given),
+        Subcommand::CourtUpdate => court_tasks::update(alloc, given),
         Subcommand::CourtChange => court_tasks::change(alloc, given),
     }
 }
