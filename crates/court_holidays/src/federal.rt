@@ -7,7 +7,7 @@ mod observed;
 mod statute;
 
 pub use calendar::holiday_on;
-pub use closings::{Closing, closings, closings_known};
+pub use closings::{Closing, closed_days, closings_known};
 pub use laws::{
     days_are_their_holidays, holidays_lie_in_their_year, labor_day_is_a_monday,
     last_weekdays_are_last, no_two_share_a_day, observed_are_in_place, weekdays_are_counted,

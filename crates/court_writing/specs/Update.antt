@@ -2,7 +2,7 @@
 use Rattle.std.specs.Prelude.{◌≡◌, ◌⊎◌, ℕ, suc, ◌-◌, nat_le, ◌==◌, ◌&&◌, not, Bool, true, false, ℤ, pos, ◌+ℤ◌, ◌≤ℤ◌, int_le, unsigned_abs, List, [], ◌∷◌, ◌++◌, codes, drop, length, nat_eq, slice_get, unwrap_or, Option, Some, None, Result, Ok, Err, is_some, option_and_then, IfErr, if◌then◌else◌}
 use Rattle.std.specs.List.{find, slice_split, starts_with}
 use Rattle.jiff_tz.specs.Year.{year_of_day}
-use Rattle.court_clock.specs.Words.{day_text}
+use Rattle.court_clock.specs.Words.{day_text, days_through}
 use Rattle.court_days.specs.Words.{CourtFile, DaysView, court_in, is_among, is_covered}
 use Rattle.court_days.specs.declared.holiday_list.HolidayList.{HolidayList}
 use Rattle.court_days.specs.declared.holiday_list.HolidayList.TheVariants as list
@@ -105,14 +105,14 @@ pub record IsUpdateOf (text : List ℕ) (to : ℕ) (result said : List ℕ) : Ty
 
 -- ---- why it isn't made
 
--- the year is one of 2016 to 2199, and no whole year before these is missing
-abbrev pub is_year : (last : ℤ) → (to : ℕ) → Bool
-is_year last to = nat_le 2016 to && (nat_le to 2199 && int_le (on 12 31 (pos 2015)) last)
+-- the year is one of 2016 to 2199, the file goes up to the first of these, and it has at most 36,525 days, which is all that it may have
+abbrev pub is_year : DaysView → (to : ℕ) → Bool
+is_year c to = nat_le 2016 to && (nat_le to 2199 && (int_le (on 12 31 (pos 2015)) c.to && nat_le (days_through c.from (on 12 31 (pos to))) 36525))
 
 abbrev pub refusal_of : CourtFile → Option District → (to : ℕ) → Option UpdateFault
 refusal_of file None to = Some fault.NoCourt
 refusal_of file (Some court) to =
-    if not (is_year file.days.to to) then Some fault.BadYear
+    if not (is_year file.days to) then Some fault.BadYear
     else if int_le (on 12 31 (pos to)) file.days.to then Some (fault.Reached file.days.to)
     else None
 

@@ -11,7 +11,7 @@ use crate::lists::days_after;
 use crate::put::{Join, last_day_place, list_end, names_end, put};
 use crate::update::{UpdateFault, Updated};
 use court_clock::Day;
-use court_days::HolidayList;
+use court_days::{Days, HolidayList};
 use court_file_text::Key;
 use court_holidays::{State, later, on};
 use std::alloc::{AllocError, Global};
@@ -22,14 +22,15 @@ pub(crate) fn extended(
     alloc: Global,
     state: State,
     text: &[u8],
-    last: Day,
+    before: &Days,
     to: u16,
 ) -> Result<Updated, UpdateFault>
-    requires year { is_year last to ≡ true }
-    requires more { last <ℤ on 12 31 (pos to) }
-    ensures extended { IfOk result (λ updated. IsExtended state last to text.now updated.file.items (string_bytes updated.said)) }
+    requires year { is_year before.now to ≡ true }
+    requires more { before.now.to <ℤ on 12 31 (pos to) }
+    ensures extended { IfOk result (λ updated. IsExtended state before.now.to to text.now updated.file.items (string_bytes updated.said)) }
     ensures late { IsLate result }
 {
+    let last = before.to();
     let first = later(last, 1);
     let end = on(to as i16, 12, 31);
     let federal = days_after(alloc, state, HolidayList::Federal, first, to)?;

@@ -10,9 +10,9 @@ use crate::courts::CourtName;
 use crate::extended::extended;
 use crate::grown::check_grown;
 use court_clock::Day;
-use court_days::Court;
+use court_days::{Court, Days};
 use court_file_text::{CourtFault, Key};
-use court_holidays::on;
+use court_holidays::{count_through, on};
 use std::alloc::{AllocError, Global};
 use thiserror::Error;
 
@@ -28,8 +28,10 @@ pub enum UpdateFault {
     /// No line says of which court the file is.
     #[error("the court's file doesn't say of which court it is: none of its lines begins with '# Written by `docket court write --court' and a court's name; put that line in, or add the days by hand")]
     NoCourt,
-    /// The year isn't one of 2016 to 2199, or the file ends before 2015-12-31.
-    #[error("the year has to be one of 2016 to 2199, and the file has to end on 2015-12-31 or later")]
+    /// The year isn't one of 2016 to 2199, the file ends before 2015-12-31, or it would have more than 36,525 days.
+    #[error(
+        "the year has to be one of 2016 to 2199, and the file has to end on 2015-12-31 or later and may have 36,525 days at most"
+    )]
     BadYear,
     /// The file goes up to this day, which isn't before the end of the year.
     #[error("the court's file goes up to {0} already: give a later year")]
@@ -82,22 +84,25 @@ pub fn court_update(alloc: Global, text: &[u8], to: u16) -> Result<Updated, Upda
     };
     let before = court.days();
     let last = before.to();
-    if !is_year(last, to) {
+    if !is_year(before, to) {
         return Err(UpdateFault::BadYear);
     }
     if on(to as i16, 12, 31).number() <= last.number() {
         return Err(UpdateFault::Reached(last));
     }
-    let updated = extended(alloc, named.state, text, last, to)?;
+    let updated = extended(alloc, named.state, text, before, to)?;
     check_grown(alloc, named.state, before, to, &updated.file)?;
     Ok(updated)
 }
 
-/// Whether the year is one up to which a file can go that ends with that day.
-fn is_year(last: Day, to: u16) -> bool
-    ensures { result ≡ is_year last to }
+/// Whether the year is one up to which the file with these days can go.
+fn is_year(days: &Days, to: u16) -> bool
+    ensures { result ≡ is_year days.now to }
 {
-    2016 <= to && to <= 2199 && on(2015, 12, 31).number() <= last.number()
+    2016 <= to
+        && to <= 2199
+        && on(2015, 12, 31).number() <= days.to().number()
+        && count_through(days.from(), on(to as i16, 12, 31)) <= 36_525
 }
 
 /// The court that a text says it is the file of.

@@ -1,15 +1,20 @@
 //! A court's file: checked, or written.
-ghost use Rattle.std.specs.Prelude.{◌≡◌, false, OnOk, ℕ, List};
+ghost use Rattle.std.specs.Prelude.{◌≡◌, false, IfOk, OnOk, ℕ, List};
 ghost use Rattle.std.specs.Io.KnownBytes.{Appends};
+ghost use Rattle.court_days.specs.Words.{court_in};
 ghost use Rattle.court_writing.specs.Words.{IsFileOf, zone_text};
-ghost use Rattle.docket.specs.Endings.{check_status};
+ghost use Rattle.docket.specs.Endings.{IsDayUsed, check_status};
 ghost use Rattle.program_streams.specs.Words.{has_failed, watched};
 
 use crate::fault::{Fault, misspoken};
 use crate::folder::{put, read_file};
+use court_clock::Instant;
+use court_days::Court;
 use court_file_check::{Asked, Report, check_file as checked_file, report_of};
+use court_file_text::CourtFault;
 use court_writing::{CourtName, CourtOwn, NamesFault, court_text, names_in};
 use desk_program::check_court;
+use program_main::today_by;
 use program_streams::Watched;
 use program_words::Writing;
 use std::alloc::{AllocError, Global};
@@ -28,19 +33,43 @@ fn status_of(report: &Report) -> u8
     }
 }
 
+// What a check goes by: the day that is asked or, where none is, the one that the court's clock shows.
+fn asked_on(
+    alloc: Global,
+    bytes: &[u8],
+    asked: Asked,
+    clock_time: Instant,
+) -> Result<Asked, AllocError>
+    ensures { IfOk result (λ used. (used.capital ≡ asked.capital) × IsDayUsed asked.today (court_in bytes.now) clock_time used.today) }
+{
+    if asked.today.is_some() {
+        return Ok(asked);
+    }
+    match Court::from_bytes(alloc, bytes) {
+        Ok(court) => Ok(Asked {
+            today: Some(today_by(court.clock(), clock_time)),
+            capital: asked.capital,
+        }),
+        Err(CourtFault::OutOfMemory) => Err(AllocError),
+        Err(_) => Ok(asked),
+    }
+}
+
 /// Checks a court's file, writes what was found, and gives the status. A file with no fault that no program can take, since a line
 /// `%%` in one of its texts divides it, is refused as `init` refuses it.
 pub fn check_file<W: Write>(
     rt: &HostRuntime,
     writer: &mut Watched<W>,
     name: &str,
-    asked: &Asked,
+    asked: Asked,
+    clock_time: Instant,
 ) -> Result<u8, Fault>
     requires { has_failed writer.old ≡ false }
 {
     let bytes = read_file(rt, name)?;
-    let checked = checked_file(rt.alloc(), bytes.as_slice(), asked)?;
-    let report = report_of(rt.alloc(), name, bytes.as_slice(), asked, &checked)?;
+    let asked = asked_on(rt.alloc(), bytes.as_slice(), asked, clock_time)?;
+    let checked = checked_file(rt.alloc(), bytes.as_slice(), &asked)?;
+    let report = report_of(rt.alloc(), name, bytes.as_slice(), &asked, &checked)?;
     if report.faults == 0 {
         check_court(rt.alloc(), bytes.as_slice())?;
     }

@@ -33,7 +33,7 @@ fn told_refusal<E: Write>(
         UpdateFault::BadYear | UpdateFault::Reached(_) => 1,
         _ => 2,
     };
-    let line = format!(in alloc; "nothing is changed: {fault}\n")?;
+    let line = format!(in alloc; "error: {fault}\n")?;
     let _ = refused(errors, line.as_str());
     Ok(Fault::Told(status))
 }

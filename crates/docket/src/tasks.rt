@@ -83,7 +83,9 @@ pub fn done<H: Threads + Wait + Sync, W: Write, E: Write>(
         Task::Log(folder, asked) => log(rt, threads, writer, folder.as_str(), asked)?,
         Task::Report(source, asked) => report(rt, threads, writer, source, asked)?,
         Task::Memo(source, asked) => memo(rt, threads, writer, source, asked)?,
-        Task::CourtCheck(file, asked) => return check_file(rt, writer, file.as_str(), asked),
+        Task::CourtCheck(file, asked, clock_time) => {
+            return check_file(rt, writer, file.as_str(), *asked, *clock_time);
+        }
         Task::CourtWrite(court, writing) => write_file(rt, writer, errors, *court, writing)?,
         Task::CourtUpdate(folder, updating) => {
             update(rt, threads, writer, errors, folder.as_str(), *updating)?

@@ -26,7 +26,8 @@ const CHECK: &str = "Say every fault of a court's file, and what may be wrong wi
 const CHECK_MORE: &str =
     "Each fault comes with its line and column, and with what to write in its place.
 If there is none it says what may be wrong: federal holidays that the list lacks,
-dates that are none, a span that ends too early, and more.
+dates that are none, a day on which the President closed the government and of
+which the file says nothing, a span that ends too early, and more.
 
 The status is 0 if it finds nothing, 2 if the file has faults, and 9 if it has
 none but something may be wrong.
@@ -37,7 +38,7 @@ Example:
 const FILE: &str = "The court's file";
 
 const TODAY: &str =
-    "From which day the file is used, as 2025-09-01: warns if it ends within a year";
+    "From which day the file is used, as 2025-09-01 (today): warns if it ends too early";
 
 const CAPITAL: &str = "The court is in the capital's region, which has Inauguration Day";
 

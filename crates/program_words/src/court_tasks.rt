@@ -11,13 +11,18 @@ use crate::task::{Changing, Task, Updating, Writing};
 use crate::tasks::folder_in;
 use crate::values::{court_in, day_if_given, minute_if_given, text_if_given, wait_in, year_in};
 use clap::ArgMatches;
+use court_clock::Instant;
 use court_file_check::Asked as CheckAsked;
 use program_main::OptionsFault;
 use std::alloc::Global;
 
-/// A court's file that is checked.
-pub(crate) fn check(alloc: Global, given: &ArgMatches<'_>) -> Result<Task, OptionsFault>
-    ensures task { (clock_time : ℤ) (name : Text) → IfOk result (IsTask clock_time Subcommand.CourtCheck name (rows_of (found_of given.now))) }
+/// A court's file that is checked, at the clock's time.
+pub(crate) fn check(
+    alloc: Global,
+    clock_time: Instant,
+    given: &ArgMatches<'_>,
+) -> Result<Task, OptionsFault>
+    ensures task { (name : Text) → IfOk result (IsTask clock_time Subcommand.CourtCheck name (rows_of (found_of given.now))) }
     ensures faults { IsAnswerFor (faults_given Subcommand.CourtCheck (rows_of (found_of given.now))) result }
 {
     let (file, today) = both(
@@ -25,7 +30,7 @@ pub(crate) fn check(alloc: Global, given: &ArgMatches<'_>) -> Result<Task, Optio
         day_if_given(alloc, given),
     )?;
     let capital = has_flag(given, "capital");
-    Ok(Task::CourtCheck(file, CheckAsked { today, capital }))
+    Ok(Task::CourtCheck(file, CheckAsked { today, capital }, clock_time))
 }
 
 /// What a court's file has that is written.

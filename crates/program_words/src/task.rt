@@ -42,8 +42,9 @@ pub enum Task {
     Report(Source, ReportAsked),
     /// `memo`.
     Memo(Source, MemoAsked),
-    /// `court check`: a court's file, and what is known of its use.
-    CourtCheck(String, CheckAsked),
+    /// `court check`: a court's file, what is known of its use, and the instant that the clock shows, by which it is today where no
+    /// other day is said.
+    CourtCheck(String, CheckAsked, Instant),
     /// `court write`: the court whose file is written, and what the file has.
     CourtWrite(CourtName, Writing),
     /// `court update`: a folder, and up to which year its court's file is to go.

@@ -7,7 +7,7 @@ ghost use Rattle.court_file_check.specs.Warnings.{has_text, is_unsaid, unsaid_cl
 
 use court_clock::Day;
 use court_days::Days;
-use court_holidays::{Closing, closings};
+use court_holidays::{Closing, closed_days};
 use std::alloc::{AllocError, Global};
 
 /// Those of the span whose date isn't in the text of the file, in a list or in a comment. An `Err` says that memory ran out.
@@ -20,7 +20,7 @@ pub(crate) fn unsaid_closings(
     ensures { IfOk result (λ found. map closing_view found.items ≡ unsaid_closings days.now text.now) }
 {
     let mut found = Vec::new(alloc);
-    for closing in closings() {
+    for closing in closed_days() {
         push_if(&mut found, is_unsaid(days, text, closing), *closing)?;
     }
     Ok(found)

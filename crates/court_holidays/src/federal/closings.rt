@@ -35,7 +35,7 @@ static CLOSINGS: [Closing; 8] = [
 
 /// The days from 2016 on, in their order, up to the one to which they are known.
 #[tactic(auto, unfolding(crate::specs::Federal::Closings::closings))]
-pub fn closings() -> &'static [Closing]
+pub fn closed_days() -> &'static [Closing]
     ensures { map closing_view result.now ≡ closings }
 {
     &CLOSINGS[..]
