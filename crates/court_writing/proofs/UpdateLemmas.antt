@@ -1,6 +1,6 @@
 -- Bytes that are put into a text, and why no years are added to a court's file.
 use Rattle.std.proofs.Common.{◌≡◌, ℕ, Bool, true, false, List, [], ◌∷◌, ◌++◌, Option, Some, None, Result, Ok, Err, int_le, pos, take, drop, refl, sym, ap, ◌∙◌, append_assoc, inl, inr, subst}
-use Rattle.std.proofs.lemmas.List.{take-drop}
+use Rattle.std.proofs.lemmas.List.{take-append-drop}
 use Rattle.court_days.specs.Words.{CourtFile}
 use Rattle.court_file_text.specs.declared.fault.CourtFault.{CourtFault}
 use Rattle.court_file_text.specs.declared.fault.CourtFault.TheVariants as court
@@ -15,12 +15,12 @@ use Rattle.court_writing.specs.declared.update.UpdateFault.TheVariants.{BadYear,
 pub is_put : (old new text before rest after first second whole : List ℕ) (at : ℕ) → before ≡ take at text → rest ≡ drop at text → rest ≡ old ++ after
     → first ≡ before → second ≡ first ++ new → whole ≡ second ++ after → IsPut old new text whole
 is_put old new text before rest after first second whole at is_before is_rest parts one two three =
-    let divided : text ≡ before ++ old ++ after = sym (take-drop at text) ∙ ap (λ b. b ++ drop at text) (sym is_before) ∙ ap (λ r. before ++ r) (sym is_rest ∙ parts) in
+    let divided : text ≡ before ++ old ++ after = sym (take-append-drop at text) ∙ ap (λ b. b ++ drop at text) (sym is_before) ∙ ap (λ r. before ++ r) (sym is_rest ∙ parts) in
     let made : whole ≡ before ++ new ++ after = three ∙ ap (λ s. s ++ after) (two ∙ ap (λ f. f ++ new) one) ∙ append_assoc before new after in
     (before, after, divided, made)
 
 pub is_front : (text begin rest front : List ℕ) (n : ℕ) → begin ≡ take n text → rest ≡ drop n text → begin ≡ front → text ≡ front ++ rest
-is_front text begin rest front n is_begin is_rest same = sym (take-drop n text) ∙ ap (λ b. b ++ drop n text) (sym is_begin ∙ same) ∙ ap (λ r. front ++ r) (sym is_rest)
+is_front text begin rest front n is_begin is_rest same = sym (take-append-drop n text) ∙ ap (λ b. b ++ drop n text) (sym is_begin ∙ same) ∙ ap (λ r. front ++ r) (sym is_rest)
 
 -- the refusals, in their order
 pub no_court : {A : Type 0} (file : CourtFile) (said : Option District) (to : ℕ) (result : Result A UpdateFault) → said ≡ None → result ≡ Err NoCourt → IsRefused (refusal_of file said to) result
