@@ -33,8 +33,7 @@ USED = ("2025-09-30", "2025-10-01", "2025-12-31", "2026-03-02")
 # Dates of closings that the text doesn't have.
 SAYS = " It was open on 2025-01-09, 2025-12-24 and 2025-12-26."
 UNSAID = (("it says nothing of the days on which the President closed the government", COURT.replace(SAYS, "")),
-          ("it lists one of them, and names another in a comment", COURT.replace(SAYS, " Not closed: 2025-01-09").replace('"2025-12-25",', '"2025-12-24", "2025-12-25",')),
-          ("they are outside the span", COURT.replace(SAYS, "").replace('"2025-01-01"', '"2026-01-01"', 1).replace('to = "2026-12-31"', 'to = "2027-12-31"')))
+          ("it lists one of them, and names another in a comment", COURT.replace(SAYS, " Not closed: 2025-01-09").replace('"2025-12-25",', '"2025-12-24", "2025-12-25",')))
 # What may differ unseen: nothing says which hours, names and holidays of the state are right.
 FREE = {"opens", "closes", "from", "to", "state", "judges", "rooms"}
 

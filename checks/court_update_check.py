@@ -106,7 +106,8 @@ def changed(text):
     yield "the list in one line", re.sub(r"(?<=^federal = \[).*?(?=^\])", "\"2024-01-01\", '2024-07-04'", text, flags=re.M | re.S)
     yield "no names of holidays", text.partition("\n# What each of these")[0] + "\n"
     yield "a table after the names", text + '\n[more]\nphone = "555-0100"\n'
-    yield "an earlier last day", text.replace('to = "2026-12-31"', 'to = "2026-06-30"')
+    earlier = text.replace('to = "2026-12-31"', 'to = "2026-06-30"')
+    yield "an earlier last day", re.sub(r'^2026-(07|08|09|1\d)-\d\d = .*\n', "", earlier, flags=re.M)
 
 
 def is_put_into(old, new):
@@ -161,6 +162,7 @@ def check_refusals(place):
     for name, other, said in (("it isn't said", re.sub(r"^# Written by.*\n", "", text, flags=re.M), b"doesn't say of which court"),
                               ("another court", text.replace("--court hawaii", "--court hawai"), b"doesn't say of which court"),
                               ("a day after the last", text.replace("federal = [", 'federal = ["2028-08-18", '), b"lists 2028-08-18"),
+                              ("names after the last day", text.replace('to = "2026-12-31"', 'to = "2026-06-30"'), b"in '[holiday_names]'"),
                               ("three quotes", text.replace('to = "2026-12-31"', 'to = """2026-12-31"""'), b"the end of 'to'")):
         ended = place.call("court", "update", place.made(other), "--to", TO)
         assert ended.status == COURT and said in ended.errors and not ended.output, (name, ended)

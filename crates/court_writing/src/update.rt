@@ -39,8 +39,8 @@ pub enum UpdateFault {
     /// The file lists this day after its last day, and the court's lists don't.
     #[error("the court's file lists {0}, which is after its last day and isn't in the court's lists: take it out, update the file, and put it in again")]
     Beyond(Day),
-    /// The text that was made isn't that file with those years. The tests find no such text.
-    #[error("the text that was made isn't the court's file with those years: this is a fault of the program")]
+    /// The text that was made isn't that file with those years, as where the table of names has a day after the last one.
+    #[error("the file with those years isn't read as it has to be: take out what it has of days after its last day, in its lists and in '[holiday_names]', and update it again")]
     NotReadBack,
     /// Memory ran out.
     #[error("out of memory")]

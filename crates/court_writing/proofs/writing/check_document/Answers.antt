@@ -16,11 +16,15 @@ returns-then-is_of_years-clause-written c =
     let names = names_read document (file_of c.in-Ok.read) read in
     let judges = read_once document Judges _ _ names.0 (c.in_ok-judges.ensures.named c.if-judges.true) in
     let rooms = read_once document Rooms _ _ names.1 (c.in_ok-rooms.ensures.named c.if-rooms.true) in
-    λ own is. (file_of c.in-Ok.read, read, record {
-      zone_is = zone_read document (file_of c.in-Ok.read) (zone_text c.args.court.zone) read zone;
-      opens = hours.0 ∙ is.opens;
-      closes = hours.1 ∙ is.closes;
-      judges = judges ∙ is.judges;
-      rooms = rooms ∙ is.rooms;
-      days = days;
-    })
+    λ own is. (
+      file_of c.in-Ok.read,
+      read,
+      record {
+        zone_is = zone_read document (file_of c.in-Ok.read) (zone_text c.args.court.zone) read zone;
+        opens = hours.0 ∙ is.opens;
+        closes = hours.1 ∙ is.closes;
+        judges = judges ∙ is.judges;
+        rooms = rooms ∙ is.rooms;
+        days = days;
+      },
+    )
