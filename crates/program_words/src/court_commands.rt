@@ -37,8 +37,7 @@ Example:
 
 const FILE: &str = "The court's file";
 
-const TODAY: &str =
-    "From which day the file is used, as 2025-09-01 (today): warns if it ends too early";
+const TODAY: &str = "From which day the file is used, as 2025-09-01 (today)";
 
 const CAPITAL: &str = "The court is in the capital's region, which has Inauguration Day";
 
@@ -46,9 +45,9 @@ const WRITE: &str = "Write a court's file, with its holidays";
 
 const COURT_NAME: &str = "The court, by its name below";
 
-const JUDGES: &str = "A file with the judges' names, one a line, in the place of examples";
+const JUDGES: &str = "A file with the judges' names, one a line";
 
-const ROOMS: &str = "A file with the rooms' names, one a line, in the place of examples";
+const ROOMS: &str = "A file with the rooms' names, one a line";
 
 const OPENS: &str = "When the clerk's office opens (08:30)";
 
