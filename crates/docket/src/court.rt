@@ -88,8 +88,12 @@ fn told_name<E: Write>(
     let Some(number) = fault.line() else {
         return Err(AllocError);
     };
-    let line = bytes.split(|byte| *byte == b'\n').nth(number - 1);
-    let text = match str::from_utf8(line.unwrap_or(&[])) {
+    let place = number.saturating_sub(1);
+    let line = match bytes.split(|byte| *byte == b'\n').nth(place) {
+        Some(line) => line,
+        None => &[],
+    };
+    let text = match str::from_utf8(line) {
         Ok(line) => {
             let shown = line.trim();
             format!(in alloc; "{name}:{number}: '{shown}': {fault}\n")?
