@@ -1,13 +1,22 @@
 -- Names that are read from lines, and compared with others.
-use Rattle.std.proofs.Common.{◌≡◌, ℕ, ◌+◌, ◌<◌, ◌≤◌, suc, Bor, List, [], ◌∷◌, ◌++◌, Result, Ok, Err, Some, Vec, get_or, take, drop, length, map, slice_get, refl, sym, ap, subst, ◌∙◌, add-one, arith}
+use Rattle.std.specs.Borrow.{Bor}
+use Rattle.std.proofs.Common.{◌≡◌, ℕ, ◌+◌, ◌<◌, ◌≤◌, List, [], ◌∷◌, ◌++◌, Option, Result, Ok, Err, Some, get_or, take, drop, length, map, slice_get, refl, sym, ap, subst, ◌∙◌, add-one, arith}
 use Rattle.std.specs.Prelude.{IfOk}
-use Rattle.std.proofs.lemmas.Iterator.{items_from_drains}
+use Rattle.std.specs.Vec.{vec_items}
+use Rattle.std.specs.declared.vec.Vec.{Vec}
+use Rattle.std.proofs.lemmas.Iterator.{IsCollectResult, YieldsList, items_from_drains}
 use Rattle.std.proofs.lemmas.List.{drop_all, drop_more, map-append, take_all, take_more}
 use Rattle.std.proofs.lemmas.Option.{get_or_from_slice_get, slice_get_within}
 use Rattle.court_writing.specs.Names.{IsFault, and_line, each_after, each_line}
 use Rattle.court_writing.specs.Own.{texts}
 use Rattle.court_writing.specs.declared.names.NamesFault.{NamesFault}
 use Rattle.court_writing.specs.declared.names.NamesFault.TheVariants.{BadName, Twice, TooMany, OutOfMemory}
+
+-- what an iterator gives, seen by a view, where it is collected
+pub views_from_collect : {S A B Z E : Type 0} {steps : S → Option A → S → Type 0} {v : A → B} {s : S} {all : List B} (r : Result (Vec A Z) E)
+    → IsCollectResult steps s r → YieldsList steps v s all → IfOk r (λ w. map v (vec_items w) ≡ all)
+views_from_collect {v = v} (Ok w) d e = ap (map v) d.2.0 ∙ items_from_drains d.0 d.1 e
+views_from_collect (Err x) d e = tt
 
 -- the lines from one on are that line and those after it
 lines_left : (number : ℕ) (names : List (List ℕ)) (lines : List (Bor (List ℕ))) (i : ℕ) (line : Bor (List ℕ)) → i < length lines → line ≡ get_or lines i line

@@ -1,5 +1,6 @@
 -- What is written of a court's office: what the court says, or else an example.
-use Rattle.std.specs.Prelude.{◌≡◌, ℕ, nat_lt, Bool, Bor, List, [], ◌∷◌, Option, codes, map, unwrap_or}
+use Rattle.std.specs.Borrow.{Bor}
+use Rattle.std.specs.Prelude.{◌≡◌, ℕ, nat_lt, Bool, List, [], ◌∷◌, Option, codes, map, unwrap_or}
 use Rattle.court_writing.specs.declared.own.Office.{Office}
 
 -- what a court says of its hours, its judges and its rooms, where it says something

@@ -116,7 +116,7 @@ refusal_of file (Some court) to =
     else None
 
 abbrev pub refusal : Result CourtFile CourtFault → Option District → (to : ℕ) → Option UpdateFault
-refusal (Err fault) said to = Some fault.NotRead
+refusal (Err e) said to = Some fault.NotRead
 refusal (Ok file) said to = refusal_of file said to
 
 -- the faults that come after these
@@ -125,10 +125,10 @@ is_late (fault.NoPlace key) = true
 is_late (fault.Beyond day) = true
 is_late fault.NotReadBack = true
 is_late fault.OutOfMemory = true
-is_late fault = false
+is_late other = false
 
 abbrev pub IsLate : {A : Type 0} → Result A UpdateFault → Type 0
-IsLate result = IfErr result (λ fault. is_late fault ≡ true)
+IsLate result = IfErr result (λ e. is_late e ≡ true)
 
 -- the first that applies is given, unless memory runs out
 abbrev pub IsRefused : {A : Type 0} → Option UpdateFault → Result A UpdateFault → Type 0
