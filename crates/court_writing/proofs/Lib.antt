@@ -1,3 +1,4 @@
 pub mod CourtLemmas
 pub mod LinesLemmas
 pub mod SpanLemmas
+pub mod NamesLemmas

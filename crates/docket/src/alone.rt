@@ -9,8 +9,8 @@ ghost use Rattle.program_streams.specs.Words.{has_failed, watched};
 
 use crate::fault::Fault;
 use crate::folder::{end_desk, make_folder, opened, read_file, remove_spare, stamp_now, sync_made};
-use crate::journal_file::{check_place, find_own_journal, journal_name};
-use crate::lock::{FolderLock, take_lock};
+use crate::journal_file::{check_place, journal_name};
+use crate::lock::lock_of;
 use crate::shared_file::share;
 use court_clock::Day;
 use court_days::Court;
@@ -34,13 +34,6 @@ fn shared(rt: &HostRuntime, folder: &str, journal: &str) -> Result<(), FileFault
         Ok(()) => Ok(()),
         Err(error) => Err(file_fault(rt.alloc(), journal, error)),
     }
-}
-
-// The lock of a folder that has a journal.
-fn lock_of(rt: &HostRuntime, folder: &str, wait: u32) -> Result<FolderLock, Fault> {
-    let name = journal_name(rt.alloc(), folder)?;
-    find_own_journal(rt, name.as_str())?;
-    take_lock(rt, folder, wait)
 }
 
 /// Makes a folder with a court's file as the first entry of its journal, and has the disk keep it. A file with a fault makes no

@@ -6,8 +6,8 @@ use crate::answered::is_answered;
 use crate::fault::{Fault, taken};
 use crate::folder::remove_spare;
 use crate::input::{rows_of, say, whole};
-use crate::journal_file::{find_own_journal, journal_name};
-use crate::lock::{check_lock, take_lock};
+use crate::journal_file::journal_name;
+use crate::lock::{check_lock, lock_of, take_lock};
 use crate::own_rows::OwnRows;
 use crate::place::{Place, is_replaced, place_of};
 use crate::session_mark::{Mark, begin_session, end_session};
@@ -78,8 +78,7 @@ fn locked_turn<H: Threads + Wait + Sync>(
     rows: &[u8],
 ) -> Result<Told, Fault> {
     let name = journal_name(rt.alloc(), folder)?;
-    find_own_journal(rt, name.as_str())?;
-    let lock = take_lock(rt, folder, asked.wait)?;
+    let lock = lock_of(rt, folder, asked.wait)?;
     let place = journal_place(rt, name.as_str())?;
     let Turn { disk, told } = turn_of(rt, threads, folder, asked, left, account, rows)?;
     drop(disk);
@@ -244,9 +243,7 @@ fn begun<H: Threads + Wait + Sync>(
     folder: &str,
     asked: &Entering,
 ) -> Result<(Session, Option<Mark>), Fault> {
-    let name = journal_name(rt.alloc(), folder)?;
-    find_own_journal(rt, name.as_str())?;
-    let lock = take_lock(rt, folder, asked.wait)?;
+    let lock = lock_of(rt, folder, asked.wait)?;
     check_lock(rt, folder, &lock)?;
     let Turn { disk, told } = first_turn(rt, threads, folder, asked, b"", Wary)?;
     drop(disk);

@@ -3,6 +3,7 @@ ghost use Rattle.std.specs.Prelude.{◌≡◌, string_bytes, IfOk};
 ghost use Rattle.docket.specs.Lock.{lock_name, unlocked_line, waited_line};
 
 use crate::fault::Fault;
+use crate::journal_file::{find_own_journal, journal_name};
 use crate::place::{Place, is_replaced, place_in};
 use crate::shared_file::new_file;
 use desk_program::{FileFault, file_fault};
@@ -152,6 +153,13 @@ pub fn take_lock(rt: &HostRuntime, folder: &str, wait: u32) -> Result<FolderLock
         }
     }
     Err(Fault::Waited(waited_line(rt.alloc(), folder, wait)?))
+}
+
+/// Takes the lock of a folder that has a journal, as above.
+pub fn lock_of(rt: &HostRuntime, folder: &str, wait: u32) -> Result<FolderLock, Fault> {
+    let name = journal_name(rt.alloc(), folder)?;
+    find_own_journal(rt, name.as_str())?;
+    take_lock(rt, folder, wait)
 }
 
 /// Looks whether a second program would be kept from a lock that this one has. Where it wouldn't, the file system keeps no locks, and the

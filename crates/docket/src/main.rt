@@ -6,6 +6,7 @@ mod alone;
 mod answered;
 mod beside;
 mod court;
+mod court_update;
 mod enter;
 mod fault;
 mod folder;

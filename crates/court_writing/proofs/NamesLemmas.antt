@@ -1,0 +1,40 @@
+-- Names that are read from lines, and compared with others.
+use Rattle.std.proofs.Common.{◌≡◌, ℕ, ◌+◌, ◌<◌, ◌≤◌, suc, Bor, List, [], ◌∷◌, ◌++◌, Result, Ok, Err, Some, Vec, get_or, take, drop, length, map, slice_get, refl, sym, ap, subst, ◌∙◌, add-one, arith}
+use Rattle.std.specs.Prelude.{IfOk}
+use Rattle.std.proofs.lemmas.List.{drop_all, drop_more, take_all, take_more, take_more_same}
+use Rattle.court_writing.specs.Names.{IsFault, and_line, each_after, each_line}
+use Rattle.court_writing.specs.Own.{texts}
+use Rattle.court_writing.specs.declared.names.NamesFault.{NamesFault}
+use Rattle.court_writing.specs.declared.names.NamesFault.TheVariants.{BadName, Twice, TooMany, OutOfMemory}
+
+-- the lines from one on are that line and those after it
+lines_left : (number : ℕ) (names : List (List ℕ)) (lines : List (Bor (List ℕ))) (i : ℕ) (line : Bor (List ℕ)) → i < length lines → line ≡ get_or lines i line
+    → each_line number names (texts (drop i lines)) ≡ each_after (and_line number names line.now) (λ more. each_line (number + 1) more (texts (drop (i + 1) lines)))
+unfolding each_line
+lines_left number names lines i line below is = rw (drop_more lines i line below, ← is, add-one) refl
+
+-- one line more
+pub line_goes_on : (names more : List (List ℕ)) (whole : Result (List (List ℕ)) NamesFault) (lines : List (Bor (List ℕ))) (i : ℕ) (line : Bor (List ℕ))
+    → i < length lines → line ≡ get_or lines i line → and_line (i + 1) names line.now ≡ Ok more
+    → each_line (i + 1) names (texts (drop i lines)) ≡ whole → each_line (i + 1 + 1) more (texts (drop (i + 1) lines)) ≡ whole
+line_goes_on names more whole lines i line below is added same =
+    rw added at (sym (lines_left (i + 1) names lines i line below is) ∙ same)
+
+fault_after : (read whole : Result (List (List ℕ)) NamesFault) (next : List (List ℕ) → Result (List (List ℕ)) NamesFault) (fault : NamesFault) → IsFault fault read → each_after read next ≡ whole → IsFault fault whole
+fault_after read whole next (BadName n) is same = sym same ∙ ap (λ r. each_after r next) is
+fault_after read whole next (Twice n) is same = sym same ∙ ap (λ r. each_after r next) is
+fault_after read whole next (TooMany n) is same = sym same ∙ ap (λ r. each_after r next) is
+fault_after read whole next OutOfMemory is same = tt
+
+-- the fault of a line is that of all lines
+pub line_fails : (names : List (List ℕ)) (whole : Result (List (List ℕ)) NamesFault) (lines : List (Bor (List ℕ))) (i : ℕ) (line : Bor (List ℕ)) (fault : NamesFault)
+    → i < length lines → line ≡ get_or lines i line → IsFault fault (and_line (i + 1) names line.now)
+    → each_line (i + 1) names (texts (drop i lines)) ≡ whole → IsFault fault whole
+line_fails names whole lines i line fault below is fails same =
+    fault_after (and_line (i + 1) names line.now) whole _ fault fails (sym (lines_left (i + 1) names lines i line below is) ∙ same)
+
+-- no line is left
+pub lines_done : (names : List (List ℕ)) (whole : Result (List (List ℕ)) NamesFault) (lines : List (Bor (List ℕ))) (i : ℕ)
+    → length lines ≤ i → each_line (i + 1) names (texts (drop i lines)) ≡ whole → whole ≡ Ok names
+unfolding each_line
+lines_done names whole lines i past same = sym same ∙ (rw (drop_all lines i past) refl)
