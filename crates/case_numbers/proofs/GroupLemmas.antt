@@ -2,7 +2,7 @@
 use Rattle.std.proofs.Common.{◌≡◌, ◌∙◌, ◌+◌, ◌<◌, ◌≤◌, ◌==◌, ◌&&◌, ℕ, Bool, true, false, List, drop, get_or, length, refl}
 use Rattle.std.specs.Char.{is_ascii_alphabetic}
 use Rattle.std.proofs.lemmas.List.{at_drop_more, at_drop_all}
-use Rattle.case_numbers.specs.Number.{are_groups}
+use Rattle.case_numbers.specs.Forms.{are_groups}
 
 module _ (text : List ℕ) (i : ℕ) where
   pub groups_letter : (letter : Bool) → i < length text → is_ascii_alphabetic (get_or text i 0) ≡ true → are_groups letter (drop i text) ≡ are_groups true (drop (i + 1) text)

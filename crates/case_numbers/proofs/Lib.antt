@@ -1,8 +1,11 @@
 pub mod FreeLemmas
 pub mod GroupLemmas
+pub mod FormLemmas
+pub mod PartLemmas
 pub mod LookupLemmas
 pub mod ApartLemmas
 pub mod NumberLemmas
+pub mod ShownLemmas
 pub mod PlainLemmas
 pub mod NameLineLemmas
 pub mod CallerLemmas

@@ -3,7 +3,7 @@ use Rattle.std.proofs.Common.{◌≡◌, ◌∙◌, ◌+◌, ℕ, false, List, [
 use Rattle.std.proofs.Math.Seq.{take-append_seam, drop-append_seam}
 use Rattle.case_numbers.specs.NameLine.{after_name, first_length, name_before}
 use Rattle.case_numbers.specs.Number.{NameView, case_read}
-use Rattle.case_numbers.proofs.NumberLemmas.{shown_is_read_back_lem}
+use Rattle.case_numbers.proofs.ShownLemmas.{shown_is_read_back_lem}
 use Rattle.case_numbers.proofs.PlainLemmas.{line_of_plain, plain_case}
 
 -- a name that was read from a text, in its line before another

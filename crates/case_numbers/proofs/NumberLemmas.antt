@@ -1,197 +1,198 @@
--- A case number as it is shown, read again.
-use Rattle.std.proofs.Common.{◌≡◌, ◌∙◌, ◌+◌, ◌≤◌, ◌==◌, ◌&&◌, ℕ, suc, zero, Bool, true, false, cond, List, [], ◌∷◌, ◌++◌, Some, None, codes, drop, take, length, length-append, length-drop, map, nat_le, refl, sym, ap, append_assoc, arith}
+-- A case number that was read, and as it is shown.
+use Rattle.std.proofs.Common.{◌≡◌, ◌⊎◌, inl, inr, ◌∙◌, ◌+◌, ◌≤◌, ◌==◌, ◌&&◌, ℕ, suc, Bool, true, false, not, cond, List, [], ◌∷◌, ◌++◌, Option, Some, None, codes, drop, take, length, map, nat_eq, nat_le, refl, sym, ap, arith}
+use Rattle.std.specs.Prelude.{◌↔◌, Contains, find, if◌then◌else◌}
 use Rattle.std.proofs.lemmas.Bool.Decides.{nat_tests}
 use Rattle.std.proofs.lemmas.Grind.{common_steps}
-use Rattle.std.proofs.lemmas.List.Folds.{list_all-append, length-prefix_len, prefix_len-append}
-use Rattle.std.proofs.lemmas.Str.Ascii.{lowercase-lowercase, uppercase-uppercase}
-use Rattle.std.proofs.Math.Seq.{take-append_seam, drop-append_seam}
+use Rattle.std.proofs.lemmas.List.{length-map}
+use Rattle.std.proofs.lemmas.Str.Ascii.{lowercase-lowercase}
 use Rattle.std.specs.Char.{is_ascii_alphabetic, is_ascii_digit, to_ascii_lowercase, to_ascii_uppercase}
-use Rattle.std.specs.List.{list_all, prefix_len}
-use Rattle.case_numbers.specs.Number.{NameView, are_groups, are_initials, case_read, five_digits, is_year, named, sequence_read, year_read}
-use Rattle.case_numbers.specs.Laws.{ShownIsReadBack}
+use Rattle.std.specs.List.{list_all, prefix_len, starts_with}
+use Rattle.case_numbers.specs.Forms.{are_initials, dashed, fits, form_of, forms, is_at, is_worded, office_of, picked}
+use Rattle.case_numbers.specs.Number.{CaseNumber, IsSameCase, IsSpelling, NameView, case_read, five_digits, has_office, initials_in, key_of, named, named_if, number_if, number_in, number_read, number_with, office_in, office_text}
+use Rattle.case_numbers.specs.Laws.{KeysTellCasesApart, ShownIsReadBack, SpellingsAreRead}
+use Rattle.case_numbers.proofs.FormLemmas.{all_contains, count_in, form_is, found_fits, picked_all, picked_length}
+use Rattle.case_numbers.proofs.PartLemmas.{IsPair, all_prefix, back, count_again, dashed_initials, five_again, five_all, five_length, front, pair_of, upper_again, upper_initials}
 
--- letters stay letters in the other case
-pub lower_letter : (b : ℕ) → is_ascii_alphabetic b ≡ true → is_ascii_alphabetic (to_ascii_lowercase b) ≡ true
-lower_letter b is = grind (arith, nat_tests, common_steps)
+-- what a text says in a form
+module _ (form text : List ℕ) where
+  abbrev rest : List ℕ
+  rest = drop (length form) text
 
-upper_letter : (b : ℕ) → is_ascii_alphabetic (to_ascii_uppercase b) ≡ is_ascii_alphabetic b
-upper_letter b = grind (arith, nat_tests, common_steps)
+  abbrev pub digits : List ℕ
+  digits = take (prefix_len is_ascii_digit rest) rest
 
-upper_dash : (b : ℕ) → (to_ascii_uppercase b == 45) ≡ (b == 45)
-upper_dash b = grind (arith, nat_tests, common_steps)
+  abbrev pub tail : List ℕ
+  tail = drop (prefix_len is_ascii_digit rest) rest
 
--- initials stay initials
-upper_groups : (letter : Bool) (text : List ℕ) → are_groups letter (map to_ascii_uppercase text) ≡ are_groups letter text
-unfolding are_groups
-upper_groups letter [] = refl
-upper_groups letter (b ∷ rest) = rw (upper_letter b, upper_dash b, upper_groups true rest, upper_groups false rest) refl
+  pub record IsRead (n : CaseNumber) : Type 0 where
+    pub few : length digits ≤ 5
+    pub office : has_office form (office_in form text tail) ≡ true
+    pub initials : are_initials (initials_in form tail) ≡ true
+    pub same : number_with form text digits (office_in form text tail) (initials_in form tail) ≡ n
 
-pub upper_initials : (text : List ℕ) → are_initials (map to_ascii_uppercase text) ≡ are_initials text
-upper_initials [] = refl
-upper_initials (b ∷ rest) = rw (upper_dash b, upper_groups false rest) refl
+  pub read_is : (n : CaseNumber) → number_in form text ≡ Some n → IsRead n
+  unfolding number_in
+  read_is n h =
+      by (nat_le 1 (length digits)) (nat_le (length digits) 5) refl (has_office form (office_in form text tail)) refl (are_initials (initials_in form tail)) refl h
+    where
+      by : (some few : Bool) → nat_le (length digits) 5 ≡ few → (office : Bool) → has_office form (office_in form text tail) ≡ office → (initials : Bool) → are_initials (initials_in form tail) ≡ initials
+          → cond (some && few && office && initials) (Some (number_with form text digits (office_in form text tail) (initials_in form tail))) None ≡ Some n → IsRead n
+      by false few b office c initials d h = cc h
+      by true false b office c initials d h = cc h
+      by true true b false c initials d h = cc h
+      by true true b true c false d h = cc h
+      by true true b true c true d h = record { few = grind (arith, nat_tests); office = c; initials = d; same = cc h }
 
-upper_again : (text : List ℕ) → map to_ascii_uppercase (map to_ascii_uppercase text) ≡ map to_ascii_uppercase text
-upper_again [] = refl
-upper_again (b ∷ rest) = rw (uppercase-uppercase b, upper_again rest) refl
+-- a small letter
+unfoldable pub is_small : ℕ → Bool
+is_small b = is_ascii_alphabetic b && (to_ascii_lowercase b == b)
 
--- they begin with no digit
-no_digits : (text : List ℕ) → are_initials text ≡ true → prefix_len is_ascii_digit text ≡ 0
-no_digits [] is = refl
-no_digits (b ∷ rest) is = by (b == 45) refl is
+-- an office, or none
+abbrev pub IsOffice : List ℕ → Type 0
+IsOffice office = (office ≡ []) ⊎ ((d : ℕ) × (office ≡ d ∷ []) × (is_ascii_digit d ≡ true))
+
+-- the parts of a case number that was read
+pub record IsWhole (office year kind digits initials : List ℕ) : Type 0 where
+  pub office_is : IsOffice office
+  pub year_is : IsPair is_ascii_digit year
+  pub kind_is : IsPair is_small kind
+  pub five : length digits ≡ 5
+  pub all : list_all is_ascii_digit digits ≡ true
+  pub initials_are : are_initials initials ≡ true
+  pub capitals : map to_ascii_uppercase initials ≡ initials
+
+-- each form has two digits of the year, two letters of the kind, and at most one digit of an office
+pub is_form : List ℕ → Bool
+is_form form = (count_in 121 form == 2) && (count_in 107 form == 2) && nat_le (count_in 111 form) 1
+
+pub is_form_of : (form : List ℕ) → Contains forms form → is_form form ≡ true
+unfolding is_form
+is_form_of form known = all_contains is_form forms form refl known
+
+word_office : (tail : List ℕ) → IsOffice (office_of tail)
+word_office tail = by (starts_with nat_eq (map to_ascii_lowercase tail) (codes "-phx")) (starts_with nat_eq (map to_ascii_lowercase tail) (codes "-pct")) (starts_with nat_eq (map to_ascii_lowercase tail) (codes "-tuc"))
   where
-    by : (dash : Bool) → (b == 45) ≡ dash → (dash && are_groups false rest) ≡ true → prefix_len is_ascii_digit (b ∷ rest) ≡ 0
-    by true e h = let same : b ≡ 45 = grind (arith, nat_tests) in rw same refl
-    by false e h = cc h
+    by : (a b c : Bool) → IsOffice (cond a (codes "2") (cond b (codes "3") (cond c (codes "4") [])))
+    by true b c = inr (50, refl, refl)
+    by false true c = inr (51, refl, refl)
+    by false false true = inr (52, refl, refl)
+    by false false false = inl refl
 
--- digits are all digits
-pub all_prefix : {X : Type 0} (p : X → Bool) (xs : List X) → list_all p (take (prefix_len p xs) xs) ≡ true
-all_prefix p [] = refl
-all_prefix p (x ∷ xs) = by (p x) refl (all_prefix p xs)
+one_office : (office : List ℕ) → length office ≤ 1 → list_all is_ascii_digit office ≡ true → IsOffice office
+one_office [] few all = inl refl
+one_office (d ∷ []) few all = inr (d, refl, by (is_ascii_digit d) all)
   where
-    by : (b : Bool) → p x ≡ b → list_all p (take (prefix_len p xs) xs) ≡ true → list_all p (take (cond b (1 + prefix_len p xs) 0) (x ∷ xs)) ≡ true
-    by true is rest = let e : 1 + prefix_len p xs ≡ suc (prefix_len p xs) = omega arith in rw (e, is, rest) refl
-    by false is rest = refl
+    by : (b : Bool) → (b && true) ≡ true → b ≡ true
+    by true h = refl
+    by false h = h
+one_office (d ∷ e ∷ office) few all = absurd (omega (arith, few))
 
-prefix_all : {X : Type 0} (p : X → Bool) (xs : List X) → list_all p xs ≡ true → prefix_len p xs ≡ length xs
-prefix_all p [] all = refl
-prefix_all p (x ∷ xs) all = by (p x) refl all (prefix_all p xs)
-  where
-    by : (b : Bool) → p x ≡ b → (b && list_all p xs) ≡ true → (list_all p xs ≡ true → prefix_len p xs ≡ length xs) → cond b (1 + prefix_len p xs) 0 ≡ suc (length xs)
-    by true is h rest = let e = rest h in omega (arith, e)
-    by false is h rest = cc h
+digit_at : (b : ℕ) → is_at 121 b ≡ true → is_ascii_digit b ≡ true
+digit_at b is = is
 
-all_drop : {X : Type 0} (p : X → Bool) (n : ℕ) (xs : List X) → list_all p xs ≡ true → list_all p (drop n xs) ≡ true
-all_drop p zero xs all = all
-all_drop p (suc n) [] all = refl
-all_drop p (suc n) (x ∷ xs) all = by (p x) all (all_drop p n xs)
-  where
-    by : (b : Bool) → (b && list_all p xs) ≡ true → (list_all p xs ≡ true → list_all p (drop n xs) ≡ true) → list_all p (drop n xs) ≡ true
-    by true h rest = rest h
-    by false h rest = cc h
+small_letters : (kind : List ℕ) → IsPair is_ascii_alphabetic kind → IsPair is_small (map to_ascii_lowercase kind)
+unfolding is_small
+small_letters kind is = record {
+  first = to_ascii_lowercase is.first;
+  second = to_ascii_lowercase is.second;
+  is = ap (map to_ascii_lowercase) is.is;
+  one = let letter = is.one in grind (arith, nat_tests, common_steps);
+  two = let letter = is.two in grind (arith, nat_tests, common_steps);
+}
 
-five_length : (digits : List ℕ) → length digits ≤ 5 → length (five_digits digits) ≡ 5
-five_length digits few = let e = length-drop (length digits) (codes "00000") in length-append (drop (length digits) (codes "00000")) digits ∙ omega (arith, e, few)
+module _ (form text : List ℕ) (formed : is_form form ≡ true) where
+  years : count_in 121 form ≡ 2
+  unfolding is_form
+  years = by (count_in 121 form == 2) refl formed
+    where
+      by : (b : Bool) → (count_in 121 form == 2) ≡ b → (b && (count_in 107 form == 2) && nat_le (count_in 111 form) 1) ≡ true → count_in 121 form ≡ 2
+      by true e h = grind (arith, nat_tests)
+      by false e h = cc h
 
-pub five_all : (digits : List ℕ) → list_all is_ascii_digit digits ≡ true → list_all is_ascii_digit (five_digits digits) ≡ true
-five_all digits all = list_all-append is_ascii_digit (drop (length digits) (codes "00000")) digits ∙ rw (all, all_drop is_ascii_digit (length digits) (codes "00000") refl) refl
+  kinds : count_in 107 form ≡ 2
+  unfolding is_form
+  kinds = by (count_in 121 form == 2) (count_in 107 form == 2) refl formed
+    where
+      by : (a b : Bool) → (count_in 107 form == 2) ≡ b → (a && b && nat_le (count_in 111 form) 1) ≡ true → count_in 107 form ≡ 2
+      by false b e h = cc h
+      by true true e h = grind (arith, nat_tests)
+      by true false e h = cc h
 
-five_again : (digits : List ℕ) → length digits ≡ 5 → five_digits digits ≡ digits
-five_again digits five = rw five refl
+  offices : count_in 111 form ≤ 1
+  unfolding is_form
+  offices = by (count_in 121 form == 2) (count_in 107 form == 2) (nat_le (count_in 111 form) 1) refl formed
+    where
+      by : (a b c : Bool) → nat_le (count_in 111 form) 1 ≡ c → (a && b && c) ≡ true → count_in 111 form ≤ 1
+      by false b c e h = cc h
+      by true false c e h = cc h
+      by true true false e h = cc h
+      by true true true e h = grind (arith, nat_tests)
 
--- the sequence and the initials, read again
-module _ (text : List ℕ) (few : prefix_len is_ascii_digit text ≤ 5) (initials : are_initials (drop (prefix_len is_ascii_digit text) text) ≡ true) where
-  abbrev digits : List ℕ
-  digits = take (prefix_len is_ascii_digit text) text
+  module _ (fit : fits form text ≡ true) where
+    its_year : IsPair is_ascii_digit (picked 121 form text)
+    its_year = pair_of is_ascii_digit (picked 121 form text) (picked_length 121 form text fit ∙ years) (picked_all is_ascii_digit 121 (λ b is. is) form text fit)
 
-  five : length (five_digits digits) ≡ 5
-  five = five_length digits (rw (length-prefix_len is_ascii_digit text) few)
+    its_kind : IsPair is_ascii_alphabetic (picked 107 form text)
+    its_kind = pair_of is_ascii_alphabetic (picked 107 form text) (picked_length 107 form text fit ∙ kinds) (picked_all is_ascii_alphabetic 107 (λ b is. is) form text fit)
 
-  all : list_all is_ascii_digit (five_digits digits) ≡ true
-  all = five_all digits (all_prefix is_ascii_digit text)
+    its_office : (tail : List ℕ) → IsOffice (office_in form text tail)
+    its_office tail = by (is_worded form)
+      where
+        by : (worded : Bool) → IsOffice (cond worded (office_of tail) (picked 111 form text))
+        by true = word_office tail
+        by false =
+            let long = picked_length 111 form text fit in
+            let few = offices in
+            one_office (picked 111 form text) (omega (arith, long, few)) (picked_all is_ascii_digit 111 (λ b is. is) form text fit)
 
-  abbrev tail : List ℕ
-  tail = map to_ascii_uppercase (drop (prefix_len is_ascii_digit text) text)
+    pub whole : (n : CaseNumber) → IsRead form text n → IsWhole n.office n.year n.kind n.digits n.initials
+    whole n r = rw (← r.same) (record {
+      office_is = its_office (tail form text);
+      year_is = its_year;
+      kind_is = small_letters (picked 107 form text) its_kind;
+      five = five_length (digits form text) r.few;
+      all = five_all (digits form text) (all_prefix is_ascii_digit (rest form text));
+      initials_are = upper_initials (initials_in form (tail form text)) ∙ r.initials;
+      capitals = upper_again (initials_in form (tail form text));
+    })
 
-  count_again : prefix_len is_ascii_digit (five_digits digits ++ tail) ≡ 5
-  count_again =
-      let whole = prefix_all is_ascii_digit (five_digits digits) all ∙ five in
-      let none = no_digits tail (upper_initials (drop (prefix_len is_ascii_digit text) text) ∙ initials) in
-      prefix_len-append is_ascii_digit (five_digits digits) tail ∙ rw (whole, five, none) refl
+-- a text that is a case number in a form is read as it
+pub in_its_form : (form text : List ℕ) (n : CaseNumber) → Contains forms form → fits form text ≡ true → number_in form text ≡ Some n → number_read text ≡ Some n
+in_its_form form text n known fit says = ap (λ f. number_if f text) (form_is form text known fit) ∙ says
 
-  front : take 5 (five_digits digits ++ tail) ≡ five_digits digits
-  front = rw (← five) (take-append_seam (five_digits digits) tail)
-
-  back : drop 5 (five_digits digits ++ tail) ≡ tail
-  back = rw (← five) (drop-append_seam (five_digits digits) tail)
-
-  sequence_again : (head : List ℕ) → sequence_read head (five_digits digits ++ tail) ≡ Some (named head digits (drop (prefix_len is_ascii_digit text) text))
-  unfolding sequence_read
-  sequence_again head = rw (count_again, front, back, upper_initials (drop (prefix_len is_ascii_digit text) text), initials, five_again (five_digits digits) five, upper_again (drop (prefix_len is_ascii_digit text) text)) refl
-
--- what a sequence that is read comes to
-pub record IsSequence (head text : List ℕ) (name : NameView) : Type 0 where
-  pub few : prefix_len is_ascii_digit text ≤ 5
-  pub initials : are_initials (drop (prefix_len is_ascii_digit text) text) ≡ true
-  pub same : name ≡ named head (take (prefix_len is_ascii_digit text) text) (drop (prefix_len is_ascii_digit text) text)
-
-pub sequence_is : (head text : List ℕ) (name : NameView) → sequence_read head text ≡ Some name → IsSequence head text name
-unfolding sequence_read
-sequence_is head text name h =
-    by (nat_le 1 (prefix_len is_ascii_digit text)) (nat_le (prefix_len is_ascii_digit text) 5) (are_initials (drop (prefix_len is_ascii_digit text) text)) refl refl h
-  where
-    by : (some few initials : Bool) → nat_le (prefix_len is_ascii_digit text) 5 ≡ few → are_initials (drop (prefix_len is_ascii_digit text) text) ≡ initials
-        → cond (some && few && initials) (Some (named head (take (prefix_len is_ascii_digit text) text) (drop (prefix_len is_ascii_digit text) text))) None ≡ Some name → IsSequence head text name
-    by false few initials a b h = cc h
-    by true false initials a b h = cc h
-    by true true false a b h = cc h
-    by true true true a b h = record { few = grind (arith, nat_tests); initials = b; same = cc h }
-
--- what a year that is read comes to, and that it is read again
-record IsYear (office : List ℕ) (name : NameView) : Type 0 where
-  y1 : ℕ
-  y2 : ℕ
-  more : List ℕ
-  shown : name.shown ≡ office ++ y1 ∷ y2 ∷ more
-  digit : is_ascii_digit y2 ≡ true
-  again : year_read office (y1 ∷ y2 ∷ more) ≡ Some name
-
-lower_year : (y1 y2 dash k1 k2 last : ℕ) → is_year y1 y2 dash k1 k2 last ≡ true → is_year y1 y2 dash (to_ascii_lowercase k1) (to_ascii_lowercase k2) last ≡ true
-lower_year y1 y2 dash k1 k2 last is = by (is_ascii_digit y1) (is_ascii_digit y2) (dash == 45) (is_ascii_alphabetic k1) refl (is_ascii_alphabetic k2) refl is
-  where
-    by : (a b c d : Bool) → is_ascii_alphabetic k1 ≡ d → (e : Bool) → is_ascii_alphabetic k2 ≡ e → (a && b && c && d && e && (last == 45)) ≡ true
-        → (a && b && c && is_ascii_alphabetic (to_ascii_lowercase k1) && is_ascii_alphabetic (to_ascii_lowercase k2) && (last == 45)) ≡ true
-    by false b c d p e q h = cc h
-    by true false c d p e q h = cc h
-    by true true false d p e q h = cc h
-    by true true true false p e q h = cc h
-    by true true true true p false q h = cc h
-    by true true true true p true q h = rw (lower_letter k1 p, lower_letter k2 q) h
-
-year_digit : (y1 y2 dash k1 k2 last : ℕ) → is_year y1 y2 dash k1 k2 last ≡ true → is_ascii_digit y2 ≡ true
-year_digit y1 y2 dash k1 k2 last is = by (is_ascii_digit y1) (is_ascii_digit y2) is
-  where
-    by : (a b : Bool) → (a && b && (dash == 45) && is_ascii_alphabetic k1 && is_ascii_alphabetic k2 && (last == 45)) ≡ true → b ≡ true
-    by false b h = cc h
-    by true false h = cc h
-    by true true h = refl
-
-year_is : (office text : List ℕ) (name : NameView) → year_read office text ≡ Some name → IsYear office name
-unfolding year_read
-year_is office [] name h = cc h
-year_is office (y1 ∷ []) name h = cc h
-year_is office (y1 ∷ y2 ∷ []) name h = cc h
-year_is office (y1 ∷ y2 ∷ dash ∷ []) name h = cc h
-year_is office (y1 ∷ y2 ∷ dash ∷ k1 ∷ []) name h = cc h
-year_is office (y1 ∷ y2 ∷ dash ∷ k1 ∷ k2 ∷ []) name h = cc h
-year_is office (y1 ∷ y2 ∷ dash ∷ k1 ∷ k2 ∷ last ∷ rest) name h = by (is_year y1 y2 dash k1 k2 last) refl h
-  where
-    by : (b : Bool) → is_year y1 y2 dash k1 k2 last ≡ b
-        → cond b (sequence_read (office ++ y1 ∷ y2 ∷ dash ∷ to_ascii_lowercase k1 ∷ to_ascii_lowercase k2 ∷ last ∷ []) rest) None ≡ Some name → IsYear office name
-    by false is h = cc h
-    by true is h =
-        let head = office ++ y1 ∷ y2 ∷ dash ∷ to_ascii_lowercase k1 ∷ to_ascii_lowercase k2 ∷ last ∷ [] in
-        let s = sequence_is head rest name h in
-        let more = five_digits (digits rest s.few s.initials) ++ tail rest s.few s.initials in
-        record {
-          y1 = y1;
-          y2 = y2;
-          more = dash ∷ to_ascii_lowercase k1 ∷ to_ascii_lowercase k2 ∷ last ∷ more;
-          shown = ap (λ (n : NameView). n.shown) s.same ∙ append_assoc head (five_digits (digits rest s.few s.initials)) (tail rest s.few s.initials)
-              ∙ append_assoc office (y1 ∷ y2 ∷ dash ∷ to_ascii_lowercase k1 ∷ to_ascii_lowercase k2 ∷ last ∷ []) more;
-          digit = year_digit y1 y2 dash k1 k2 last is;
-          again = rw (lower_year y1 y2 dash k1 k2 last is, lowercase-lowercase k1, lowercase-lowercase k2) (sequence_again rest s.few s.initials head ∙ ap Some (sym s.same));
-        }
-
-digit_no_colon : (a b : ℕ) → is_ascii_digit b ≡ true → (is_ascii_digit a && (b == 58)) ≡ false
-digit_no_colon a b digit = grind (arith, nat_tests, common_steps)
-
--- the law
-pub shown_is_read_back_lem : ShownIsReadBack
+pub spellings_are_read_lem : SpellingsAreRead
 unfolding case_read
-shown_is_read_back_lem [] name h = cc h
-shown_is_read_back_lem (o ∷ []) name h = cc h
-shown_is_read_back_lem (o ∷ colon ∷ rest) name h = by (is_ascii_digit o && (colon == 58)) refl h
+spellings_are_read_lem text n is = ap named_if (in_its_form is.form text n is.known is.fit is.says)
+
+-- so is one that fits the first form that fits
+pub found_whole : (form text : List ℕ) (n : CaseNumber) → form_of text ≡ Some form → number_in form text ≡ Some n → IsWhole n.office n.year n.kind n.digits n.initials
+found_whole form text n found says = let (known, fit) = found_fits forms form text found in whole form text (is_form_of form known) fit n (read_is form text n says)
+
+-- a text of digits fits no form, since each has a kind
+no_kind : (form text : List ℕ) → list_all is_ascii_digit text ≡ true → fits form text ≡ true → count_in 107 form ≡ 0
+unfolding fits
+no_kind [] text all fit = refl
+no_kind (l ∷ form) [] all fit = cc fit
+no_kind (l ∷ form) (b ∷ text) all fit = by (l == 107) refl (is_ascii_digit b) refl (is_at l b) refl all fit (no_kind form text)
   where
-    by : (b : Bool) → (is_ascii_digit o && (colon == 58)) ≡ b → cond b (year_read (o ∷ colon ∷ []) rest) (year_read [] (o ∷ colon ∷ rest)) ≡ Some name → case_read name.shown ≡ Some name
-    by true is h = let y = year_is (o ∷ colon ∷ []) rest name h in ap case_read y.shown ∙ rw is y.again
-    by false is h = let y = year_is [] (o ∷ colon ∷ rest) name h in ap case_read y.shown ∙ rw (digit_no_colon y.y1 y.y2 y.digit) y.again
+    by : (kind : Bool) → (l == 107) ≡ kind → (digit : Bool) → is_ascii_digit b ≡ digit → (at : Bool) → is_at l b ≡ at → (digit && list_all is_ascii_digit text) ≡ true → (at && fits form text) ≡ true
+        → (list_all is_ascii_digit text ≡ true → fits form text ≡ true → count_in 107 form ≡ 0) → cond kind (suc (count_in 107 form)) (count_in 107 form) ≡ 0
+    by kind e false d at a all fit more = cc all
+    by kind e true d false a all fit more = cc fit
+    by false e true d true a all fit more = more all fit
+    by true e true d true a all fit more =
+        let same : l ≡ 107 = grind (arith, nat_tests) in
+        let letter : is_ascii_alphabetic b ≡ true = ap (λ n. is_at n b) (sym same) ∙ a in
+        absurd (grind (arith, nat_tests, common_steps))
+
+pub digits_no_case : (text : List ℕ) → list_all is_ascii_digit text ≡ true → case_read text ≡ None
+unfolding case_read
+digits_no_case text all = by (form_of text) refl
+  where
+    by : (form : Option (List ℕ)) → form_of text ≡ form → named_if (number_if form text) ≡ None
+    by None e = refl
+    by (Some form) e =
+        let (known, fit) = found_fits forms form text e in
+        let two = kinds form text (is_form_of form known) in
+        let none = no_kind form text all fit in
+        absurd (omega (arith, two, none))

@@ -1,16 +1,19 @@
 -- The bytes of a case number as it is shown: letters, digits, dashes and a colon.
-use Rattle.std.proofs.Common.{◌≡◌, ◌∙◌, ◌<◌, ◌==◌, ◌&&◌, ◌||◌, ℕ, Bool, true, false, not, cond, List, [], ◌∷◌, ◌++◌, Some, None, drop, take, length, map, nat_eq, refl, ap, arith}
+use Rattle.std.proofs.Common.{◌≡◌, ◌∙◌, inl, inr, ◌<◌, ◌≤◌, ◌==◌, ◌&&◌, ◌||◌, ℕ, Bool, true, false, not, cond, List, [], ◌∷◌, ◌++◌, Option, Some, None, length, nat_eq, nat_le, refl, sym, ap, arith}
+use Rattle.std.specs.Prelude.{if◌then◌else◌}
 use Rattle.std.proofs.lemmas.Bool.Decides.{nat_tests}
 use Rattle.std.proofs.lemmas.Grind.{common_steps}
 use Rattle.std.proofs.lemmas.List.Folds.{list_all-append}
 use Rattle.std.proofs.lemmas.Str.{IsAscii-append}
 use Rattle.std.proofs.lemmas.Str.Ascii.{IsAscii-nil, IsAscii-from_all}
 use Rattle.std.proofs.lemmas.List.Elements.{All-cons, All-nil}
-use Rattle.std.specs.Char.{is_ascii_alphabetic, is_ascii_digit, to_ascii_lowercase, to_ascii_uppercase}
+use Rattle.std.specs.Char.{is_ascii_alphabetic, is_ascii_digit}
 use Rattle.std.specs.List.{list_all, prefix_len}
 use Rattle.std.specs.Str.{IsAscii}
-use Rattle.case_numbers.specs.Number.{NameView, are_groups, are_initials, case_read, five_digits, is_year, named, sequence_read, year_read}
-use Rattle.case_numbers.proofs.NumberLemmas.{all_prefix, five_all, lower_letter, sequence_is, upper_initials}
+use Rattle.case_numbers.specs.Forms.{are_groups, are_initials, form_of}
+use Rattle.case_numbers.specs.Number.{CaseNumber, NameView, case_read, has_office, is_whole, key_of, named, number_in, number_with, whole_number}
+use Rattle.case_numbers.proofs.NumberLemmas.{IsWhole, found_whole}
+use Rattle.case_numbers.proofs.ShownLemmas.{number_is, small_letter}
 
 pub plain : ℕ → Bool
 plain b = is_ascii_alphabetic b || is_ascii_digit b || (b == 45) || (b == 58)
@@ -67,76 +70,33 @@ plain_initials (b ∷ text) is = by (b == 45) refl is
     by true e h = rw (dash_plain b e, plain_groups false text h) refl
     by false e h = cc h
 
--- what is shown after a head
-plain_named : (head text : List ℕ) → list_all plain head ≡ true → are_initials (drop (prefix_len is_ascii_digit text) text) ≡ true
-    → list_all plain (named head (take (prefix_len is_ascii_digit text) text) (drop (prefix_len is_ascii_digit text) text)).shown ≡ true
-plain_named head text plain_head initials =
-    let digits = take (prefix_len is_ascii_digit text) text in
-    let tail = map to_ascii_uppercase (drop (prefix_len is_ascii_digit text) text) in
-    list_all-append plain (head ++ five_digits digits) tail
-    ∙ rw (list_all-append plain head (five_digits digits), plain_head, plain_digits (five_digits digits) (five_all digits (all_prefix is_ascii_digit text)), plain_initials tail (upper_initials (drop (prefix_len is_ascii_digit text) text) ∙ initials)) refl
+-- a case number that was read is shown with such bytes alone
+part_plain : (y1 y2 k1 k2 : ℕ) (rest : List ℕ) → is_ascii_digit y1 ≡ true → is_ascii_digit y2 ≡ true → is_ascii_alphabetic k1 ≡ true → is_ascii_alphabetic k2 ≡ true → list_all plain rest ≡ true
+    → list_all plain (y1 ∷ y2 ∷ 45 ∷ k1 ∷ k2 ∷ 45 ∷ rest) ≡ true
+part_plain y1 y2 k1 k2 rest d1 d2 l1 l2 more = rw (digit_plain y1 d1, digit_plain y2 d2, dash_plain 45 refl, letter_plain k1 l1, letter_plain k2 l2, more) refl
 
-pub ascii_named : (head text : List ℕ) → IsAscii head → are_initials (drop (prefix_len is_ascii_digit text) text) ≡ true
-    → IsAscii (named head (take (prefix_len is_ascii_digit text) text) (drop (prefix_len is_ascii_digit text) text)).shown
-ascii_named head text ascii initials =
-    let digits = take (prefix_len is_ascii_digit text) text in
-    let tail = map to_ascii_uppercase (drop (prefix_len is_ascii_digit text) text) in
-    IsAscii-append (head ++ five_digits digits) tail
-    (IsAscii-append head (five_digits digits) ascii (plain_ascii (five_digits digits) (plain_digits (five_digits digits) (five_all digits (all_prefix is_ascii_digit text)))))
-    (plain_ascii tail (plain_initials tail (upper_initials (drop (prefix_len is_ascii_digit text) text) ∙ initials)))
-
-head_plain : (y1 y2 dash k1 k2 last : ℕ) → is_year y1 y2 dash k1 k2 last ≡ true → list_all plain (y1 ∷ y2 ∷ dash ∷ to_ascii_lowercase k1 ∷ to_ascii_lowercase k2 ∷ last ∷ []) ≡ true
-head_plain y1 y2 dash k1 k2 last is = by (is_ascii_digit y1) refl (is_ascii_digit y2) refl (dash == 45) refl (is_ascii_alphabetic k1) refl (is_ascii_alphabetic k2) refl (last == 45) refl is
-  where
-    by : (a : Bool) → is_ascii_digit y1 ≡ a → (b : Bool) → is_ascii_digit y2 ≡ b → (c : Bool) → (dash == 45) ≡ c → (d : Bool) → is_ascii_alphabetic k1 ≡ d → (e : Bool) → is_ascii_alphabetic k2 ≡ e
-        → (f : Bool) → (last == 45) ≡ f → (a && b && c && d && e && f) ≡ true → list_all plain (y1 ∷ y2 ∷ dash ∷ to_ascii_lowercase k1 ∷ to_ascii_lowercase k2 ∷ last ∷ []) ≡ true
-    by false p b q c r d s e u f v h = cc h
-    by true p false q c r d s e u f v h = cc h
-    by true p true q false r d s e u f v h = cc h
-    by true p true q true r false s e u f v h = cc h
-    by true p true q true r true s false u f v h = cc h
-    by true p true q true r true s true u false v h = cc h
-    by true p true q true r true s true u true v h =
-        rw (digit_plain y1 p, digit_plain y2 q, dash_plain dash r, letter_plain (to_ascii_lowercase k1) (lower_letter k1 s), letter_plain (to_ascii_lowercase k2) (lower_letter k2 u), dash_plain last v) refl
-
-pub head_ascii : (office : List ℕ) (y1 y2 dash k1 k2 last : ℕ) → IsAscii office → is_year y1 y2 dash k1 k2 last ≡ true
-    → IsAscii (office ++ y1 ∷ y2 ∷ dash ∷ to_ascii_lowercase k1 ∷ to_ascii_lowercase k2 ∷ last ∷ [])
-head_ascii office y1 y2 dash k1 k2 last ascii is =
-    IsAscii-append office (y1 ∷ y2 ∷ dash ∷ to_ascii_lowercase k1 ∷ to_ascii_lowercase k2 ∷ last ∷ []) ascii (plain_ascii (y1 ∷ y2 ∷ dash ∷ to_ascii_lowercase k1 ∷ to_ascii_lowercase k2 ∷ last ∷ []) (head_plain y1 y2 dash k1 k2 last is))
-
--- a case number that is read is shown with such bytes alone
-plain_year : (office text : List ℕ) (name : NameView) → list_all plain office ≡ true → year_read office text ≡ Some name → list_all plain name.shown ≡ true
-unfolding year_read
-plain_year office [] name o h = cc h
-plain_year office (y1 ∷ []) name o h = cc h
-plain_year office (y1 ∷ y2 ∷ []) name o h = cc h
-plain_year office (y1 ∷ y2 ∷ dash ∷ []) name o h = cc h
-plain_year office (y1 ∷ y2 ∷ dash ∷ k1 ∷ []) name o h = cc h
-plain_year office (y1 ∷ y2 ∷ dash ∷ k1 ∷ k2 ∷ []) name o h = cc h
-plain_year office (y1 ∷ y2 ∷ dash ∷ k1 ∷ k2 ∷ last ∷ rest) name o h = by (is_year y1 y2 dash k1 k2 last) refl h
-  where
-    by : (b : Bool) → is_year y1 y2 dash k1 k2 last ≡ b
-        → cond b (sequence_read (office ++ y1 ∷ y2 ∷ dash ∷ to_ascii_lowercase k1 ∷ to_ascii_lowercase k2 ∷ last ∷ []) rest) None ≡ Some name → list_all plain name.shown ≡ true
-    by false is h = cc h
-    by true is h =
-        let end = y1 ∷ y2 ∷ dash ∷ to_ascii_lowercase k1 ∷ to_ascii_lowercase k2 ∷ last ∷ [] in
-        let s = sequence_is (office ++ end) rest name h in
-        let begin : list_all plain (office ++ end) ≡ true = list_all-append plain office end ∙ rw (o, head_plain y1 y2 dash k1 k2 last is) refl in
-        ap (λ (n : NameView). list_all plain n.shown) s.same ∙ plain_named (office ++ end) rest begin s.initials
-
-office_plain : (o colon : ℕ) → (is_ascii_digit o && (colon == 58)) ≡ true → list_all plain (o ∷ colon ∷ []) ≡ true
+office_plain : (d : ℕ) (rest : List ℕ) → is_ascii_digit d ≡ true → list_all plain rest ≡ true → list_all plain (d ∷ 58 ∷ rest) ≡ true
 unfolding plain
-office_plain o colon is = grind (arith, nat_tests, common_steps)
+office_plain d rest is more = rw (is, more) (by (is_ascii_alphabetic d))
+  where
+    by : (a : Bool) → ((a || true || (d == 45) || (d == 58)) && true) ≡ true
+    by true = refl
+    by false = refl
+
+pub plain_whole : (office year kind digits initials : List ℕ) → IsWhole office year kind digits initials
+    → list_all plain (key_of (record { office = office; year = year; kind = kind; digits = digits; initials = initials }) ++ initials) ≡ true
+plain_whole office year kind digits initials w =
+    let rest = list_all-append plain digits initials ∙ rw (plain_digits digits w.all, plain_initials initials w.initials_are) refl in
+    let part = part_plain w.year_is.first w.year_is.second w.kind_is.first w.kind_is.second (digits ++ initials) w.year_is.one w.year_is.two (small_letter w.kind_is.first w.kind_is.one) (small_letter w.kind_is.second w.kind_is.two) rest in
+    elim w.office_is [
+      | inl none ↦ rw (none, w.year_is.is, w.kind_is.is) part
+      | inr some ↦ rw (some.1, w.year_is.is, w.kind_is.is) (office_plain some.0 (w.year_is.first ∷ w.year_is.second ∷ 45 ∷ w.kind_is.first ∷ w.kind_is.second ∷ 45 ∷ (digits ++ initials)) some.2 part)
+    ]
 
 pub plain_case : (text : List ℕ) (name : NameView) → case_read text ≡ Some name → list_all plain name.shown ≡ true
-unfolding case_read
-plain_case [] name h = cc h
-plain_case (o ∷ []) name h = cc h
-plain_case (o ∷ colon ∷ rest) name h = by (is_ascii_digit o && (colon == 58)) refl h
-  where
-    by : (b : Bool) → (is_ascii_digit o && (colon == 58)) ≡ b → cond b (year_read (o ∷ colon ∷ []) rest) (year_read [] (o ∷ colon ∷ rest)) ≡ Some name → list_all plain name.shown ≡ true
-    by true is h = plain_year (o ∷ colon ∷ []) rest name (office_plain o colon is) h
-    by false is h = plain_year [] (o ∷ colon ∷ rest) name refl h
+plain_case text name h =
+    let n = number_is text name h in
+    ap (λ (v : NameView). list_all plain v.shown) (sym n.same) ∙ plain_whole n.number.office n.number.year n.number.kind n.number.digits n.number.initials n.parts
 
 -- none of them ends a line
 plain_no_end : (b : ℕ) → plain b ≡ true → nat_eq b 10 ≡ false
@@ -151,3 +111,20 @@ line_of_plain (b ∷ text) rest is = by (plain b) refl is (line_of_plain text re
         → prefix_len (λ b. not (nat_eq b 10)) ((b ∷ text) ++ 10 ∷ rest) ≡ length (b ∷ text)
     by true e h more = let m = more h in rw (plain_no_end b e) (omega (arith, m))
     by false e h more = cc h
+
+-- and is ASCII
+pub ascii_number : (form text digits office initials : List ℕ) → form_of text ≡ Some form → number_in form text ≡ whole_number form text digits office initials → is_whole form digits office initials ≡ true
+    → IsAscii (named (number_with form text digits office initials)).shown
+ascii_number form text digits office initials found is whole =
+    let n = number_with form text digits office initials in
+    let says : number_in form text ≡ Some n = is ∙ ap (λ (b : Bool). if b then Some n else None) whole in
+    plain_ascii (named n).shown (plain_whole n.office n.year n.kind n.digits n.initials (found_whole form text n found says))
+
+-- its parts
+pub few_digits : (form digits office initials : List ℕ) → is_whole form digits office initials ≡ true → length digits ≤ 5
+few_digits form digits office initials = by (nat_le 1 (length digits)) (nat_le (length digits) 5) refl
+  where
+    by : (some few : Bool) → nat_le (length digits) 5 ≡ few → (some && few && has_office form office && are_initials initials) ≡ true → length digits ≤ 5
+    by false few e h = cc h
+    by true false e h = cc h
+    by true true e h = grind (arith, nat_tests)

@@ -1,3 +1,4 @@
+pub mod Forms
 pub mod Number
 pub mod NameLine
 pub mod Cases

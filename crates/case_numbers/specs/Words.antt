@@ -5,4 +5,4 @@ pub use Rattle.case_numbers.specs.NameLine.{name_line}
 unfoldable pub use Rattle.case_numbers.specs.NameLine.{after_name, name_before}
 pub use Rattle.case_numbers.specs.Cases.{CasesView, case_text, fresh, last_number, no_cases, with_name}
 unfoldable pub use Rattle.case_numbers.specs.Cases.{first_free, name_of, number_of, with_case}
-pub use Rattle.case_numbers.specs.Laws.{AreApart, NamesStayApart, ShownIsReadBack}
+pub use Rattle.case_numbers.specs.Laws.{AreApart, KeysTellCasesApart, NamesStayApart, ShownIsReadBack, SpellingsAreRead}

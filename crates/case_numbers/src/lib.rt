@@ -2,6 +2,8 @@
 #![tactic(auto)]
 
 mod cases;
+mod forms;
+mod initials;
 mod laws;
 mod name;
 mod name_line;
@@ -9,7 +11,7 @@ mod names;
 mod texts;
 
 pub use cases::Cases;
-pub use laws::{names_stay_apart, shown_is_read_back};
+pub use laws::{keys_tell_cases_apart, names_stay_apart, shown_is_read_back, spellings_are_read};
 pub use name::{CaseName, case_read};
 pub use name_line::{after_name, name_before, push_name_line};
 pub use names::NamedCase;

@@ -1,10 +1,13 @@
 //! A case number, read from a text.
-ghost use Rattle.std.specs.Prelude.{◌≡◌, ◌≤◌, ◌++◌, ◌∷◌, [], true, false, length, Some, IfOk, OnOk, string_bytes};
+ghost use Rattle.std.specs.Prelude.{◌≡◌, ◌≤◌, ◌++◌, ℕ, List, map, true, length, Some, IfOk, OnOk, string_bytes};
+ghost use Rattle.std.specs.Char.{to_ascii_uppercase};
 ghost use Rattle.std.specs.Str.{IsAscii};
-ghost use Rattle.std.specs.Char.{is_ascii_digit, to_ascii_lowercase};
-ghost use Rattle.std.specs.List.{prefix_len};
-ghost use Rattle.case_numbers.specs.Number.{NameView, are_groups, are_initials, case_read, five_digits, is_year, named, sequence_read, year_read};
+ghost use Rattle.std.specs.Char.{to_ascii_lowercase};
+ghost use Rattle.case_numbers.specs.Forms.{form_of};
+ghost use Rattle.case_numbers.specs.Number.{NameView, case_read, five_digits, has_office, initials_in, is_whole, key_of, named, named_if, number_in, number_with, office_in, office_text, whole_number};
 
+use crate::forms::{digits_before, form_of, is_worded, office_of, push_picked};
+use crate::initials::{are_initials, dashed};
 use std::alloc::{AllocError, Global};
 use std::marker::Model;
 
@@ -52,126 +55,104 @@ impl CaseName {
 pub fn case_read(alloc: Global, text: &[u8]) -> Result<Option<CaseName>, AllocError>
     ensures { IfOk result (λ name. name ≡ case_read text.now) }
 {
-    match text {
-        [office, colon, rest @ ..] => {
-            if office.is_ascii_digit() && *colon == b':' {
-                let mut head = Vec::new(alloc);
-                head.push(*office)?;
-                head.push(*colon)?;
-                read_year(alloc, head, rest)
-            } else {
-                read_year(alloc, Vec::new(alloc), text)
-            }
-        }
-        _ => Ok(None),
+    match form_of(text) {
+        Some(form) => number_in(alloc, form, text),
+        None => Ok(None),
     }
 }
 
-// Reads the year and the kind, and then the sequence.
-#[tactic(auto, unfolding(crate::specs::Number::year_read))]
-fn read_year(alloc: Global, head: Vec<u8>, text: &[u8]) -> Result<Option<CaseName>, AllocError>
-    requires { IsAscii head.items }
-    ensures { IfOk result (λ name. name ≡ year_read head.items text.now) }
+// Reads a case number in the first form that fits.
+#[tactic(auto, unfolding(crate::specs::Number::number_in))]
+fn number_in(alloc: Global, form: &[u8], text: &[u8]) -> Result<Option<CaseName>, AllocError>
+    requires { form_of text.now ≡ Some form.now }
+    ensures { IfOk result (λ name. name ≡ named_if (number_in form.now text.now)) }
 {
-    match text {
-        [y1, y2, dash, k1, k2, last, rest @ ..] => {
-            if is_year(*y1, *y2, *dash, *k1, *k2, *last) {
-                let mut head = head;
-                push_year(&mut head, *y1, *y2, *dash, *k1, *k2, *last)?;
-                read_sequence(alloc, head, rest)
-            } else {
-                Ok(None)
-            }
-        }
-        _ => Ok(None),
+    let rest = text.split_at(form.len()).1;
+    let count = digits_before(rest);
+    let (digits, tail) = rest.split_at(count);
+    let office = office_in(alloc, form, text, tail)?;
+    let initials = initials_in(alloc, form, tail)?;
+    whole_number(
+        alloc,
+        form,
+        text,
+        digits,
+        office.as_slice(),
+        initials.as_slice(),
+    )
+}
+
+// Whether a form has an office, in the word after its number if it needs one.
+fn has_office(form: &[u8], office: &[u8]) -> bool
+    ensures { result ≡ has_office form.now office.now }
+{
+    !(is_worded(form) && office.is_empty())
+}
+
+// Whether these are one to five digits, an office and initials.
+fn is_whole(form: &[u8], digits: &[u8], office: &[u8], initials: &[u8]) -> bool
+    ensures { result ≡ is_whole form.now digits.now office.now initials.now }
+{
+    1 <= digits.len() && digits.len() <= 5 && has_office(form, office) && are_initials(initials)
+}
+
+// The case number with these parts, if they are whole.
+fn whole_number(
+    alloc: Global,
+    form: &[u8],
+    text: &[u8],
+    digits: &[u8],
+    office: &[u8],
+    initials: &[u8],
+) -> Result<Option<CaseName>, AllocError>
+    requires { is_whole form.now digits.now office.now initials.now ≡ true → IsAscii (named (number_with form.now text.now digits.now office.now initials.now)).shown }
+    ensures { IfOk result (λ name. name ≡ named_if (whole_number form.now text.now digits.now office.now initials.now)) }
+{
+    if !is_whole(form, digits, office, initials) {
+        return Ok(None);
     }
+    let key = key_of(alloc, office, form, text, digits)?;
+    named(alloc, key, initials)
 }
 
-// Whether these are a year of two digits and a kind of two letters, with a dash after each.
-fn is_year(y1: u8, y2: u8, dash: u8, k1: u8, k2: u8, last: u8) -> bool
-    ensures { result ≡ is_year y1 y2 dash k1 k2 last }
+// The office that a text says that fits a form: its digit, or nothing.
+fn office_in(alloc: Global, form: &[u8], text: &[u8], tail: &[u8]) -> Result<Vec<u8>, AllocError>
+    ensures { IfOk result (λ office. office.items ≡ office_in form.now text.now tail.now) }
 {
-    y1.is_ascii_digit()
-        && y2.is_ascii_digit()
-        && dash == b'-'
-        && k1.is_ascii_alphabetic()
-        && k2.is_ascii_alphabetic()
-        && last == b'-'
-}
-
-// Adds a year and a kind, with the dashes after them.
-fn push_year(
-    head: &mut Vec<u8>,
-    y1: u8,
-    y2: u8,
-    dash: u8,
-    k1: u8,
-    k2: u8,
-    last: u8,
-) -> Result<(), AllocError>
-    ensures head { OnOk result (head.new.items ≡ head.old.items ++ y1 ∷ y2 ∷ dash ∷ to_ascii_lowercase k1 ∷ to_ascii_lowercase k2 ∷ last ∷ []) }
-    ensures ascii { IsAscii head.old.items → is_year y1 y2 dash k1 k2 last ≡ true → OnOk result (IsAscii head.new.items) }
-{
-    let kind = [k1.to_ascii_lowercase(), k2.to_ascii_lowercase()];
-    head.extend_from_slice(&[y1, y2, dash, kind[0], kind[1], last])?;
-    Ok(())
-}
-
-// Reads the sequence and the initials.
-#[tactic(auto, unfolding(crate::specs::Number::sequence_read))]
-fn read_sequence(alloc: Global, head: Vec<u8>, text: &[u8]) -> Result<Option<CaseName>, AllocError>
-    requires { IsAscii head.items }
-    ensures { IfOk result (λ name. name ≡ sequence_read head.items text.now) }
-{
-    let count = digits_before(text);
-    let (digits, initials) = text.split_at(count);
-    if 1 <= count && count <= 5 && are_initials(initials) {
-        named(alloc, head, digits, initials)
+    if is_worded(form) {
+        Vec::from_slice(alloc, office_of(alloc, tail)?)
     } else {
-        Ok(None)
+        let mut office = Vec::new(alloc);
+        push_picked(&mut office, b'o', form, text)?;
+        Ok(office)
     }
 }
 
-// How many digits a text begins with.
-fn digits_before(text: &[u8]) -> usize
-    ensures count { result ≡ prefix_len is_ascii_digit text.now }
-    ensures within { result ≤ length text.now }
+// The initials after a number in a form, each group after a dash.
+fn initials_in(alloc: Global, form: &[u8], tail: &[u8]) -> Result<Vec<u8>, AllocError>
+    ensures { IfOk result (λ initials. initials.items ≡ initials_in form.now tail.now) }
 {
-    let mut count = 0;
-    while count < text.len() && text[count].is_ascii_digit() {
-        count += 1;
-    }
-    count
-}
-
-// Whether a text is the initials of judges.
-fn are_initials(text: &[u8]) -> bool
-    ensures { result ≡ are_initials text.now }
-{
-    match text {
-        [dash, rest @ ..] => *dash == b'-' && are_groups(rest),
-        _ => true,
-    }
-}
-
-// Whether a text is groups of letters with a dash between them.
-fn are_groups(text: &[u8]) -> bool
-    ensures { result ≡ are_groups false text.now }
-{
-    let mut letter = false;
-    for byte in text {
-        if byte.is_ascii_alphabetic() {
-            letter = true;
-        } else if letter && *byte == b'-' {
-            letter = false;
-        } else {
-            return false;
+    if is_worded(form) {
+        match tail {
+            [_, _, _, _, rest @ ..] => dashed(alloc, rest),
+            _ => dashed(alloc, &[]),
         }
+    } else {
+        dashed(alloc, tail)
     }
-    letter
 }
 
-// Adds a sequence with five digits.
+// Adds an office and a colon, where there is one.
+fn push_office(key: &mut Vec<u8>, office: &[u8]) -> Result<(), AllocError>
+    ensures { OnOk result (key.new.items ≡ key.old.items ++ office_text office.now) }
+{
+    match office {
+        [digit, ..] => key.extend_from_slice(&[*digit, b':']),
+        [] => Ok(()),
+    }
+}
+
+// Adds a number with five digits.
 fn push_digits(key: &mut Vec<u8>, digits: &[u8]) -> Result<(), AllocError>
     requires { length digits.now ≤ 5 }
     ensures { OnOk result (key.new.items ≡ key.old.items ++ five_digits digits.now) }
@@ -180,19 +161,34 @@ fn push_digits(key: &mut Vec<u8>, digits: &[u8]) -> Result<(), AllocError>
     key.extend_from_slice(digits)
 }
 
-// The case number with this sequence and these initials.
-fn named(
+// The key of a case number in a form.
+fn key_of(
     alloc: Global,
-    head: Vec<u8>,
+    office: &[u8],
+    form: &[u8],
+    text: &[u8],
     digits: &[u8],
-    initials: &[u8],
-) -> Result<Option<CaseName>, AllocError>
-    requires few { length digits.now ≤ 5 }
-    requires text { IsAscii (named head.items digits.now initials.now).shown }
-    ensures { IfOk result (λ name. name ≡ Some (named head.items digits.now initials.now)) }
+) -> Result<Vec<u8>, AllocError>
+    requires { length digits.now ≤ 5 }
+    ensures { (initials : List ℕ) → IfOk result (λ key. key.items ≡ key_of (number_with form.now text.now digits.now office.now initials)) }
 {
-    let mut key = head;
+    let mut key = Vec::new(alloc);
+    push_office(&mut key, office)?;
+    push_picked(&mut key, b'y', form, text)?;
+    key.push(b'-')?;
+    let mut kind = Vec::new(alloc);
+    push_picked(&mut kind, b'k', form, text)?;
+    key.extend_from_slice(kind.as_slice().to_ascii_lowercase(alloc)?.as_slice())?;
+    key.push(b'-')?;
     push_digits(&mut key, digits)?;
+    Ok(key)
+}
+
+// The case number with this key and these initials.
+fn named(alloc: Global, key: Vec<u8>, initials: &[u8]) -> Result<Option<CaseName>, AllocError>
+    requires { IsAscii (key.items ++ map to_ascii_uppercase initials.now) }
+    ensures { IfOk result (λ name. name ≡ Some (record { key = key.items; shown = key.items ++ map to_ascii_uppercase initials.now })) }
+{
     let mut shown = Vec::from_slice(alloc, key.as_slice())?;
     shown.extend_from_slice(initials.to_ascii_uppercase(alloc)?.as_slice())?;
     match String::from_utf8(shown) {

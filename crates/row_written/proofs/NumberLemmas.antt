@@ -6,8 +6,8 @@ use Rattle.std.specs.List.{list_all, list_any, starts_with}
 use Rattle.std.specs.Str.{bytes_eq}
 use Rattle.std.proofs.lemmas.Bool.Decides.{nat_tests}
 use Rattle.std.proofs.lemmas.Slice.Eq.{bytes_eq-Decides}
-use Rattle.case_numbers.specs.Number.{NameView, case_read, is_year, year_read}
-use Rattle.case_numbers.proofs.NumberLemmas.{shown_is_read_back_lem}
+use Rattle.case_numbers.specs.Words.{NameView, case_read}
+use Rattle.case_numbers.proofs.CallerLemmas.{digits_no_case, shown_is_read_back_lem}
 use Rattle.court_clock.specs.Words.{day_text}
 use Rattle.row_forms.specs.Words.{is_number}
 use Rattle.row_fields.specs.declared.said.Said.{Said}
@@ -49,50 +49,12 @@ second_of false b is = cc is
 are_digits : (text : List ℕ) → is_number text ≡ true → list_all is_ascii_digit text ≡ true
 are_digits text is = second_of _ _ (second_of _ _ is)
 
--- and no case number is one
-no_colon : (b : ℕ) → is_ascii_digit b ≡ true → (b == 58) ≡ false
-no_colon b is = grind (arith, nat_tests)
-
-no_dash : (b : ℕ) → is_ascii_digit b ≡ true → (b == 45) ≡ false
-no_dash b is = grind (arith, nat_tests)
-
-no_year : (y1 y2 dash k1 k2 last : ℕ) → is_ascii_digit dash ≡ true → is_year y1 y2 dash k1 k2 last ≡ false
-no_year y1 y2 dash k1 k2 last digit = by (is_ascii_digit y1) (is_ascii_digit y2) (dash == 45) (no_dash dash digit)
-  where
-    by : (a b c : Bool) → c ≡ false → (a && b && c && is_ascii_alphabetic k1 && is_ascii_alphabetic k2 && (last == 45)) ≡ false
-    by false b c none = refl
-    by true false c none = refl
-    by true true c none = rw none refl
-
-no_year_read : (y1 y2 : ℕ) (rest : List ℕ) → list_all is_ascii_digit rest ≡ true → year_read [] (y1 ∷ y2 ∷ rest) ≡ None
-unfolding year_read
-no_year_read y1 y2 [] all = refl
-no_year_read y1 y2 (dash ∷ []) all = refl
-no_year_read y1 y2 (dash ∷ k1 ∷ []) all = refl
-no_year_read y1 y2 (dash ∷ k1 ∷ k2 ∷ []) all = refl
-no_year_read y1 y2 (dash ∷ k1 ∷ k2 ∷ last ∷ rest) all = rw (no_year y1 y2 dash k1 k2 last (first_of (is_ascii_digit dash) _ all)) refl
-
-no_office : (a b : ℕ) → is_ascii_digit b ≡ true → (is_ascii_digit a && (b == 58)) ≡ false
-no_office a b digit = by (is_ascii_digit a)
-  where
-    by : (x : Bool) → (x && (b == 58)) ≡ false
-    by true = no_colon b digit
-    by false = refl
-
-no_case : (text : List ℕ) → list_all is_ascii_digit text ≡ true → case_read text ≡ None
-unfolding case_read
-no_case [] all = refl
-no_case (a ∷ []) all = refl
-no_case (a ∷ b ∷ rest) all =
-    let more = second_of (is_ascii_digit a) _ all in
-    rw (no_office a b (first_of (is_ascii_digit b) _ more)) (no_year_read a b rest (second_of (is_ascii_digit b) _ more))
-
--- so what is read as a case number is no number
+-- and no case number is one: what is read as a case number is no number
 shown_is_none : (text number : List ℕ) (read : Option NameView) → case_read text ≡ read → shown_said read ≡ Clear number → is_number number ≡ true → ⊥
 shown_is_none text number None is said digits = cc said
 shown_is_none text number (Some name) is said digits =
     let again : case_read number ≡ Some name = ap case_read (sym (same_text name.shown number said)) ∙ shown_is_read_back_lem text name is in
-    let none = no_case number (are_digits number digits) in
+    let none = digits_no_case number (are_digits number digits) in
     cc (sym again ∙ none)
 
 case_is : (text number : List ℕ) (so : Bool) → either so (Clear text) (shown_said (case_read (bare text))) ≡ Clear number → is_number number ≡ true → number ≡ text

@@ -1,7 +1,7 @@
 use Rattle.std.proofs.Common.{◌≡◌, ◌≤◌, ◌+◌, ◌-◌, drop, length}
 use Rattle.std.specs.Char.{is_ascii_digit}
 use Rattle.std.specs.List.{prefix_len}
-use Rattle.case_numbers.proofs.name.digits_before.Given as goal
+use Rattle.case_numbers.proofs.forms.digits_before.Given as goal
 
 -- the digits so far, and those that come now
 abbrev pub invariant-loop-count : goal.invariant-loop-count

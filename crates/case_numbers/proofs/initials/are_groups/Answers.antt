@@ -1,8 +1,8 @@
 use Rattle.std.proofs.Common.{◌∙◌, ◌≡◌, ◌==◌, ◌&&◌, arith, false, get_or, refl, sym}
 use Rattle.std.proofs.lemmas.Bool.Decides.{nat_tests}
 use Rattle.case_numbers.proofs.GroupLemmas.{groups_dash, groups_end, groups_letter, groups_other}
-use Rattle.case_numbers.proofs.name.are_groups.Goals as goal
-use Rattle.case_numbers.proofs.name.are_groups.Goals.{else-is_ascii_alphabetic+then-letter+then-byte-eq45, else-letter-via-else-letter, else-letter-via-then-letter+else-byte-eq45, then-is_ascii_alphabetic}
+use Rattle.case_numbers.proofs.initials.are_groups.Goals as goal
+use Rattle.case_numbers.proofs.initials.are_groups.Goals.{else-is_ascii_alphabetic+then-letter+then-byte-eq45, else-letter-via-else-letter, else-letter-via-then-letter+else-byte-eq45, then-is_ascii_alphabetic}
 
 pub returns-else-letter : goal.returns-else-letter
 returns-else-letter c =

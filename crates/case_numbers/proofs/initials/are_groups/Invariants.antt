@@ -1,6 +1,6 @@
 use Rattle.std.proofs.Common.{◌≡◌, false, drop}
-use Rattle.case_numbers.specs.Number.{are_groups}
-use Rattle.case_numbers.proofs.name.are_groups.Given as goal
+use Rattle.case_numbers.specs.Forms.{are_groups}
+use Rattle.case_numbers.proofs.initials.are_groups.Given as goal
 
 -- the bytes that are left decide
 abbrev pub invariant-loop-byte : goal.invariant-loop-byte
