@@ -103,7 +103,7 @@ def changed(text):
     yield "a day is taken out", re.sub(r'^ *"2025-11-11".*\n', "", text, flags=re.M)
     yield "no comma after the last day", re.sub(r'(^ *"2026-12-25"),', r"\1", text, flags=re.M)
     yield "a comma in a comment after that", re.sub(r'(^ *"2026-12-25"), #', r"\1 # last one, see below:", text, flags=re.M)
-    yield "the list in one line", re.sub(r"(?<=^federal = \[).*?(?=^\])", "\"2024-01-01\", '2024-07-04'", text, flags=re.M | re.S).replace("\n]", "]", 1)
+    yield "the list in one line", re.sub(r"(?<=^federal = \[).*?(?=^\])", "\"2024-01-01\", '2024-07-04'", text, flags=re.M | re.S)
     yield "no names of holidays", text.partition("\n# What each of these")[0] + "\n"
     yield "a table after the names", text + '\n[more]\nphone = "555-0100"\n'
     yield "an earlier last day", text.replace('to = "2026-12-31"', 'to = "2026-06-30"')
