@@ -9,7 +9,7 @@ lock_name folder = folder ++ codes "/lock"
 -- what is said where others had the lock for so many seconds
 abbrev pub waited_line : (folder : List ℕ) → (wait : ℕ) → List ℕ
 waited_line folder wait =
-    codes "other programs had " ++ folder ++ codes " for " ++ decimal wait ++ codes " seconds, so nothing was written: try again, or wait longer with --wait\n"
+    codes "other programs had " ++ folder ++ codes " for " ++ decimal wait ++ codes " s, so nothing was written: try again, or wait longer with --wait\n"
 
 -- what is said where the file system keeps no locks
 abbrev pub unlocked_line : (folder : List ℕ) → List ℕ

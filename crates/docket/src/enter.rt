@@ -3,6 +3,7 @@ ghost use Rattle.std.specs.Prelude.{◌≡◌, OnOk, Some, false, true};
 ghost use Rattle.program_streams.specs.Words.{IsGiven, has_failed, watched};
 
 use crate::answered::is_answered;
+use crate::clerk::lines_of;
 use crate::fault::{Fault, taken};
 use crate::folder::remove_spare;
 use crate::input::{rows_of, say, whole};
@@ -14,7 +15,7 @@ use crate::session_mark::{Mark, begin_session, end_session};
 use crate::turn::{Told, Turn, first_turn, next_turn};
 use desk_journal::JournalFault;
 use desk_program::{DeskFault, FileFault, Remembered, file_fault};
-use desk_session::{SessionFault, ShortLines, Tally, account_of, read_lines};
+use desk_session::{SessionFault, Tally, account_of, read_lines};
 use program_streams::{Watched, write_all};
 use program_words::{Entering, Keeping};
 use sqlite_std_file::{FileFrom, Wary};
@@ -172,7 +173,7 @@ fn kept_by_turns<H: Threads + Wait + Sync, W: Write, E: Write>(
 ) -> Result<(), Fault>
     requires { has_failed writer.old ≡ false }
 {
-    let mut reader = Watched::new(ShortLines::new(rt.stdin()));
+    let mut reader = Watched::new(lines_of(rt, asked.lines)?);
     let mut buffer = vec![in rt.alloc(); 0u8; CHUNK]?;
     let mut begun = Vec::new(rt.alloc());
     let mut tally = Tally::new();
@@ -230,7 +231,7 @@ fn entered<H: Threads + Wait + Sync, W: Write, E: Write>(
             kept_by_turns(rt, threads, writer, errors, folder, asked, session)
         }
         (Keeping::Together(_), None) => {
-            let rows = whole(rt.alloc(), ShortLines::new(rt.stdin()))?;
+            let rows = whole(rt.alloc(), lines_of(rt, asked.lines)?)?;
             kept_at_once(rt, threads, writer, errors, folder, asked, session, &rows)
         }
     }

@@ -45,7 +45,7 @@ fn is_json(lines: Lines) -> bool
     ensures { result ≡ is_json lines }
 {
     match lines {
-        Lines::Plain => false,
+        Lines::Plain(_) => false,
         Lines::AsWritten(style) => style.json,
     }
 }

@@ -39,7 +39,7 @@ fn waited_line(alloc: Global, folder: &str, wait: u32) -> Result<String, AllocEr
     ensures { IfOk result (λ line. string_bytes line ≡ waited_line folder.now wait) }
 {
     format!(in alloc;
-        "other programs had {folder} for {wait} seconds, so nothing was written: try again, or wait longer with --wait\n"
+        "other programs had {folder} for {wait} s, so nothing was written: try again, or wait longer with --wait\n"
     )
 }
 

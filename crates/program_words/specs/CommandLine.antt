@@ -37,9 +37,9 @@ with_wait line = with_rule line (text_rule (codes "wait"))
 abbrev pub with_style : App → App
 with_style line = with_rule (with_rule line (text_rule (codes "dates"))) (flag_rule (codes "json"))
 
--- one that takes a folder and lines
+-- one that takes a folder and lines, and whose they are
 abbrev pub lines_line : (name : Text) → App
-lines_line name = with_style (with_rule (folder_line name) (flag_rule (codes "as-written")))
+lines_line name = with_rule (with_style (with_rule (folder_line name) (flag_rule (codes "as-written")))) (text_rule (codes "clerk"))
 
 -- one that takes a folder and rows, which may be held back
 abbrev pub rows_line : (name : Text) → App

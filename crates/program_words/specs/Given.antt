@@ -60,6 +60,13 @@ abbrev pub wait_of : Option Text → Option ℕ
 wait_of None = Some 30
 wait_of (Some text) = seconds_of text
 
+-- the number of a clerk
+abbrev pub as_clerk : ℕ → Option ℕ
+as_clerk n = if nat_le 1 n && nat_le n 64 then Some n else None
+
+abbrev pub clerk_of : Text → Option ℕ
+clerk_of text = option_and_then as_clerk (number_of text)
+
 -- one line with something in it
 abbrev pub is_line : Text → Bool
 is_line text = nat_le 1 (length text) && list_all (nat_le 32) text

@@ -36,7 +36,7 @@ use Rattle.program_words.specs.declared.task.Task.{Task}
 use Rattle.program_words.specs.declared.task.Updating.{Updating}
 use Rattle.program_words.specs.declared.task.Writing.{Writing}
 use Rattle.program_words.specs.declared.task.Task.TheVariants as task
-use Rattle.program_words.specs.Given.{faults_beside, faults_if_given, faults_reading, faults_together, faults_without, is_flag, line_of, order_of, seconds_of, wait_of, year_of}
+use Rattle.program_words.specs.Given.{clerk_of, faults_beside, faults_if_given, faults_reading, faults_together, faults_without, is_flag, line_of, order_of, seconds_of, wait_of, year_of}
 
 -- ---- which subcommand a name means
 
@@ -83,17 +83,21 @@ style_of given = record { order = option_and_then order_of (first_of (codes "dat
 abbrev pub style_faults : List Row → Kinds
 style_faults given = faults_if_given order_of (first_of (codes "dates") given)
 
--- how lines are read
+-- how lines are read, and whose they are where they name no clerk
 abbrev pub lines_of : List Row → Lines
-lines_of given = if has (codes "as-written") given then lines.AsWritten (style_of given) else lines.Plain
+lines_of given = if has (codes "as-written") given then lines.AsWritten (style_of given) else lines.Plain (option_and_then clerk_of (first_of (codes "clerk") given))
 
 -- `--dates` and `--json` count beside `--as-written` alone
 abbrev pub beside_faults : List Row → Kinds
 beside_faults given =
     or_else (faults_beside (is_some (first_of (codes "dates") given)) (has (codes "as-written") given)) (faults_beside (has (codes "json") given) (has (codes "as-written") given))
 
+-- a list that people write names its clerks itself
+abbrev pub clerk_faults : List Row → Kinds
+clerk_faults given = or_else (faults_together (has (codes "as-written") given) (is_some (first_of (codes "clerk") given))) (faults_if_given clerk_of (first_of (codes "clerk") given))
+
 abbrev pub lines_faults : List Row → Kinds
-lines_faults given = or_else (beside_faults given) (style_faults given)
+lines_faults given = or_else (or_else (beside_faults given) (style_faults given)) (clerk_faults given)
 
 -- whether rows are held back that draw a warning, and which day counts as today
 abbrev pub held_back_of : List Row → HeldBack

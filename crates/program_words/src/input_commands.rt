@@ -16,6 +16,8 @@ const DATES: &str = "With --as-written: month-first or day-first, for 9/2/2025";
 
 const JSON: &str = "With --as-written: write faults of lines as JSON";
 
+const CLERK: &str = "Rows begin with their command, and are all of this clerk";
+
 const WARN: &str = "Keep no row that draws a warning";
 
 const WARN_DAY: &str = "With --warn: the day that counts as today, as 2025-09-15";
@@ -34,6 +36,9 @@ wrong, and isn't kept.
 Several programs may enter rows into one folder at the same time. Each row is
 decided on all that was kept before it, so row numbers have gaps where others
 entered rows.
+
+With --clerk 7, or DOCKET_CLERK=7 in the environment, rows name no clerk and begin
+with their command: all are clerk 7's.
 
 With --as-written all lines are read first, and if one has a fault none is kept.
 With --warn a row that draws a warning, such as an event before its case was
@@ -105,7 +110,8 @@ fn of_lines<'a>(
 {
     let command = of_folder(alloc, name, about, more)?;
     let command = with_flag(alloc, command, "as-written", AS_WRITTEN)?;
-    with_style(alloc, command, DATES, JSON)
+    let command = with_style(alloc, command, DATES, JSON)?;
+    with_text(alloc, command, "clerk", "N", CLERK)
 }
 
 /// A subcommand of that name, which takes a folder, how its lines are read, and whether rows are held back.

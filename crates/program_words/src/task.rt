@@ -97,8 +97,9 @@ pub struct LogAsked {
 /// How the lines of standard input are read.
 #[derive(Clone, Copy, Debug)]
 pub enum Lines {
-    /// As plain rows.
-    Plain,
+    /// As plain rows, each of the clerk whose number it begins with; or, where a number is given, all of that clerk, and they begin with
+    /// their command.
+    Plain(Option<u8>),
     /// As people write them.
     AsWritten(Style),
 }
