@@ -68,7 +68,7 @@ pub struct OfClerk<R> {
     given: usize,
 }
 
-impl<R: Read> OfClerk<R> {
+impl<R: Read + Drop> OfClerk<R> {
     /// The lines of a reader, as those of that clerk; as they are where there is none.
     pub fn new(alloc: Global, inner: R, clerk: Option<u8>) -> Result<OfClerk<R>, AllocError> {
         let number = match clerk {
