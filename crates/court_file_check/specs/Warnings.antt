@@ -1,5 +1,5 @@
 -- What may be wrong with a court's file that has no fault.
-use Rattle.std.specs.Prelude.{ℕ, suc, ◌+◌, drop, length, nat_eq, nat_lt, ◌&&◌, ◌||◌, not, Bool, false, ℤ, pos, ◌+ℤ◌, ◌-ℤ◌, int_le, int_lt, unsigned_abs, List, [], ◌++◌, filter, Option, Some, None, option_map, if◌then◌else◌}
+use Rattle.std.specs.Prelude.{ℕ, suc, ◌+◌, drop, length, nat_eq, nat_lt, ◌&&◌, ◌||◌, not, Bool, false, ℤ, pos, ◌+ℤ◌, ◌-ℤ◌, int_le, int_lt, unsigned_abs, List, [], ◌++◌, filter, map, Option, Some, None, option_map, if◌then◌else◌}
 use Rattle.std.specs.List.{list_any, range_with_len, starts_with}
 use Rattle.std.specs.Ordering.{int_eq}
 use Rattle.std.specs.Option.{option_and_then, option_to_list}
@@ -87,7 +87,7 @@ ends_soon c (Some today) = int_lt c.to (today +ℤ pos 365) || (is_autumn today 
 
 -- a text has these bytes somewhere
 abbrev pub has_text : (text part : List ℕ) → Bool
-has_text text part = list_any (λ place. starts_with nat_eq (drop place text) part) (range_with_len 0 (length text))
+has_text text part = list_any (λ rest. starts_with nat_eq rest part) (map (λ place. drop place text) (range_with_len 0 (length text)))
 
 -- a day on which the President closed the executive departments is in the span, and the file's text doesn't have its date
 abbrev pub is_unsaid_day : DaysView → (text date : List ℕ) → Option ℤ → Bool

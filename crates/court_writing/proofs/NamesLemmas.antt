@@ -1,7 +1,9 @@
 -- Names that are read from lines, and compared with others.
 use Rattle.std.proofs.Common.{◌≡◌, ℕ, ◌+◌, ◌<◌, ◌≤◌, suc, Bor, List, [], ◌∷◌, ◌++◌, Result, Ok, Err, Some, Vec, get_or, take, drop, length, map, slice_get, refl, sym, ap, subst, ◌∙◌, add-one, arith}
 use Rattle.std.specs.Prelude.{IfOk}
-use Rattle.std.proofs.lemmas.List.{drop_all, drop_more, take_all, take_more, take_more_same}
+use Rattle.std.proofs.lemmas.Iterator.{items_from_drains}
+use Rattle.std.proofs.lemmas.List.{drop_all, drop_more, map-append, take_all, take_more}
+use Rattle.std.proofs.lemmas.Option.{get_or_from_slice_get, slice_get_within}
 use Rattle.court_writing.specs.Names.{IsFault, and_line, each_after, each_line}
 use Rattle.court_writing.specs.Own.{texts}
 use Rattle.court_writing.specs.declared.names.NamesFault.{NamesFault}
@@ -38,3 +40,17 @@ pub lines_done : (names : List (List ℕ)) (whole : Result (List (List ℕ)) Nam
     → length lines ≤ i → each_line (i + 1) names (texts (drop i lines)) ≡ whole → whole ≡ Ok names
 unfolding each_line
 lines_done names whole lines i past same = sym same ∙ (rw (drop_all lines i past) refl)
+
+-- the names of a court's file so far, and one more that is the same
+pub same_more : (read : List (List ℕ)) (names : List (Bor (List ℕ))) (i : ℕ) (name : Bor (List ℕ)) → i < length names → name ≡ get_or names i name
+    → slice_get read i ≡ Some name.now → take i read ≡ texts (take i names) → take (i + 1) read ≡ texts (take (i + 1) names)
+same_more read names i name below is here so_far =
+    let more_read : take (i + 1) read ≡ take i read ++ name.now ∷ [] =
+    take_more read i name.now (slice_get_within read i name.now here) ∙ ap (λ x. take i read ++ x ∷ []) (get_or_from_slice_get read i name.now name.now here) in
+    let more_names : take (i + 1) names ≡ take i names ++ name ∷ [] = take_more names i name below ∙ ap (λ x. take i names ++ x ∷ []) (sym is) in
+    more_read ∙ ap (λ t. t ++ name.now ∷ []) so_far ∙ sym (map-append (λ (x : Bor (List ℕ)). x.now) (take i names) (name ∷ [])) ∙ ap texts (sym more_names)
+
+-- all of them
+pub same_all : (read : List (List ℕ)) (names : List (Bor (List ℕ))) (i : ℕ) → length read ≡ length names → length names ≤ i → take i read ≡ texts (take i names) → read ≡ texts names
+same_all read names i same past so_far =
+    sym (take_all i read (omega (arith, same, past))) ∙ so_far ∙ ap texts (take_all i names past)

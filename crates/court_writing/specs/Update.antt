@@ -1,5 +1,5 @@
 -- A court's file to which years are added.
-use Rattle.std.specs.Prelude.{◌≡◌, ◌⊎◌, ℕ, suc, ◌-◌, nat_le, ◌==◌, ◌&&◌, not, Bool, true, false, ℤ, pos, ◌+ℤ◌, ◌≤ℤ◌, int_le, unsigned_abs, List, [], ◌∷◌, ◌++◌, codes, drop, length, nat_eq, slice_get, unwrap_or, Option, Some, None, Result, Ok, Err, is_some, option_and_then, IfErr, if◌then◌else◌}
+use Rattle.std.specs.Prelude.{◌≡◌, ◌⊎◌, ℕ, suc, ◌-◌, nat_le, ◌==◌, ◌&&◌, not, Bool, true, false, ℤ, pos, ◌+ℤ◌, ◌≤ℤ◌, int_le, unsigned_abs, List, [], ◌∷◌, ◌++◌, codes, nat_eq, slice_get, Option, Some, None, Result, Ok, Err, is_some, option_and_then, IfErr, if◌then◌else◌}
 use Rattle.std.specs.List.{find, slice_split, starts_with}
 use Rattle.jiff_tz.specs.Year.{year_of_day}
 use Rattle.court_clock.specs.Words.{day_text, days_through}
@@ -20,17 +20,15 @@ use Rattle.court_writing.specs.declared.update.UpdateFault.TheVariants as fault
 
 -- ---- of which court a file is
 
--- the line by which `court write` says it begins so
-abbrev pub mark : List ℕ
-mark = codes "# Written by `docket court write --court "
+-- the words of a line, between blanks
+abbrev pub words : List ℕ → List (List ℕ)
+words line = slice_split (λ byte. byte == 32) line
 
--- what a line has after that, up to the next blank
-abbrev pub first_word : List ℕ → List ℕ
-first_word line = unwrap_or (slice_get (slice_split (λ byte. byte == 32) (drop (length mark) line)) 0) []
-
--- the first such line names the court
+-- the first line that begins as `court write` begins it names the court by its eighth word
 abbrev pub court_said : List ℕ → Option District
-court_said text = option_and_then (λ line. district_named (first_word line)) (find (λ line. starts_with nat_eq line mark) (slice_split (λ byte. byte == 10) text))
+court_said text =
+    option_and_then (λ line. option_and_then district_named (slice_get (words line) 7))
+    (find (λ line. starts_with nat_eq line (codes "# Written by `docket court write --court ")) (slice_split (λ byte. byte == 10) text))
 
 -- ---- the text
 
@@ -92,16 +90,17 @@ pub record IsGrown (state : State) (before : DaysView) (last : ℤ) (days : Days
   pub to : days.to ≡ last
   pub kept : (d : ℤ) → days.from ≤ℤ d → d ≤ℤ days.to → IsKept state before days d
 
--- the text is the court's file with those years, and this is what is said of it
-pub record IsUpdateOf (text : List ℕ) (to : ℕ) (result said : List ℕ) : Type 0 where
+-- the text is the file of the court that the old one names, with those years, and this is what is said of it
+pub record IsUpdateFrom (before : CourtFile) (text : List ℕ) (to : ℕ) (result said : List ℕ) : Type 0 where
   pub court : District
-  pub before : CourtFile
   pub after : CourtFile
   pub named : court_said text ≡ Some court
-  pub was : court_in text ≡ Ok before
   pub is : court_in result ≡ Ok after
   pub extended : IsExtended court.state before.days.to to text result said
   pub grown : IsGrown court.state before.days (on 12 31 (pos to)) after.days
+
+abbrev pub IsUpdateOf : (text : List ℕ) → (to : ℕ) → (result said : List ℕ) → Type 0
+IsUpdateOf text to result said = (before : CourtFile) × (court_in text ≡ Ok before) × IsUpdateFrom before text to result said
 
 -- ---- why it isn't made
 

@@ -33,6 +33,7 @@ impl Join {
 
 /// The text with new bytes in the place of old ones, which come after `at` others. None where they aren't there. An `Err` says that
 /// memory ran out.
+#[tactic(auto, using(crate::proofs::UpdateLemmas::is_put))]
 pub(crate) fn put(
     alloc: Global,
     text: &[u8],
@@ -56,6 +57,7 @@ pub(crate) fn put(
 }
 
 /// What comes after the bytes with which a text begins.
+#[tactic(auto, using(crate::proofs::UpdateLemmas::is_front))]
 fn without_front<'a>(text: &'a [u8], front: &[u8]) -> Option<&'a [u8]>
     ensures { IfSome result (λ rest. text.now ≡ front.now ++ rest.now) }
 {

@@ -243,8 +243,8 @@ fn text_of(
         from,
         to,
     )?;
-    let judges_and_rooms = judges_and_rooms(alloc, office)?;
-    text.push_str(judges_and_rooms.as_str())?;
+    let names = judges_and_rooms(alloc, office)?;
+    text.push_str(names.as_str())?;
     push_lines(&mut text, state, Line::Named, first_day(from), last_day(to))?;
     Ok(text)
 }

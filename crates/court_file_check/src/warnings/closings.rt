@@ -1,6 +1,6 @@
 //! Days on which the President closed the executive departments, and of which a court's file says nothing.
 
-ghost use Rattle.std.specs.Prelude.{◌≡◌, ◌++◌, ◌∷◌, ◌||◌, [], map, nat_eq, drop, IfOk, OnOk, if◌then◌else◌};
+ghost use Rattle.std.specs.Prelude.{◌≡◌, ◌≤◌, ◌++◌, ◌∷◌, ◌||◌, [], length, map, nat_eq, drop, IfOk, OnOk, if◌then◌else◌};
 ghost use Rattle.std.specs.List.{starts_with};
 ghost use Rattle.court_holidays.specs.Federal.Words.{closing_view};
 ghost use Rattle.court_file_check.specs.Warnings.{has_text, is_unsaid, unsaid_closings};
@@ -20,7 +20,8 @@ pub(crate) fn unsaid_closings(
     ensures { IfOk result (λ found. map closing_view found.items ≡ unsaid_closings days.now text.now) }
 {
     let mut found = Vec::new(alloc);
-    for closing in closed_days() {
+    let closed = closed_days();
+    for closing in closed {
         push_if(&mut found, is_unsaid(days, text, closing), *closing)?;
     }
     Ok(found)
@@ -59,13 +60,8 @@ fn has_text(text: &[u8], part: &[u8]) -> bool
 
 /// Whether the text has the bytes at the place, or they were found before.
 fn is_there_or(found: bool, text: &[u8], place: usize, part: &[u8]) -> bool
+    requires { place ≤ length text.now }
     ensures { result ≡ (found || starts_with nat_eq (drop place text.now) part.now) }
 {
-    if found {
-        return true;
-    }
-    match text.get(place..) {
-        Some(rest) => rest.starts_with(part),
-        None => part.is_empty(),
-    }
+    found || text.split_at(place).1.starts_with(part)
 }
