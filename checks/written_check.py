@@ -8,7 +8,8 @@ COUNT plain rows at random (20,000 without it) are written in eleven styles, as 
 be read as the row it was made from. As many fields have blanks and dots in them: each must be read, or be a fault, as
 lib/written_fields.py has it from docs/clerk/ROWS.md, and so must the word that is suggested for a misspelt period. Each section
 of docs/law/RULES.md whose period is entered must be answered with its text. Some two hundred lines are spoiled as people spoil
-them; what is said of each must be what runs/written/said.txt has. --write writes that file anew: read it as someone who made
+them; what is said of each must be what runs/written/said.txt has. A case that was opened in one form of its number must be found in
+all others. --write writes that file anew: read it as someone who made
 the mistake. What --json says must be the same faults. It needs Python 3.8 or later.
 """
 import csv
@@ -19,6 +20,7 @@ import re
 import sys
 import tempfile
 
+from lib.case_names import read, spelled
 from lib.desk import Desk, FAULTS, SHORT_COURT, told_of
 from lib.programs import TOP, programs_of, seed_and_count
 from lib.spoiled_lines import spoiled
@@ -284,6 +286,23 @@ def check_names(desk):
     assert tried.output.count(b"filed timely") == 2 and b"deadlines 1 and 3" in tried.output and desk.journal.read_bytes() == before, tried
 
 
+def check_cases(desk, draw):
+    """A case that was opened by its number in one form is found by it in all others, with any initials, and no other case is."""
+    shown = sorted({read("{}{}-{}-{}".format(draw.choice(["", "1:", "2:", "3:", "4:"]), draw.choice(["24", "25"]), draw.choice(["cv", "cr", "bk", "ap", "mc", "mj"]),
+                                             draw.randint(1, 99)))[0] for _ in range(60)})
+    ended = desk.call("enter", given="".join("1,open,{},2025-09-02\n".format(spelled(draw, name)) for name in shown).encode())
+    assert ended.status == 0 and ended.output.count(b" opened\n") == len(shown), ended
+    names = {read(name)[0]: name for name in (line.split(" ")[1] for line in desk.call("cases").output.decode().splitlines())}
+    tried = [(name, spelled(draw, name)) for name in shown for _ in range(5)]
+    ended = desk.call("ask", given="".join("1,sheet,{}\n".format(text) for _, text in tried).encode())
+    told = re.findall("^case (\\S+) filed", ended.output.decode(), re.MULTILINE)
+    assert ended.status == 0 and told == [names[name] for name, _ in tried], (tried, told)
+    plain = desk.call("plain", given="".join("1,sheet,{}\n".format(text) for _, text in tried).encode())
+    assert [line.split(",")[2] for line in plain.output.decode().splitlines()] == [read(text)[1] for _, text in tried], plain
+    again = desk.call("try", given="".join("1,open,{},2025-09-02\n".format(text) for _, text in tried[:9]).encode())
+    assert again.output.count(b" refused 2 CaseIsOpen\n") == 9, again
+
+
 def check_lines(desk):
     """A fault that is found once the rows are read names the line of the input, also as JSON."""
     entered = ["enter", "--all-or-nothing", "--as-written"]
@@ -324,6 +343,8 @@ def main(words):
         check_entering(desk)
         check_names(desk)
         check_lines(desk)
+        check_cases(desk, draw)
+        print("cases that were opened in one form of their numbers are found in all others")
         print("rows as written are tried, and kept together or not at all; their faults name the lines of the input")
 
 

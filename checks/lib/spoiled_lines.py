@@ -75,7 +75,13 @@ def spoiled():
                        ("a case number with no sequence", "1:25-cv"), ("a case number with six digits", "1:25-cv-012345"),
                        ("a case number with a letter O", "1:25-cv-O1234"), ("a case number with no dashes", "1:25cv01234"),
                        ("a case number with initials in brackets", "1:25-cv-01234 (ABC)"), ("a case number with no dash before the initials", "1:25-cv-01234 ABC"),
-                       ("a case number with a digit in the initials", "1:25-cv-01234-AB1"), ("a docket number of another form", "25 Civ. 1234")]:
+                       ("a case number with a digit in the initials", "1:25-cv-01234-AB1"), ("a docket number of another form", "25 Civ. 1234"),
+                       ("a case number with a blank and initials in brackets", "26-CV-2011 (JRT/DLM)"), ("a case number with its year in four digits and no dashes", "3:2026cv02011"),
+                       ("a case number with its kind and no dashes", "25cv7"), ("a case number with the kind first", "CV-26-02011-PHX-MTL"),
+                       ("a case number with the kind first and no office", "CV-26-02011"), ("a case number with the kind first and initials alone", "CV-26-02011-MTL"),
+                       ("a case number with a year before 2000", "1:1998-cv-01234"), ("a case number with the kind in three letters and no office", "25-crim-77"),
+                       ("a case number after a word", "Case No. 25cv1234"), ("a case number with initials in brackets that don't end", "25-cv-1234 (ABC"),
+                       ("a case number with a dash missing", "25-cv1234")]:
         way(name + " as a case", put(file, "1,file,12", "1,file," + case))
     way("a fault after a case number", put(put(book, "12", "1:25-CV-1234-abc"), "Ames", "Aimes"))
     way("a grant that is none after a case number", put(put(extend, "12", "1:25-cv-01234"), "+14d", "+14"))

@@ -3,6 +3,8 @@ program's code."""
 import pathlib
 import re
 
+from lib.case_names import read
+
 RULES_PAGE = pathlib.Path(__file__).resolve().parent.parent.parent / "docs" / "law" / "RULES.md"
 # The codes of periods, and how each is cited where letters and digits alone count, in small letters.
 CODES = {"4m": "4m", "12a1ai": "12a1Ai", "12a1aiius": "12a1Aii-us", "12a1aiiabroad": "12a1Aii-abroad", "12a1b": "12a1B", "12a1c": "12a1C",
@@ -34,11 +36,8 @@ def case_in(text):
     """A case's number, or its case number."""
     if number_in(text, 1, 4096):
         return text.strip()
-    parts = re.fullmatch(r"([0-9]:)?([0-9]{2})-([a-z]{2})-([0-9]{1,5})((?:-[a-z]+)*)", passed_over(text))
-    if not parts:
-        return None
-    office, year, kind, sequence, initials = parts.groups()
-    return "{}{}-{}-{:0>5}{}".format(office or "", year, kind, sequence, initials.upper())
+    name = read(passed_over(text))
+    return name and name[1]
 
 
 def slots_in(text):

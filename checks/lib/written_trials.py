@@ -12,7 +12,8 @@ def kinds_of(judges, rooms):
     """Rows with a place for a field: the row, fields that may be there, and what reads them."""
     return [
         ("{},sheet,12", ["1", "12", "64"], lambda text: number_in(text, 1, 64)),
-        ("1,sheet,{}", ["7", "12", "409", "1:25-cv-01234", "25-cv-12-ABC", "4:25-CR-00007-A.B.C."], case_in),
+        ("1,sheet,{}", ["7", "12", "409", "1:25-cv-01234", "25-cv-12-ABC", "4:25-CR-00007-A.B.C.", "26-CV-2011 (MTL)", "25-cv-7 (JRT/DLM)",
+                        "3:2026cv02011", "25bk7", "1:2025-mj-12-AB", "CV-26-02011-PHX-MTL", "CR-26-11-Tuc (AB)", "CV-26-11-ABC"], case_in),
         ("1,file,12,{},2025-09-29,18:10,electronic", ["3", "12", "120"], lambda text: number_in(text, 1, 10**9)),
         ("1,cancel,12,{}", ["1", "23"], lambda text: number_in(text, 1, 10**9)),
         ("1,motion,12,2025-09-15,{}", ["7", "14", "21"], lambda text: number_in(text, 0, 10**9)),

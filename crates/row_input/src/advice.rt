@@ -1,5 +1,6 @@
 //! What to write in place of what was found.
 
+use crate::cases::for_case;
 use crate::periods::entered_as;
 use court_clock::Day;
 use row_fields::{DateOrder, Said, date_said, time_said};
@@ -127,13 +128,16 @@ pub(crate) fn advice(
         }
         Flaw::Unknown(Column::Time | Column::Start) => for_time(alloc, found),
         Flaw::Unknown(
-            Column::Clerk
-            | Column::Case
-            | Column::Deadline
-            | Column::Motion
-            | Column::Need
-            | Column::Slots,
+            Column::Clerk | Column::Deadline | Column::Motion | Column::Need | Column::Slots,
         ) => for_number(alloc, found),
+        Flaw::Unknown(Column::Case) => {
+            let said = for_number(alloc, found)?;
+            if said.is_empty() {
+                for_case(alloc, found)
+            } else {
+                Ok(said)
+            }
+        }
         Flaw::Unknown(Column::Period) => entered_as(alloc, found),
         Flaw::Unclear(column) => String::from_str(alloc, for_two(column)),
         Flaw::Excess => String::from_str(alloc, "a field with a comma in it is written in quotes"),

@@ -2,6 +2,7 @@
 #![tactic(auto)]
 
 mod advice;
+mod cases;
 mod later;
 mod nearest;
 mod objects;

@@ -8,7 +8,8 @@ fn held(column: Column) -> &'static str {
     match column {
         Column::Clerk => "the clerk's number, from 1 to 64",
         Column::Command => "a command word",
-        Column::Case => "a number, as 7, or a case number, as 1:25-cv-01234",
+        Column::Case =>
+            "a number, as 7, or a case number, as 1:25-cv-01234, 25-cv-1234 (ABC), 3:2025cv01234 or CV-25-01234-PHX-ABC",
         Column::Deadline =>
             "a deadline's number, as 1, or the rule of one that is pending, as 59(e)",
         Column::Motion => "a motion's number, as 1, or last for the newest",
