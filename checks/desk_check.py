@@ -475,8 +475,6 @@ def check_clerks(programs):
         for words in (("enter",), ("enter", "--warn"), ("try",), ("ask",)):
             ended = desk.call(*words, given=b"".join(line for line, _ in FAULTS_OF_CLERKS))
             assert (ended.status, ended.output) == (FAULTY, b"".join(answer for _, answer in FAULTS_OF_CLERKS)), (words, ended)
-            ended = desk.call(*words, "--clerk", 9, given=b"no,row\n,\xff\n")
-            assert (ended.status, ended.output) == (FAULTY, b"2 9 fault 2 UnknownCommand\n2 - fault 5 NotText\n"), (words, ended)
         ended = desk.call("enter", TOGETHER, given=b"1,sheet,1\n5,file,1,59e,2025-03-03,10:00,paper\n")
         assert (ended.status, told_of(ended)[0]) == (FAULTS, b"line 2 would be answered: 3" + FAULTS_OF_CLERKS[-2][1][1:]), ended
         assert len(rows_of(desk.read())) == 1
