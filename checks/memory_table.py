@@ -45,7 +45,7 @@ BESIDE = {
     "case_numbers": DESK_CHECKS,
     "desk_numbers": DESK_CHECKS,
     "docket_shifts": DESK_CHECKS,
-    "desk_journal": (),
+    "desk_journal": ("many_check",),
     "desk_session": DESK_CHECKS,
     "desk_entries": DESK_CHECKS,
     "desk_program": DESK_CHECKS,

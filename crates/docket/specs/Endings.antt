@@ -5,7 +5,7 @@ use Rattle.court_writing.specs.declared.fault.WriteFault.TheVariants as write
 use Rattle.program_runs.specs.Words.{IsTold as IsTold-input}
 use Rattle.desk_program.specs.Words.{desk_status}
 use Rattle.docket.specs.declared.fault.Fault.{Fault}
-use Rattle.docket.specs.declared.fault.Fault.TheVariants.{Desk, Input, Missing, NotWritten, Told, Unusable}
+use Rattle.docket.specs.declared.fault.Fault.TheVariants.{Desk, Input, Missing, NotWritten, Told, Unusable, Waited}
 
 -- where no court's file is written: 1 for the years, 2 for a text that doesn't read back
 abbrev pub write_status : WriteFault → ℕ
@@ -23,5 +23,6 @@ IsTold (Desk fault) status IsGivenErrors = (status ≡ desk_status fault) ⊎ (s
 IsTold (Input fault) status IsGivenErrors = IsTold-input fault status IsGivenErrors
 IsTold (Missing line) status IsGivenErrors = (status ≡ 6) × IsGivenErrors (string_bytes line)
 IsTold (Unusable line) status IsGivenErrors = (status ≡ 10) × IsGivenErrors (string_bytes line)
+IsTold (Waited line) status IsGivenErrors = (status ≡ 11) × IsGivenErrors (string_bytes line)
 IsTold (NotWritten fault) status IsGivenErrors = (status ≡ write_status fault) ⊎ (status ≡ 5)
 IsTold (Told said) status IsGivenErrors = status ≡ said

@@ -28,16 +28,9 @@ pub fn done<H: Threads + Wait + Sync, W: Write, E: Write>(
 {
     match task {
         Task::Init(folder, court) => init(rt, folder.as_str(), court.as_str())?,
-        Task::Enter(folder, lines, held_back, keeping) => enter(
-            rt,
-            threads,
-            writer,
-            errors,
-            folder.as_str(),
-            *lines,
-            *held_back,
-            *keeping,
-        )?,
+        Task::Enter(folder, entering) => {
+            enter(rt, threads, writer, errors, folder.as_str(), entering)?
+        }
         Task::Try(folder, lines, held_back) => {
             try_rows(
                 rt,
@@ -84,8 +77,8 @@ pub fn done<H: Threads + Wait + Sync, W: Write, E: Write>(
         Task::Memo(source, asked) => memo(rt, threads, writer, source, asked)?,
         Task::CourtCheck(file, asked) => return check_file(rt, writer, file.as_str(), asked),
         Task::CourtWrite(court, from, to) => write_file(rt.alloc(), writer, *court, *from, *to)?,
-        Task::CourtChange(folder, file, accept) => {
-            change(rt, threads, writer, folder.as_str(), file.as_str(), *accept)?
+        Task::CourtChange(folder, changing) => {
+            change(rt, threads, writer, folder.as_str(), changing)?
         }
     }
     Ok(0)

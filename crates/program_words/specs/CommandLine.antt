@@ -29,13 +29,17 @@ folder_line name = with_rule (new_app name) (place_rule (codes "folder"))
 abbrev pub kept_line : (name : Text) → App
 kept_line name = with_rule (folder_line name) (text_rule (codes "as-of"))
 
+-- how long to wait for others
+abbrev pub with_wait : App → App
+with_wait line = with_rule line (text_rule (codes "wait"))
+
 -- how lines are written that people write
 abbrev pub with_style : App → App
 with_style line = with_rule (with_rule line (text_rule (codes "dates"))) (flag_rule (codes "json"))
 
--- one that takes a folder and lines
+-- one that takes a folder and lines, and whose they are
 abbrev pub lines_line : (name : Text) → App
-lines_line name = with_style (with_rule (folder_line name) (flag_rule (codes "as-written")))
+lines_line name = with_rule (with_style (with_rule (folder_line name) (flag_rule (codes "as-written")))) (text_rule (codes "clerk"))
 
 -- one that takes a folder and rows, which may be held back
 abbrev pub rows_line : (name : Text) → App
@@ -45,7 +49,7 @@ abbrev pub init_line : App
 init_line = with_rule (folder_line (codes "init")) (needed_rule (codes "court"))
 
 abbrev pub enter_line : App
-enter_line = with_rule (with_rule (rows_line (codes "enter")) (flag_rule (codes "all-or-nothing"))) (flag_rule (codes "keep-refused"))
+enter_line = with_wait (with_rule (with_rule (rows_line (codes "enter")) (flag_rule (codes "all-or-nothing"))) (flag_rule (codes "keep-refused")))
 
 abbrev pub ask_line : App
 ask_line = with_rule (lines_line (codes "ask")) (text_rule (codes "as-of"))
@@ -53,9 +57,9 @@ ask_line = with_rule (lines_line (codes "ask")) (text_rule (codes "as-of"))
 abbrev pub plain_line : App
 plain_line = with_style (folder_line (codes "plain"))
 
--- a row, why it is struck or restored, and whether it is though answers differ
+-- a row, why it is struck or restored, whether it is though answers differ, and how long to wait
 abbrev pub with_correction : App → App
-with_correction line = with_rule (with_rule (with_rule line (place_rule (codes "row"))) (needed_rule (codes "reason"))) (flag_rule (codes "accept"))
+with_correction line = with_wait (with_rule (with_rule (with_rule line (place_rule (codes "row"))) (needed_rule (codes "reason"))) (flag_rule (codes "accept")))
 
 abbrev pub correction_line : (name : Text) → App
 correction_line name = with_correction (folder_line name)
@@ -78,7 +82,7 @@ abbrev pub write_line : App
 write_line = with_rule (with_rule (with_rule (new_app (codes "write")) (needed_rule (codes "court"))) (needed_rule (codes "from"))) (needed_rule (codes "to"))
 
 abbrev pub change_line : App
-change_line = with_rule (with_rule (folder_line (codes "change")) (place_rule (codes "file"))) (flag_rule (codes "accept"))
+change_line = with_wait (with_rule (with_rule (folder_line (codes "change")) (place_rule (codes "file"))) (flag_rule (codes "accept")))
 
 -- ---- the whole
 

@@ -5,7 +5,7 @@ ghost use Rattle.clap.specs.Words.{app_of, new_app};
 ghost use Rattle.program_words.specs.CommandLine.{change_line, check_line, court_line, write_line};
 
 use crate::command::bare;
-use crate::folder_commands::of_folder;
+use crate::folder_commands::{of_folder, with_wait};
 use crate::options::{with_flag, with_place};
 use clap::Command;
 use program_main::{with_needed, with_subcommand, with_text};
@@ -95,7 +95,8 @@ fn change<'a>(alloc: Global) -> Result<Command<'a>, AllocError>
 {
     let command = of_folder(alloc, "change", CHANGE, CHANGE_MORE)?;
     let command = with_place(alloc, command, "file", "FILE", OTHER_FILE)?;
-    with_flag(alloc, command, "accept", ACCEPT)
+    let command = with_flag(alloc, command, "accept", ACCEPT)?;
+    with_wait(alloc, command)
 }
 
 /// The command line after the word `court`. These are the names of the courts, a line each.

@@ -7,9 +7,9 @@ ghost use Rattle.program_words.specs.declared.subcommand.Subcommand.{Subcommand}
 ghost use Rattle.program_words.specs.Task.{IsTask, faults_given};
 
 use crate::given::{both, has_flag, needed};
-use crate::task::Task;
+use crate::task::{Changing, Task};
 use crate::tasks::folder_in;
-use crate::values::{court_in, day_if_given, year_in};
+use crate::values::{court_in, day_if_given, wait_in, year_in};
 use clap::ArgMatches;
 use court_file_check::Asked as CheckAsked;
 use program_main::OptionsFault;
@@ -46,10 +46,12 @@ pub(crate) fn change(alloc: Global, given: &ArgMatches<'_>) -> Result<Task, Opti
     ensures task { (clock_time : ℤ) (name : Text) → IfOk result (IsTask clock_time Subcommand.CourtChange name (rows_of (found_of given.now))) }
     ensures faults { IsAnswerFor (faults_given Subcommand.CourtChange (rows_of (found_of given.now))) result }
 {
-    let (folder, file) = both(
+    let which = both(
         folder_in(alloc, given),
         needed(alloc, given, "file", "<FILE>"),
-    )?;
+    );
+    let ((folder, file), wait) = both(which, wait_in(alloc, given))?;
     let accept = has_flag(given, "accept");
-    Ok(Task::CourtChange(folder, file, accept))
+    let changing = Changing { file, accept, wait };
+    Ok(Task::CourtChange(folder, changing))
 }

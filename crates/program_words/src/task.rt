@@ -17,7 +17,7 @@ pub enum Task {
     /// `init`: a new folder, and the court's file that it begins with.
     Init(String, String),
     /// `enter`: rows, which are kept in the folder and answered.
-    Enter(String, Lines, HeldBack, Keeping),
+    Enter(String, Entering),
     /// `try`: rows, which are answered as `enter` would, and not kept.
     Try(String, Lines, HeldBack),
     /// `ask`: questions, which are answered, and as of when.
@@ -46,8 +46,8 @@ pub enum Task {
     CourtCheck(String, CheckAsked),
     /// `court write`: the court whose file is written, and the first and the last year.
     CourtWrite(CourtName, u16, u16),
-    /// `court change`: a folder, the other court's file, and whether it is taken though answers differ.
-    CourtChange(String, String, bool),
+    /// `court change`: a folder, and the other court's file.
+    CourtChange(String, Changing),
 }
 
 /// Of what a report is.
@@ -94,8 +94,9 @@ pub struct LogAsked {
 /// How the lines of standard input are read.
 #[derive(Clone, Copy, Debug)]
 pub enum Lines {
-    /// As plain rows.
-    Plain,
+    /// As plain rows, each of the clerk whose number it begins with; or, where a number is given, all of that clerk, and they begin with
+    /// their command.
+    Plain(Option<u8>),
     /// As people write them.
     AsWritten(Style),
 }
@@ -118,6 +119,19 @@ pub enum Keeping {
     Together(bool),
 }
 
+/// How rows are entered.
+#[derive(Clone, Copy, Debug)]
+pub struct Entering {
+    /// How their lines are read.
+    pub lines: Lines,
+    /// Which rows are held back.
+    pub held_back: HeldBack,
+    /// Which rows are kept.
+    pub keeping: Keeping,
+    /// How many seconds to wait while another program keeps rows.
+    pub wait: u32,
+}
+
 /// A row that is struck or restored, and what is said of that.
 #[derive(Debug, Drop)]
 pub struct Correcting {
@@ -129,4 +143,17 @@ pub struct Correcting {
     pub clock_time: Instant,
     /// Whether it is done though answers differ.
     pub accept: bool,
+    /// How many seconds to wait while another program keeps rows.
+    pub wait: u32,
+}
+
+/// Another court's file for a folder.
+#[derive(Debug, Drop)]
+pub struct Changing {
+    /// The file.
+    pub file: String,
+    /// Whether it is taken though answers differ.
+    pub accept: bool,
+    /// How many seconds to wait while another program keeps rows.
+    pub wait: u32,
 }

@@ -10,7 +10,7 @@ ghost use Rattle.court_writing.specs.Words.{district_named, of_district, zone_te
 ghost use Rattle.program_main.specs.Options.Words.{IsAnswerFor, IsFaultAmong};
 ghost use Rattle.office_texts.specs.Names.Words.{case_called};
 ghost use Rattle.program_main.specs.Texts.Words.{day_said, faults_unless, is_case_taken, is_day_taken, is_said_taken, number_of};
-ghost use Rattle.program_words.specs.Given.{faults_if_given, faults_reading, is_line, line_of, order_of, year_of};
+ghost use Rattle.program_words.specs.Given.{clerk_of, faults_if_given, faults_reading, is_line, line_of, order_of, seconds_of, wait_of, year_of};
 
 use crate::courts::nearest_names;
 use crate::given::{missing, mistake, text_in};
@@ -103,6 +103,64 @@ pub(crate) fn row_if_given(
                 text,
                 "--row <ROW>",
                 "write the number with which its answer begins",
+            )),
+        },
+    }
+}
+
+/// The seconds that a text writes: a number up to 86400.
+fn seconds_of(text: &str) -> Option<u32>
+    ensures { result ≡ seconds_of text.now }
+{
+    match number_of(text) {
+        Some(number) if number <= 86_400 => Some(number),
+        _ => None,
+    }
+}
+
+/// The number of the clerk that a text writes.
+pub(crate) fn clerk_number(text: &str) -> Option<u8>
+    ensures { result ≡ clerk_of text.now }
+{
+    match number_of(text) {
+        Some(number) if number >= 1 && number <= 64 => Some(number as u8),
+        _ => None,
+    }
+}
+
+/// Whose rows are that name no clerk, if that was given. BadWords where the text of `--clerk` is no such number.
+pub(crate) fn clerk_in(alloc: Global, given: &ArgMatches<'_>) -> Result<Option<u8>, OptionsFault>
+    ensures clerk { IfOk result (λ clerk. clerk ≡ option_and_then clerk_of (first_of (codes "clerk") (rows_of (found_of given.now)))) }
+    ensures faults { IsAnswerFor (faults_if_given clerk_of (first_of (codes "clerk") (rows_of (found_of given.now)))) result }
+{
+    match text_in(given, "clerk") {
+        None => Ok(None),
+        Some(text) => match clerk_number(text) {
+            Some(clerk) => Ok(Some(clerk)),
+            None => Err(unread(
+                alloc,
+                text,
+                "--clerk <N>",
+                "write the clerk's number, from 1 to 64",
+            )),
+        },
+    }
+}
+
+/// How many seconds to wait for others: 30 where nothing is said. BadWords where the text of `--wait` is no such number.
+pub(crate) fn wait_in(alloc: Global, given: &ArgMatches<'_>) -> Result<u32, OptionsFault>
+    ensures wait { IfOk result (λ wait. wait_of (first_of (codes "wait") (rows_of (found_of given.now))) ≡ Some wait) }
+    ensures faults { IsAnswerFor (faults_if_given seconds_of (first_of (codes "wait") (rows_of (found_of given.now)))) result }
+{
+    match text_in(given, "wait") {
+        None => Ok(30),
+        Some(text) => match seconds_of(text) {
+            Some(wait) => Ok(wait),
+            None => Err(unread(
+                alloc,
+                text,
+                "--wait <SECONDS>",
+                "write a number of seconds from 0 to 86400",
             )),
         },
     }

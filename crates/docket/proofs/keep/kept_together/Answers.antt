@@ -3,7 +3,7 @@ use Rattle.desk_session.specs.Words.{lines_of}
 use Rattle.desk_program.proofs.CallerLemmas.{unanswered_docket}
 use Rattle.program_streams.specs.Words.{IsGiven, watched}
 use Rattle.docket.proofs.SessionLemmas.{together_promised}
-use Rattle.docket.proofs.enter.kept_together.Goals as goal
+use Rattle.docket.proofs.keep.kept_together.Goals as goal
 
 pub returns-in-Ok-clause-promised : goal.returns-in-Ok-clause-promised
 returns-in-Ok-clause-promised g c = λ kept keeps.

@@ -1,5 +1,5 @@
 use Rattle.desk_session.specs.Words.{lines_of}
-use Rattle.docket.proofs.enter.kept_each.Goals as goal
+use Rattle.docket.proofs.keep.kept_each.Goals as goal
 
 pub returns-in-Ok-clause-promised : goal.returns-in-Ok-clause-promised
 returns-in-Ok-clause-promised g c = λ kept keeps.
