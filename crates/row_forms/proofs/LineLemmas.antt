@@ -1,4 +1,5 @@
 pub mod PlainLemmas
 pub mod RowTextLemmas
 pub mod LineLemmas
+pub mod ClerkLemmas
 pub mod CallerLemmas

@@ -20,7 +20,7 @@ pub use laws::{
     codes_are_read_back, command_words_name_forms, empty_fields_are_taken, first_fault_is_told,
     rows_are_bounded, rows_ask_by_their_words, rows_follow_the_table,
 };
-pub use line::{Line, push_row_text, read_line};
+pub use line::{Line, push_row_text, read_clerk, read_line};
 pub use numbered::{NumberedRow, numbered_rows};
 pub use records::{MAX_ROWS, Next, read_next, read_rows, row_of, rows_reader};
 pub use row::{Row, Work};

@@ -110,7 +110,7 @@ pub fn row_of(clerks: u8, court: &Court, fields: &StringRecord) -> Result<Row, R
 
 // A clerk's number, from 1 to the number of clerks.
 #[tactic(auto, unfolding(crate::specs::Rows::clerk_of))]
-fn clerk_of(clerks: u8, field: &str) -> Option<u8>
+pub(crate) fn clerk_of(clerks: u8, field: &str) -> Option<u8>
     ensures { result ≡ clerk_of clerks field.now }
 {
     let number = number_of(field)?;
