@@ -44,10 +44,10 @@ reads_plain : (court : CourtView) (kept : List (List ℕ)) (bytes : List ℕ) (s
 reads_plain court kept bytes said is third fourth = other_lines (plain court) kept bytes (ap (lacks_field 3) is ∙ third) (ap (lacks_field 4) is ∙ fourth)
 
 -- a line that lacks no third field and no fourth is answered as its plain line is
-answered_plain : (under : Standing) (kept : List (List ℕ)) (bytes : List ℕ) (said : Line) → line_read most_clerks (names_of under.court) bytes ≡ said → lacks_field 3 said ≡ false → lacks_field 4 said ≡ false → answers under kept bytes ≡ plain_answers under kept (reading_at under kept bytes).text
+answered_plain : (under : Standing) (kept : List (List ℕ)) (bytes : List ℕ) (said : Line) → line_read most_clerks (names_of under.court) bytes ≡ said → lacks_field 3 said ≡ false → lacks_field 4 said ≡ false → answers under kept bytes ≡ plain_answers under kept bytes (reading_at under kept bytes).text
 unfolding answers
 answered_plain under kept bytes said is third fourth =
-    ap (λ (special : Option LineCause). told_or under kept special (plain_answers under kept (reading_at under kept bytes).text))
+    ap (λ (special : Option LineCause). told_or under kept bytes special (plain_answers under kept bytes (reading_at under kept bytes).text))
     (nothing_special under kept bytes (ap (lacks_field 3) is ∙ third) (ap (lacks_field 4) is ∙ fourth))
 
 -- a line that says nothing
@@ -57,7 +57,7 @@ blank_run court kept lines bytes blank run =
     let as_is = reads_plain court kept bytes line.Blank blank refl refl in
     let left : leaves (plain court) kept bytes ≡ [] =
     ap (λ (r : Reading). with_name r.name (plain_leaves (plain court) kept r.text)) as_is ∙ ap (with_name None) (plain_none (plain court) kept bytes line.Blank (ap (within kept) blank) refl) in
-    let told : answers (plain court) kept bytes ≡ [] = answered_plain (plain court) kept bytes line.Blank blank refl refl ∙ ap (λ (r : Reading). plain_answers (plain court) kept r.text) as_is ∙ ap (λ (l : Line). told_of (plain court) kept (within kept l)) blank in
+    let told : answers (plain court) kept bytes ≡ [] = answered_plain (plain court) kept bytes line.Blank blank refl refl ∙ ap (λ (r : Reading). plain_answers (plain court) kept bytes r.text) as_is ∙ ap (λ (l : Line). told_of (plain court) kept bytes (within kept l)) blank in
     let rows : rows_in (names_of court) (bytes ∷ lines) ≡ rows_in (names_of court) lines = ap (λ (l : Line). row_in l ++ rows_in (names_of court) lines) blank in
     let same : kept ++ leaves (plain court) kept bytes ≡ kept = ap (λ (l : List (List ℕ)). kept ++ l) left ∙ append-nil kept in
     record {
@@ -131,7 +131,7 @@ row_run court kept lines bytes row begun room said names run =
     let is : within kept (line_read most_clerks (names_of court) bytes) ≡ line.Row row = ap (within kept) said ∙ rw room refl in
     let left : leaves (plain court) kept bytes ≡ entry ∷ [] = ap (λ (r : Reading). with_name r.name (plain_leaves (plain court) kept r.text)) as_is ∙ ap (with_name None) (plain_one (plain court) kept bytes row is room) in
     let told : answers (plain court) kept bytes ≡ line_of court (next_number kept) row.clerk (reply_to (setup_of court) (docketed_by (plain court) kept) row.work) =
-    answered_plain (plain court) kept bytes (line.Row row) said refl refl ∙ ap (λ (r : Reading). plain_answers (plain court) kept r.text) as_is ∙ ap (told_of (plain court) kept) is ∙ no_names_answer court kept row names in
+    answered_plain (plain court) kept bytes (line.Row row) said refl refl ∙ ap (λ (r : Reading). plain_answers (plain court) kept bytes r.text) as_is ∙ ap (told_of (plain court) kept bytes) is ∙ no_names_answer court kept row names in
     let rows : rows_in (names_of court) (bytes ∷ lines) ≡ row ∷ rows_in (names_of court) lines = ap (λ (l : Line). row_in l ++ rows_in (names_of court) lines) said in
     let then = docketed_by (plain court) (kept ++ entry ∷ []) in
     let others = rows_in (names_of court) lines in

@@ -19,8 +19,8 @@ use Rattle.desk_entries.specs.Export.{row_written, shown_as}
 abbrev pub plain : CourtView → Standing
 plain court = record { court = court; corrections = no_corrections }
 
--- The answers to lines one by one, after a court's file and with nothing struck, are those that a run of clerk_office writes of
--- their rows together: its text is these answers and then the sheets and calendars of the docket after them.
+-- The answers to lines that have no fault, one by one, after a court's file and with nothing struck, are those that a run of
+-- clerk_office writes of their rows together: its text is these answers and then the sheets and calendars of the docket after them.
 abbrev pub AnswersAreTheRuns : Type 0
 AnswersAreTheRuns = (court : CourtView) (file : List ℕ) (lines : List (List ℕ)) → All (HasNoFault (names_of court)) lines → length lines < most_rows
     → run_text court (rows_in (names_of court) lines)

@@ -3,7 +3,8 @@ ghost use Rattle.desk_entries.specs.Reported.{ReportsAreOfTheDocket};
 ghost use Rattle.desk_entries.specs.Follow.{GoingOnIsOpeningAnew};
 ghost use Rattle.desk_entries.specs.Laws.{ARestoreLeavesTheDocket, AnAnswerShowsItsNumber, AnswersAreTheRuns, RowsAreWrittenAsTheyAre};
 
-/// With nothing struck, the answers to lines one by one are those that a run of clerk_office writes of their rows together.
+/// With nothing struck, the answers to lines that have no fault, one by one, are those that a run of clerk_office writes of their
+/// rows together.
 #[tactic(auto, using(crate::proofs::RunLemmas::answers_are_the_runs_lem))]
 pub fn answers_are_the_runs()
     ensures { AnswersAreTheRuns }

@@ -23,23 +23,23 @@ use Rattle.row_forms.specs.declared.row.Work.TheVariants.{Command, Query}
 use Rattle.desk_register.specs.Run.{Run, docketed_with, numbers_with, reply_by_places, run_by}
 
 -- what a line is shown that says this, where this is wrong beside
-abbrev pub shown_with : Standing → (kept : List (List ℕ)) → (special : Option LineCause) → Line → List ℕ
-shown_with under kept special said = told_or under kept special (shown_to under kept said)
+abbrev pub shown_with : Standing → (kept : List (List ℕ)) → (bytes : List ℕ) → (special : Option LineCause) → Line → List ℕ
+shown_with under kept bytes special said = told_or under kept bytes special (shown_to under kept bytes said)
 
 pub line_asked : (under : Standing) (questions : Questions) (kept : List (List ℕ)) (bytes : List ℕ) (batch : List (List ℕ)) (text : List ℕ) (said : Line) → line_read most_clerks (names_of under.court) (reading_at under kept bytes).text ≡ said
-    → StandsAt under questions.register kept → (text_after : List ℕ) → text_after ≡ text ++ shown_with under kept (special_at under kept bytes) said
+    → StandsAt under questions.register kept → (text_after : List ℕ) → text_after ≡ text ++ shown_with under kept bytes (special_at under kept bytes) said
     → TakesLine (λ k l. []) (shown under) (AsksOf under questions) kept bytes batch batch text text_after
 unfolding shown
 line_asked under questions kept bytes batch text said is stands text_after told = record {
   stands = subst (AsksOf under questions) (sym (append-nil kept)) stands;
   left = sym (append-nil batch);
-  told = told ∙ ap (λ (l : Line). text ++ shown_with under kept (special_at under kept bytes) l) (sym is);
+  told = told ∙ ap (λ (l : Line). text ++ shown_with under kept bytes (special_at under kept bytes) l) (sym is);
 }
 
 -- a line that lacks no third field and no fourth
 pub shown_plain : (under : Standing) (kept : List (List ℕ)) (bytes text : List ℕ) (said : Line) → line_read most_clerks (names_of under.court) (reading_at under kept bytes).text ≡ said → lacks_field 3 said ≡ false → lacks_field 4 said ≡ false
-    → text ++ shown_to under kept said ≡ text ++ shown_with under kept (special_at under kept bytes) said
-shown_plain under kept bytes text said is third fourth = ap (λ (special : Option LineCause). text ++ shown_with under kept special said) (sym (read_whole under kept bytes said is third fourth))
+    → text ++ shown_to under kept bytes said ≡ text ++ shown_with under kept bytes (special_at under kept bytes) said
+shown_plain under kept bytes text said is third fourth = ap (λ (special : Option LineCause). text ++ shown_with under kept bytes special said) (sym (read_whole under kept bytes said is third fourth))
 
 -- a question gives no number
 pub question_moves_nothing : (under : Standing) (run : Run) (number : ℕ) (asked : Work) → asks asked ≡ true → (numbers_with under run number asked).moved ≡ run.numbers.moved

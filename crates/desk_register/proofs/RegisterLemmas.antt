@@ -151,8 +151,8 @@ as_it_was under before register kept stands docket numbers cases number count =
     }
 
 -- what a line is answered that says this, where this is wrong beside
-abbrev pub told_with : Standing → (kept : List (List ℕ)) → (special : Option LineCause) → Line → List ℕ
-told_with under kept special said = told_or under kept special (told_of under kept said)
+abbrev pub told_with : Standing → (kept : List (List ℕ)) → (bytes : List ℕ) → (special : Option LineCause) → Line → List ℕ
+told_with under kept bytes special said = told_or under kept bytes special (told_of under kept bytes said)
 
 -- a line that lacks no third field and no fourth opens no case too many, and names nothing that isn't found
 lacks_it : (number : ℕ) (kept : List (List ℕ)) (said then : Line) → within kept said ≡ then → lacks_field number then ≡ false → lacks_field number said ≡ false
@@ -217,28 +217,28 @@ not_special under kept bytes said is third fourth =
     read_whole under kept bytes read refl (lacks_it 3 kept read said is third) (lacks_it 4 kept read said is fourth)
 
 -- what is told of a fault, by its cause
-pub cause_told : (under : Standing) (kept : List (List ℕ)) (special : Option LineCause) (cause : RowCause) → fault_told (next_number kept) (cause_or special cause) ≡ told_with under kept special (line.Fault cause)
-cause_told under kept None cause = refl
-cause_told under kept (Some special) cause = refl
+pub cause_told : (under : Standing) (kept : List (List ℕ)) (bytes : List ℕ) (special : Option LineCause) (cause : RowCause) → fault_told (next_number kept) bytes (cause_or special cause) ≡ told_with under kept bytes special (line.Fault cause)
+cause_told under kept bytes None cause = refl
+cause_told under kept bytes (Some special) cause = refl
 
 -- what lines leave and are answered, by what they say
 module _ (under : Standing) (register : DocketRegister) (kept : List (List ℕ)) (bytes : List ℕ) (batch : List (List ℕ)) (text : List ℕ) where
   -- a line that leaves nothing and moves nothing
   just_told : (said : Line) → within kept (line_read most_clerks (names_of under.court) (reading_at under kept bytes).text) ≡ said → plain_leaves under kept (reading_at under kept bytes).text ≡ [] → shifts_said under kept said ≡ []
-      → IsReadyAt under register kept → (text_after : List ℕ) → text_after ≡ text ++ told_with under kept (special_at under kept bytes) said → TakesLine (leaves under) (told under) (IsReadyAt under register) kept bytes batch batch text text_after
+      → IsReadyAt under register kept → (text_after : List ℕ) → text_after ≡ text ++ told_with under kept bytes (special_at under kept bytes) said → TakesLine (leaves under) (told under) (IsReadyAt under register) kept bytes batch batch text text_after
   unfolding leaves answers plain_answers told
   just_told said is none unmoved stands text_after added =
       let left : leaves under kept bytes ≡ [] = ap (with_name (reading_at under kept bytes).name) none in
       record {
         stands = subst (IsReadyAt under register) (sym (ap (λ (l : List (List ℕ)). kept ++ l) left ∙ append-nil kept)) stands;
         left = sym (append-nil batch) ∙ ap (λ (l : List (List ℕ)). batch ++ l) (sym left);
-        told = added ∙ ap (λ l. text ++ told_with under kept (special_at under kept bytes) l) (sym is)
+        told = added ∙ ap (λ l. text ++ told_with under kept bytes (special_at under kept bytes) l) (sym is)
             ∙ ap (λ (l : List ℕ). text ++ l) (sym (just_answered under kept bytes _ (ap (shifts_said under kept) is ∙ unmoved)));
       }
 
   -- a line that says no row
   pub nothing_left : (said : Line) → within kept (line_read most_clerks (names_of under.court) (reading_at under kept bytes).text) ≡ said → row_in said ≡ [] → IsReadyAt under register kept → (text_after : List ℕ)
-      → text_after ≡ text ++ told_with under kept (special_at under kept bytes) said → TakesLine (leaves under) (told under) (IsReadyAt under register) kept bytes batch batch text text_after
+      → text_after ≡ text ++ told_with under kept bytes (special_at under kept bytes) said → TakesLine (leaves under) (told under) (IsReadyAt under register) kept bytes batch batch text text_after
   nothing_left said is none = just_told said is (plain_none under kept (reading_at under kept bytes).text said is none) (none_said under kept said none)
 
   -- a question for which there is no room
@@ -246,7 +246,7 @@ module _ (under : Standing) (register : DocketRegister) (kept : List (List ℕ))
       → (text_after : List ℕ) → text_after ≡ text ++ answer_to under kept row → TakesLine (leaves under) (told under) (IsReadyAt under register) kept bytes batch batch text text_after
   question_left row is question full stands text_after added =
       just_told (line.Row row) is (plain_full under kept (reading_at under kept bytes).text full) (question_shifts_nothing under kept row question) stands text_after
-      (added ∙ ap (λ (special : Option LineCause). text ++ told_or under kept special (answer_to under kept row)) (sym (not_special under kept bytes (line.Row row) is refl refl)))
+      (added ∙ ap (λ (special : Option LineCause). text ++ told_or under kept bytes special (answer_to under kept row)) (sym (not_special under kept bytes (line.Row row) is refl refl)))
 
   -- a line that says a row, which is done
   pub row_left : (row : Row) → within kept (line_read most_clerks (names_of under.court) (reading_at under kept bytes).text) ≡ line.Row row → has_room kept ≡ true → 0 < length kept → all_before under.corrections (next_number kept) ≡ true → (fields : List (List ℕ)) → fields ≡ fields_read (reading_at under kept bytes).text
@@ -270,8 +270,8 @@ module _ (under : Standing) (register : DocketRegister) (kept : List (List ℕ))
           before = before-row under.corrections kept entry begun (is_no_note_named (names_of under.court) (fields_read plain) row (answer_to under kept row) spelled name) before;
         });
         left = batch_is ∙ ap (λ (e : List ℕ). batch ++ e ∷ []) made_is ∙ ap (λ (l : List (List ℕ)). batch ++ l) (sym left);
-        told = text_is ∙ ap (λ l. text ++ (told_of under kept l ++ shifts_said under kept l)) (sym is)
-            ∙ ap (λ (special : Option LineCause). text ++ (told_or under kept special (plain_answers under kept plain) ++ shifts_said under kept (within kept (line_read most_clerks (names_of under.court) plain))))
+        told = text_is ∙ ap (λ l. text ++ (told_of under kept bytes l ++ shifts_said under kept l)) (sym is)
+            ∙ ap (λ (special : Option LineCause). text ++ (told_or under kept bytes special (plain_answers under kept bytes plain) ++ shifts_said under kept (within kept (line_read most_clerks (names_of under.court) plain))))
             (sym (not_special under kept bytes (line.Row row) is refl refl));
       }
 
@@ -304,6 +304,6 @@ module _ (under : Standing) (register : DocketRegister) (kept : List (List ℕ))
       cc none_is
 
   -- what it is answered
-  pub answers_as : (said : Line) → line_read most_clerks (names_of under.court) (after_name entry) ≡ said → kept_answers under kept (after_name entry) ≡ told_of under kept said
+  pub answers_as : (said : Line) → line_read most_clerks (names_of under.court) (after_name entry) ≡ said → kept_answers under kept (after_name entry) ≡ told_of under kept (after_name entry) said
   unfolding kept_answers
-  answers_as said is = ap (told_of under kept) is
+  answers_as said is = ap (told_of under kept (after_name entry)) is

@@ -3,9 +3,8 @@ use Rattle.std.specs.Prelude.{ℕ, Bool, List, ◌++◌, Option, Some, None, cod
 use Rattle.std.specs.Fmt.{decimal}
 use Rattle.row_forms.specs.declared.fault.RowCause.{RowCause}
 use Rattle.row_forms.specs.Words.{cause_text}
+use Rattle.row_forms.specs.Line.Words.{clerk_read}
 use Rattle.rule_periods.specs.Words.{rule_code}
-use Rattle.program_runs.specs.declared.fault.OfficeFault.TheVariants as fault
-use Rattle.program_runs.specs.Words.{told_line}
 use Rattle.desk_register.specs.declared.cause.LineCause.{LineCause}
 use Rattle.desk_register.specs.declared.cause.LineCause.TheVariants.{NotFound, Row, TooManyCases}
 use Rattle.desk_register.specs.declared.cause.Unfound.{Unfound}
@@ -14,6 +13,7 @@ use Rattle.desk_numbers.specs.declared.subjects.Found.{Found}
 use Rattle.desk_numbers.specs.declared.subjects.Found.TheVariants as found
 use Rattle.desk_numbers.specs.declared.subjects.SubjectName.{SubjectName}
 use Rattle.desk_numbers.specs.declared.subjects.SubjectName.TheVariants.{Newest, Under}
+use Rattle.desk_register.specs.Entries.{most_clerks}
 
 -- what is wrong with a line that says no row for this cause, and that opens a case too many or not
 abbrev pub cause_as : (too_many : Bool) → RowCause → LineCause
@@ -60,12 +60,26 @@ unfound_words (NoDeadline rule) = none_words (rule_code rule) ++ by_number
 unfound_words (TwoDeadlines rule number other) = first_words number ++ second_words other ++ rule_code rule ++ by_number
 unfound_words NoMotion = codes "the case has no motion"
 
--- what comes before these words, where the next row has this number
-abbrev pub cause_front : (number : ℕ) → LineCause → List ℕ
-cause_front number cause = codes "row " ++ decimal number ++ codes " fault " ++ line_cause_text cause ++ codes ": "
+-- the clerk of a line, whatever else is wrong with it
+abbrev pub clerk_in : (line : List ℕ) → Option ℕ
+clerk_in line = clerk_read most_clerks line
 
--- what a line is answered that has this fault, where the next row has this number
-abbrev pub fault_told : (number : ℕ) → LineCause → List ℕ
-fault_told number (Row cause) = told_line (fault.Row number cause)
-fault_told number TooManyCases = cause_front number TooManyCases ++ too_many_words ++ codes "\n"
-fault_told number (NotFound why) = cause_front number (NotFound why) ++ unfound_words why ++ codes "\n"
+-- as an answer names the clerk, with a hyphen where none can be read
+abbrev pub clerk_text : Option ℕ → List ℕ
+clerk_text None = codes "-"
+clerk_text (Some clerk) = decimal clerk
+
+-- How the answer to a line begins that has this fault, where the next row has this number: as each answer does, with the row's number
+-- and its clerk's.
+abbrev pub fault_front : (number : ℕ) → (line : List ℕ) → LineCause → List ℕ
+fault_front number line cause = decimal number ++ codes " " ++ clerk_text (clerk_in line) ++ codes " fault " ++ line_cause_text cause
+
+-- what follows: for some faults why, and the end of the line
+abbrev pub fault_rest : LineCause → List ℕ
+fault_rest (Row cause) = codes "\n"
+fault_rest TooManyCases = codes ": " ++ too_many_words ++ codes "\n"
+fault_rest (NotFound why) = codes ": " ++ unfound_words why ++ codes "\n"
+
+-- what a line is answered that has this fault
+abbrev pub fault_told : (number : ℕ) → (line : List ℕ) → LineCause → List ℕ
+fault_told number line cause = fault_front number line cause ++ fault_rest cause

@@ -26,13 +26,13 @@ abbrev pub shown_for : Standing → (kept : List (List ℕ)) → Row → Work �
 shown_for under kept row (Command command) = command_text (next_number kept)
 shown_for under kept row (Query query) = answer_to under kept row
 
-abbrev pub shown_to : Standing → (kept : List (List ℕ)) → Line → List ℕ
-shown_to under kept line.Blank = []
-shown_to under kept (line.Fault cause) = told_of under kept (line.Fault cause)
-shown_to under kept (line.Row row) = shown_for under kept row row.work
+abbrev pub shown_to : Standing → (kept : List (List ℕ)) → (bytes : List ℕ) → Line → List ℕ
+shown_to under kept bytes line.Blank = []
+shown_to under kept bytes (line.Fault cause) = told_of under kept bytes (line.Fault cause)
+shown_to under kept bytes (line.Row row) = shown_for under kept row row.work
 
 unfoldable pub shown : Standing → (kept : List (List ℕ)) → (line : List ℕ) → List ℕ
-shown under kept line = told_or under kept (special_at under kept line) (shown_to under kept (line_read most_clerks (names_of under.court) (reading_at under kept line).text))
+shown under kept line = told_or under kept line (special_at under kept line) (shown_to under kept line (line_read most_clerks (names_of under.court) (reading_at under kept line).text))
 
 -- what comes of a line: whatever is answered is taken
 abbrev pub came_to : Line → Outcome

@@ -19,12 +19,10 @@ use Rattle.row_forms.specs.declared.row.Work.TheVariants.{Command, Query}
 use Rattle.row_forms.specs.Words.{CourtNames, names_of}
 use Rattle.row_forms.specs.Line.Words.{fields_read, line_read}
 use Rattle.office_texts.specs.Named.Words.{named_line_of}
-use Rattle.program_runs.specs.declared.fault.OfficeFault.TheVariants.{Row as RowFault}
-use Rattle.program_runs.specs.Words.{told_line}
 use Rattle.desk_register.specs.declared.standing.Standing.{Standing}
 use Rattle.desk_register.specs.Cases.{cases_of}
 use Rattle.desk_register.specs.declared.cause.LineCause.{LineCause}
-use Rattle.desk_register.specs.declared.cause.LineCause.TheVariants.{NotFound, TooManyCases}
+use Rattle.desk_register.specs.declared.cause.LineCause.TheVariants.{NotFound, Row as RowFault, TooManyCases}
 use Rattle.desk_register.specs.declared.cause.Unfound.{Unfound}
 use Rattle.desk_register.specs.declared.subject.Named.{Named}
 use Rattle.desk_register.specs.CaseLines.{Reading, opens_too_many, reading_of}
@@ -73,20 +71,20 @@ left_of under kept fields line.Blank = []
 left_of under kept fields (line.Fault cause) = []
 left_of under kept fields (line.Row row) = entry_of under kept fields row ∷ []
 
--- what it is answered
-abbrev pub told_of : Standing → (kept : List (List ℕ)) → Line → List ℕ
-told_of under kept line.Blank = []
-told_of under kept (line.Fault cause) = told_line (RowFault (next_number kept) cause)
-told_of under kept (line.Row row) = answer_to under kept row
+-- what it is answered, where these are its bytes
+abbrev pub told_of : Standing → (kept : List (List ℕ)) → (bytes : List ℕ) → Line → List ℕ
+told_of under kept bytes line.Blank = []
+told_of under kept bytes (line.Fault cause) = fault_told (next_number kept) bytes (RowFault cause)
+told_of under kept bytes (line.Row row) = answer_to under kept row
 
 -- what a plain line leaves: nothing where there is no room for rows
 unfoldable pub plain_leaves : Standing → (kept : List (List ℕ)) → (line : List ℕ) → List (List ℕ)
 plain_leaves under kept line =
     if has_room kept then left_of under kept (fields_read line) (within kept (line_read most_clerks (names_of under.court) line)) else []
 
--- what it is answered
-unfoldable pub plain_answers : Standing → (kept : List (List ℕ)) → (line : List ℕ) → List ℕ
-plain_answers under kept line = told_of under kept (within kept (line_read most_clerks (names_of under.court) line))
+-- what a line is answered for which this plain line stands
+unfoldable pub plain_answers : Standing → (kept : List (List ℕ)) → (line plain : List ℕ) → List ℕ
+plain_answers under kept line plain = told_of under kept line (within kept (line_read most_clerks (names_of under.court) plain))
 
 -- entries with the line of a new name before them
 abbrev pub with_name : Option NameView → (entries : List (List ℕ)) → List (List ℕ)
@@ -139,12 +137,12 @@ special_at under kept line = if too_many_at under kept line then Some TooManyCas
 unfoldable pub leaves : Standing → (kept : List (List ℕ)) → (line : List ℕ) → List (List ℕ)
 leaves under kept line = let reading = reading_at under kept line in with_name reading.name (plain_leaves under kept reading.text)
 
-abbrev pub told_or : Standing → (kept : List (List ℕ)) → Option LineCause → (answer : List ℕ) → List ℕ
-told_or under kept None answer = answer
-told_or under kept (Some cause) answer = fault_told (next_number kept) cause
+abbrev pub told_or : Standing → (kept : List (List ℕ)) → (line : List ℕ) → Option LineCause → (answer : List ℕ) → List ℕ
+told_or under kept line None answer = answer
+told_or under kept line (Some cause) answer = fault_told (next_number kept) line cause
 
 unfoldable pub answers : Standing → (kept : List (List ℕ)) → (line : List ℕ) → List ℕ
-answers under kept line = told_or under kept (special_at under kept line) (plain_answers under kept (reading_at under kept line).text)
+answers under kept line = told_or under kept line (special_at under kept line) (plain_answers under kept line (reading_at under kept line).text)
 
 -- what comes of a row of which this is the docket's answer: it is refused, or it is done
 abbrev pub came_of : Answer → Outcome
@@ -179,7 +177,7 @@ unfoldable pub kept_leaves : Standing → (kept : List (List ℕ)) → (line : L
 kept_leaves under kept line = left_of under kept (fields_read line) (line_read most_clerks (names_of under.court) line)
 
 unfoldable pub kept_answers : Standing → (kept : List (List ℕ)) → (line : List ℕ) → List ℕ
-kept_answers under kept line = told_of under kept (line_read most_clerks (names_of under.court) line)
+kept_answers under kept line = told_of under kept line (line_read most_clerks (names_of under.court) line)
 
 -- what an entry leaves whose row is decided again, with its name
 abbrev pub left_again : Standing → (kept : List (List ℕ)) → (entry : List ℕ) → List (List ℕ)

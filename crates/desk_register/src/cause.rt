@@ -1,11 +1,10 @@
 //! What is wrong with a line, and what is said of it.
 ghost use Rattle.std.specs.Prelude.{◌≡◌, ◌++◌, ◌∷◌, [], OnOk};
-ghost use Rattle.desk_register.specs.LineCauses.{by_number, cause_as, cause_front, fault_told, first_words, none_words, second_words, too_many_words, unfound_as, unfound_words};
-ghost use Rattle.program_runs.specs.Words.{told_line};
+ghost use Rattle.desk_register.specs.LineCauses.{by_number, cause_as, clerk_in, clerk_text, fault_front, fault_rest, fault_told, first_words, none_words, second_words, too_many_words, unfound_as, unfound_words};
 
+use crate::register::MOST_CLERKS;
 use desk_numbers::{Found, SubjectName};
-use program_runs::{OfficeFault, fault_line};
-use row_forms::RowCause;
+use row_forms::{RowCause, read_clerk};
 use rule_periods::RulePeriod;
 use std::alloc::{AllocError, Global};
 use std::fmt;
@@ -84,35 +83,37 @@ pub(crate) fn unfound_as(name: SubjectName, found: Found) -> Option<Unfound>
     }
 }
 
-// Adds the line that tells of a row's fault.
-pub(crate) fn push_fault(
-    alloc: Global,
-    text: &mut Vec<u8>,
-    number: u32,
-    cause: RowCause,
-) -> Result<(), AllocError>
-    ensures { OnOk result (text.new.items ≡ text.old.items ++ told_line (OfficeFault.Row number cause)) }
+// Adds the clerk of a line, or a hyphen where none can be read.
+fn push_clerk(alloc: Global, text: &mut Vec<u8>, line: &[u8]) -> Result<(), AllocError>
+    ensures { OnOk result (text.new.items ≡ text.old.items ++ clerk_text (clerk_in line.now)) }
 {
-    let line = fault_line(alloc, &OfficeFault::Row(number, cause))?;
-    text.extend_from_slice(line.as_bytes())?;
-    text.push(b'\n')?;
-    Ok(())
+    match read_clerk(alloc, line, MOST_CLERKS)? {
+        Some(clerk) => {
+            let digits = format!(in alloc; "{clerk}")?;
+            text.extend_from_slice(digits.as_bytes())
+        }
+        None => text.extend_from_slice(b"-"),
+    }
 }
 
-// Adds what comes before the words of a fault.
+// Adds how the answer to a line begins that has this fault.
 fn push_front(
     alloc: Global,
     text: &mut Vec<u8>,
     number: u32,
+    line: &[u8],
     cause: LineCause,
 ) -> Result<(), AllocError>
-    ensures { OnOk result (text.new.items ≡ text.old.items ++ cause_front number cause) }
+    ensures { OnOk result (text.new.items ≡ text.old.items ++ fault_front number line.now cause) }
 {
-    let line = format!(in alloc; "row {number} fault {cause}: ")?;
-    text.extend_from_slice(line.as_bytes())
+    let first = format!(in alloc; "{number} ")?;
+    text.extend_from_slice(first.as_bytes())?;
+    push_clerk(alloc, text, line)?;
+    let fault = format!(in alloc; " fault {cause}")?;
+    text.extend_from_slice(fault.as_bytes())
 }
 
-// Adds these words and the end of the line.
+// Adds that the folder holds 4,096 cases, what to do, and the end of the line.
 #[tactic(auto, unfolding(crate::specs::LineCauses::too_many_words))]
 fn push_words(text: &mut Vec<u8>) -> Result<(), AllocError>
     ensures { OnOk result (text.new.items ≡ text.old.items ++ (too_many_words ++ 10 ∷ [])) }
@@ -173,26 +174,35 @@ pub fn push_unfound(alloc: Global, text: &mut Vec<u8>, why: Unfound) -> Result<(
     }
 }
 
-// Adds the line that tells of a line's fault.
-pub(crate) fn push_cause(
-    alloc: Global,
-    text: &mut Vec<u8>,
-    number: u32,
-    cause: LineCause,
-) -> Result<(), AllocError>
-    ensures { OnOk result (text.new.items ≡ text.old.items ++ fault_told number cause) }
+// Adds what follows: for some faults why, and the end of the line.
+fn push_rest(alloc: Global, text: &mut Vec<u8>, cause: LineCause) -> Result<(), AllocError>
+    ensures { OnOk result (text.new.items ≡ text.old.items ++ fault_rest cause) }
 {
     match cause {
-        LineCause::Row(cause) => push_fault(alloc, text, number, cause),
+        LineCause::Row(_) => text.extend_from_slice(b"\n"),
         LineCause::TooManyCases => {
-            push_front(alloc, text, number, cause)?;
+            text.extend_from_slice(b": ")?;
             push_words(text)
         }
         LineCause::NotFound(why) => {
-            push_front(alloc, text, number, cause)?;
+            text.extend_from_slice(b": ")?;
             push_unfound(alloc, text, why)?;
             text.push(b'\n')?;
             Ok(())
         }
     }
+}
+
+// Adds what a line is answered that has this fault, where the next row has this number.
+pub(crate) fn push_cause(
+    alloc: Global,
+    text: &mut Vec<u8>,
+    number: u32,
+    line: &[u8],
+    cause: LineCause,
+) -> Result<(), AllocError>
+    ensures { OnOk result (text.new.items ≡ text.old.items ++ fault_told number line.now cause) }
+{
+    push_front(alloc, text, number, line, cause)?;
+    push_rest(alloc, text, cause)
 }

@@ -15,7 +15,7 @@ ghost use Rattle.desk_register.specs.declared.standing.Standing.{Standing as Sta
 ghost use Rattle.desk_register.specs.Rows.{follows};
 
 use crate::case_line::note_case;
-use crate::cause::push_fault;
+use crate::cause::{LineCause, push_cause};
 use crate::register::{DocketRegister, Done, MOST_CLERKS, RowTypes};
 use crate::standing::Standing;
 use case_numbers::{after_name, name_before};
@@ -115,7 +115,8 @@ impl DocketRegister {
             }
             Line::Fault(cause) => {
                 let mut answer = Vec::new(alloc);
-                push_fault(alloc, &mut answer, self.number, cause)?;
+                let wrong = LineCause::Row(cause);
+                push_cause(alloc, &mut answer, self.number, after_name(entry), wrong)?;
                 self.pass_row(under)?;
                 Ok(Some(answer))
             }

@@ -53,7 +53,7 @@ impl Register for Questions {
             Line::Blank => Ok(Outcome::Blank),
             Line::Fault(cause) => {
                 let cause = self.register.cause_of(alloc, under, line, cause)?;
-                push_cause(alloc, text, self.register.next_number(), cause)?;
+                push_cause(alloc, text, self.register.next_number(), line, cause)?;
                 Ok(Outcome::Fault)
             }
             Line::Row(row) => match &row.work {

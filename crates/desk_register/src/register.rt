@@ -354,7 +354,7 @@ impl Register for DocketRegister {
             Line::Blank => Ok(Outcome::Blank),
             Line::Fault(cause) => {
                 let cause = self.cause_of(alloc, under, line, cause)?;
-                push_cause(alloc, text, self.number, cause)?;
+                push_cause(alloc, text, self.number, line, cause)?;
                 Ok(Outcome::Fault)
             }
             Line::Row(row) => {

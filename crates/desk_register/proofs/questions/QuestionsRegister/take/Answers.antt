@@ -32,9 +32,9 @@ returns-in_ok-push_cause-in-Fault-clause-taken c = λ kept stands.
     line_asked under (record { register = c.heard.new.self }) kept line (batch_of c.args._batch.now.items) text (says.Fault c.in-Fault.cause) (sym (c.in_ok-said.ensures.said kept stands).said ∙ c.in-Fault.is)
     before c.push_cause.new.text.items
     (c.in_ok-push_cause-in-Fault.ensures
-    ∙ ap (λ (n : ℕ). text ++ fault_told n c.in_ok-cause-in-Fault.cause) (c.next_number.ensures under kept before)
-    ∙ ap (λ (cause : LineCause). text ++ fault_told (next_number kept) cause) (c.in_ok-cause-in-Fault.ensures kept before)
-    ∙ ap (λ (l : List ℕ). text ++ l) (cause_told under kept (special_at under kept line) c.in-Fault.cause))
+    ∙ ap (λ (n : ℕ). text ++ fault_told n line c.in_ok-cause-in-Fault.cause) (c.next_number.ensures under kept before)
+    ∙ ap (λ (cause : LineCause). text ++ fault_told (next_number kept) line cause) (c.in_ok-cause-in-Fault.ensures kept before)
+    ∙ ap (λ (l : List ℕ). text ++ l) (cause_told under kept line (special_at under kept line) c.in-Fault.cause))
 
 pub returns-in_ok-push_cause-in-Fault-clause-came : goal.returns-in_ok-push_cause-in-Fault-clause-came
 unfolding came_shown

@@ -9,10 +9,10 @@ use Rattle.row_forms.specs.Words.{names_of}
 use Rattle.row_forms.specs.Line.Words.{fields_read, line_read}
 use Rattle.desk_register.specs.Cases.{cases_of, opened_as, with_opened}
 use Rattle.desk_register.specs.Rows.{row_in}
-use Rattle.program_runs.specs.declared.fault.OfficeFault.TheVariants.{Row as RowFault}
-use Rattle.program_runs.specs.Words.{told_line}
 use Rattle.desk_numbers.specs.Strikes.Words.{is_struck}
-use Rattle.desk_register.specs.Entries.{most_clerks, most_entries}
+use Rattle.desk_register.specs.declared.cause.LineCause.TheVariants.{Row as RowFault}
+use Rattle.desk_register.specs.Entries.{most_clerks, most_entries, next_number}
+use Rattle.desk_register.specs.LineCauses.{fault_told}
 use Rattle.desk_register.proofs.RegisterLemmas.{answers_as, as_it_was, leaves_made, not_as, stands_passed, stands_row}
 use Rattle.desk_register.proofs.register.DocketRegister.review.Goals as goal
 
@@ -58,8 +58,9 @@ returns-in_ok-pass_row-in-Fault-clause-other c = λ kept stands.
     let is = sym (c.in_ok-row.ensures.said ∙ ap (λ (t : List ℕ). line_read most_clerks (names_of c.args.under.now.court) t) c.after_name.ensures) ∙ c.in-Fault.is in
     record {
       other = not_as c.args.under.now c.pass_row.new.self kept c.args.entry.now (says.Fault c.in-Fault.cause) is refl;
-      answer_is = c.in_ok-push_fault-in-Fault.ensures ∙ ap (λ (l : List ℕ). l ++ told_line (RowFault c.said.new.self.number c.in-Fault.cause)) c.new-answer.ensures.items
-          ∙ ap (λ (n : ℕ). told_line (RowFault n c.in-Fault.cause)) (c.said.ensures.number ∙ stands.number)
+      answer_is = c.in_ok-push_cause-in-Fault.ensures ∙ ap (λ (l : List ℕ). l ++ fault_told c.said.new.self.number c.after_name-in-Fault.result.now (RowFault c.in-Fault.cause)) c.new-answer.ensures.items
+          ∙ ap (λ (n : ℕ). fault_told n c.after_name-in-Fault.result.now (RowFault c.in-Fault.cause)) (c.said.ensures.number ∙ stands.number)
+          ∙ ap (λ (l : List ℕ). fault_told (next_number kept) l (RowFault c.in-Fault.cause)) c.after_name-in-Fault.ensures
           ∙ sym (answers_as c.args.under.now c.pass_row.new.self kept c.args.entry.now (says.Fault c.in-Fault.cause) is);
     }
 

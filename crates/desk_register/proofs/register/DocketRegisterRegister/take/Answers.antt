@@ -19,7 +19,7 @@ returns-in-Blank-clause-taken c = λ kept stands.
     let is = ap (within kept) (sym (c.in_ok-said.ensures.said kept stands.at).said) ∙ sym (c.within.ensures.said kept (c.heard.ensures.count ∙ stands.at.count)) ∙ c.in-Blank.is in
     nothing_left c.args.under.now c.heard.new.self kept c.args.line.now (batch_of c.args.batch.now.items) c.args.text.now.items says.Blank is refl
     (record { at = as_it_was c.args.under.now c.args.self.now c.heard.new.self kept stands.at c.heard.ensures.docket c.heard.ensures.numbers c.heard.ensures.cases c.heard.ensures.number c.heard.ensures.count; before = stands.before }) c.args.text.now.items
-    (sym (append-nil c.args.text.now.items) ∙ ap (λ (b : Option LineCause). c.args.text.now.items ++ told_with c.args.under.now kept b says.Blank) (sym (not_special c.args.under.now kept c.args.line.now says.Blank is refl refl)))
+    (sym (append-nil c.args.text.now.items) ∙ ap (λ (b : Option LineCause). c.args.text.now.items ++ told_with c.args.under.now kept c.args.line.now b says.Blank) (sym (not_special c.args.under.now kept c.args.line.now says.Blank is refl refl)))
 
 pub returns-in-Blank-clause-came : goal.returns-in-Blank-clause-came
 unfolding outcome
@@ -34,9 +34,9 @@ returns-in_ok-push_cause-in-Fault-clause-taken c = λ kept stands.
     nothing_left under c.heard.new.self kept line (batch_of c.args.batch.now.items) text (says.Fault c.in-Fault.cause) (ap (within kept) (sym (c.in_ok-said.ensures.said kept stands.at).said) ∙ sym (c.within.ensures.said kept (c.heard.ensures.count ∙ stands.at.count)) ∙ c.in-Fault.is) refl
     (record { at = before; before = stands.before }) c.push_cause.new.text.items
     (c.in_ok-push_cause-in-Fault.ensures
-    ∙ ap (λ (n : ℕ). text ++ fault_told n c.in_ok-cause-in-Fault.cause) (c.heard.ensures.number ∙ stands.at.number)
-    ∙ ap (λ (cause : LineCause). text ++ fault_told (next_number kept) cause) (c.in_ok-cause-in-Fault.ensures kept before)
-    ∙ ap (λ (l : List ℕ). text ++ l) (cause_told under kept (special_at under kept line) c.in-Fault.cause))
+    ∙ ap (λ (n : ℕ). text ++ fault_told n line c.in_ok-cause-in-Fault.cause) (c.heard.ensures.number ∙ stands.at.number)
+    ∙ ap (λ (cause : LineCause). text ++ fault_told (next_number kept) line cause) (c.in_ok-cause-in-Fault.ensures kept before)
+    ∙ ap (λ (l : List ℕ). text ++ l) (cause_told under kept line (special_at under kept line) c.in-Fault.cause))
 
 pub returns-in_ok-push_cause-in-Fault-clause-came : goal.returns-in_ok-push_cause-in-Fault-clause-came
 unfolding outcome
