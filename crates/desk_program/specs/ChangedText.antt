@@ -10,10 +10,14 @@ abbrev pub after_blank : List ℕ → List ℕ
 after_blank [] = []
 after_blank (byte ∷ rest) = if nat_eq byte 32 then rest else after_blank rest
 
--- An answer says that the row of that number was done, as `9 1 timely`: it has the row's number and its clerk's, and is no refusal,
--- as `9 1 refused 4 NoSuchDeadline`. What is said of a row that can't be read has no numbers.
+-- what follows the two numbers of an answer says that the row was done: it is no refusal and no fault
+abbrev pub says_done : (said : List ℕ) → Bool
+says_done said = not (starts_with nat_eq said (codes "refused ")) && not (starts_with nat_eq said (codes "fault "))
+
+-- An answer says that the row of that number was done, as `9 1 timely` does, and not `9 1 refused 4 NoSuchDeadline` or
+-- `9 1 fault 4 BadField 3`.
 abbrev pub is_done : (number : ℕ) → (answer : List ℕ) → Bool
-is_done number answer = starts_with nat_eq answer (decimal number ++ codes " ") && not (starts_with nat_eq (after_blank (after_blank answer)) (codes "refused "))
+is_done number answer = starts_with nat_eq answer (decimal number ++ codes " ") && says_done (after_blank (after_blank answer))
 
 -- a line that marks a row which was done and would not be, or the other way round
 abbrev pub mark_text : (number : ℕ) → (was is : Bool) → List ℕ

@@ -2,7 +2,7 @@
 ghost use Rattle.std.specs.Prelude.{◌≡◌, ◌-◌, ◌++◌, length, map, option_map, string_bytes, IfOk, OnOk};
 ghost use Rattle.desk_entries.specs.Words.{change_in};
 ghost use Rattle.desk_program.specs.Inside.Changed.{walked};
-ghost use Rattle.desk_program.specs.ChangedText.{after_blank, answer_now, answer_text, change_text, changes_text, had_text, is_done, kept_text, mark_of, mark_text};
+ghost use Rattle.desk_program.specs.ChangedText.{after_blank, answer_now, answer_text, change_text, changes_text, had_text, is_done, kept_text, mark_of, mark_text, says_done};
 
 use crate::changed::{ChangedRow, answer_in, changed_rows};
 use desk_entries::Difference;
@@ -21,6 +21,13 @@ fn after_blank(text: &[u8]) -> &[u8]
     &[]
 }
 
+// Whether what follows the two numbers of an answer says that the row was done.
+fn says_done(said: &[u8]) -> bool
+    ensures { result ≡ says_done said.now }
+{
+    !said.starts_with(b"refused ") && !said.starts_with(b"fault ")
+}
+
 // Whether an answer says that the row of that number was done.
 fn is_done(alloc: Global, number: u32, answer: &[u8]) -> Result<bool, AllocError>
     ensures { IfOk result (λ done. done ≡ is_done number answer.now) }
@@ -29,7 +36,7 @@ fn is_done(alloc: Global, number: u32, answer: &[u8]) -> Result<bool, AllocError
     if !answer.starts_with(numbered.as_bytes()) {
         return Ok(false);
     }
-    Ok(!after_blank(after_blank(answer)).starts_with(b"refused "))
+    Ok(says_done(after_blank(after_blank(answer))))
 }
 
 // The line that marks a row which was done and would not be, or the other way round.
