@@ -7,12 +7,11 @@ The examples of examples/ of one clerk are entered in two sessions, and answered
 empty folder, of one that has a journal and of a file without entries is looked at, and what becomes of a session under which the
 journal is written over, or beside which others enter and strike rows. A question is asked and rows are tried beside
 a program that enters rows, rows that draw warnings are held back, plain, as written and kept together, rows are kept together
-or not at all, rows with faults are counted, a folder is filled with cases, cases have their numbers as courts write them,
-holidays and outages are answered with the deadlines that they move, and a court is given another file. Then COUNT times (300
-without it) a session is ended at a random moment, most of them killed, and COUNT / 3 times one that keeps its rows together,
-as desk_kill.py does it; COUNT / 10 inputs at random are compared, as desk_compare.py does it; and a short journal is damaged
-in its last COUNT / 2 bytes, as desk_damage.py does it. It needs Python
-3.8 or later.
+or not at all, rows with faults are counted and name their clerks, a folder is filled with cases, cases have their numbers as
+courts write them, holidays and outages are answered with the deadlines that they move, and a court is given another file. Then
+COUNT times (300 without it) a session is ended at a random moment, most of them killed, and COUNT / 3 times one that keeps its
+rows together, as desk_kill.py does it; COUNT / 10 inputs at random are compared, as desk_compare.py does it; and a short journal
+is damaged in its last COUNT / 2 bytes, as desk_damage.py does it. It needs Python 3.8 or later.
 """
 import random
 import re
@@ -64,7 +63,7 @@ def check_folder(programs):
 
 def check_long(programs):
     """A line that is too long is a fault of its own, whatever its beginning says, and is answered before it ends."""
-    row, long, line = b"1,open,%d,2025-03-03\n", b"1,cancel,1," + b"0" * 65_550 + b"12\n", b"row %d fault 5 NotText\n"
+    row, long, line = b"1,open,%d,2025-03-03\n", b"1,cancel,1," + b"0" * 65_550 + b"12\n", b"%d - fault 5 NotText\n"
     with tempfile.TemporaryDirectory() as parent:
         desk = Desk(programs, parent, SHORT_COURT)
         ended = desk.call("enter", given=row % 1 + long + row % 2)
@@ -80,7 +79,7 @@ def check_long(programs):
             assert not session.stdout.read() and session.wait() == FAULTY
         # A line of as many bytes as may be is read.
         ended = desk.call("enter", given=b"1,open," + b"0" * 65_511 + b"4,2025-03-03\n")
-        assert ended.output in (b"4 1 opened\n", b"row 4 fault 4 BadField 3\n"), ended
+        assert ended.output in (b"4 1 opened\n", b"4 1 fault 4 BadField 3\n"), ended
     return "lines that are too long, of which one has no end yet"
 
 
@@ -224,7 +223,7 @@ CAREFUL = [
      b"  Mon 2025-03-03  other reading: no act, done before its event        ours\n" + HELD_LAST),
     (b"!1,file,7,1,2025-02-28,10:00,electronic\n", b"4 1 refused 9 AlreadyMet\n"),
     (b"1,no,row\n!1,no,row\n!!1,open,8,2025-03-03\n\n",
-     b"row 5 fault 2 UnknownCommand\nrow 5 fault 2 UnknownCommand\nrow 5 fault 1 BadClerk\n"),
+     b"5 1 fault 2 UnknownCommand\n5 1 fault 2 UnknownCommand\n5 - fault 1 BadClerk\n"),
     (b"1,motion,7,2025-03-03,14\n", b"5 1 motion 1\n"),
     (b"1,book,7,1,Ames,R1,2025-03-28,10:00,2,2025-03-05\n", b"row 6 not kept:\n"
      b"  would be refused 17 NotACourtDay\n"
@@ -291,7 +290,7 @@ def check_warnings(programs):
             whole, said = desk.journal.read_bytes(), said_alone(answer)
             ended = desk.call("enter", "--warn", given=given)
             assert ended == (FAULTY if said else 0, answer, said), (given, ended)
-            assert (desk.journal.read_bytes() == whole) == answer.startswith(b"row "), given
+            assert (desk.journal.read_bytes() == whole) == bool(said), given
         ended = desk.call("try", "--warn", "--today", "2026-04-01", given=b"1,start,7,59e,2025-03-04,,,\n")
         assert ended == (FAULTY, b"row 11 not kept:\n"
             b"  Tue 2025-03-04  the event lies a year or more before 2026-04-01     note\n" + HELD_LAST, HELD_ALONE), ended
@@ -303,7 +302,7 @@ def check_warnings(programs):
                 ended = desk.call(task, "--warn", given=given)
                 assert (ended.status, ended.errors) == (FAULTY, said), (task, given, ended)
         ended = desk.call("enter", given=b"!1,sheet,7\n")
-        assert ended.status == FAULTY and ended.output == b"row 11 fault 1 BadClerk\n", ended
+        assert ended.status == FAULTY and ended.output == b"11 - fault 1 BadClerk\n", ended
         for words in (("enter", "--today", "2025-03-03"), ("ask", "--warn"), ("try", "--warn", "--today", "3/3/2025")):
             ended = desk.call(*words)
             assert ended.status == 1 and not ended.output and ended.errors.startswith(b"error: "), (words, ended)
@@ -311,7 +310,7 @@ def check_warnings(programs):
 
 
 # With what the answer to a line begins, and how a line is answered that is held back.
-ANSWER, HELD = re.compile(rb"\d+ \d+ |row \d+ "), re.compile(rb"row \d+ not kept:")
+ANSWER, HELD = re.compile(rb"\d+ (?:\d+|-) |row \d+ "), re.compile(rb"row \d+ not kept:")
 
 
 def answers_in(text):
@@ -445,7 +444,7 @@ def check_refused(programs):
 def check_faulty(programs):
     """At the end of its input a session says how many rows had faults; all others are taken."""
     rows = b"1,open,1,2025-03-03\n\n1,open,2,2025-02-30\n1,no,row\n1,sheet,1\n"
-    told = b"row 2 fault 4 BadField 4\nrow 2 fault 2 UnknownCommand\n"
+    told = b"2 1 fault 4 BadField 4\n2 1 fault 2 UnknownCommand\n"
     with tempfile.TemporaryDirectory() as parent:
         desk = Desk(programs, parent, SHORT_COURT)
         for words, output in ((("try",), b"1 1 opened\n" + told + b"2 1 sheet\ncase 1 filed 2025-03-03\n"),
@@ -455,13 +454,47 @@ def check_faulty(programs):
             assert (ended.status, ended.output) == (FAULTY, output), (words, ended)
             assert ended.errors.startswith(b"2 of 4 rows had faults") and ended.errors.count(b"\n") == 1, (words, ended)
         ended = desk.call("ask", given=b"1,compute,59e,2025-08-04,,,\n1,sheet\n")
-        assert (ended.status, ended.output) == (FAULTY, b"3 1 last 2025-09-02\nrow 3 fault 3 WrongCount\n"), ended
+        assert (ended.status, ended.output) == (FAULTY, b"3 1 last 2025-09-02\n3 1 fault 3 WrongCount\n"), ended
         assert ended.errors.startswith(b"1 of 2 rows had a fault"), ended
         assert len(rows_of(desk.read())) == 2
         # A last line with no end, and a reader that is gone, are said before it.
         ended = desk.call("enter", given=b"1,no,row\n1,open,2,2025-03-03")
         assert ended.status == UNREAD and b"no end" in ended.errors, ended
     return "a session says at its end how many rows had faults"
+
+
+# Lines that have faults, and how each is answered after one row: with its clerk, if all of it is text and its first field is the
+# number of one.
+FAULTS_OF_CLERKS = [
+    (b"2,open,1\n", b"2 2 fault 3 WrongCount\n"),
+    (b"7\n", b"2 7 fault 3 WrongCount\n"),
+    (b"x\n", b"2 - fault 3 WrongCount\n"),
+    (b"64,no,row\n", b"2 64 fault 2 UnknownCommand\n"),
+    (b"65,no,row\n", b"2 - fault 1 BadClerk\n"),
+    (b"0,sheet,1\n", b"2 - fault 1 BadClerk\n"),
+    (b"02,sheet,1\n", b"2 - fault 1 BadClerk\n"),
+    (b",sheet,1\n", b"2 - fault 1 BadClerk\n"),
+    (b'"3","sheet","one"\n', b"2 3 fault 4 BadField 3\n"),
+    (b"4,open,25-cv-00001,2025-02-30\n", b"2 4 fault 4 BadField 4\n"),
+    (b"5,file,1,59e,2025-03-03,10:00,paper\n", b"2 5 fault 4 BadField 4: no deadline of the case under 59e is pending: name one by its number\n"),
+    (b"6,\xff\n", b"2 - fault 5 NotText\n"),
+]
+
+
+def check_clerks(programs):
+    """A fault names the clerk, as answers do, whatever else is wrong with the line."""
+    with tempfile.TemporaryDirectory() as parent:
+        desk = Desk(programs, parent, SHORT_COURT)
+        desk.enter([b"1,open,1,2025-03-03\n"])
+        for words in (("enter",), ("enter", "--warn"), ("try",), ("ask",)):
+            ended = desk.call(*words, given=b"".join(line for line, _ in FAULTS_OF_CLERKS))
+            assert (ended.status, ended.output) == (FAULTY, b"".join(answer for _, answer in FAULTS_OF_CLERKS)), (words, ended)
+            ended = desk.call(*words, "--clerk", 9, given=b"no,row\n,\xff\n")
+            assert (ended.status, ended.output) == (FAULTY, b"2 9 fault 2 UnknownCommand\n2 - fault 5 NotText\n"), (words, ended)
+        ended = desk.call("enter", TOGETHER, given=b"1,sheet,1\n5,file,1,59e,2025-03-03,10:00,paper\n")
+        assert (ended.status, told_of(ended)[0]) == (FAULTS, b"line 2 would be answered: 3" + FAULTS_OF_CLERKS[-2][1][1:]), ended
+        assert len(rows_of(desk.read())) == 1
+    return "a fault names the clerk of its line"
 
 
 # How many cases a folder holds, and what is said of one more.
@@ -478,12 +511,12 @@ def check_cases(programs):
         whole = desk.journal.read_bytes()
         for words in (("enter",), ("try",), ("ask",), ("enter", "--warn")):
             ended = desk.call(*words, given=more)
-            assert (ended.status, ended.output) == (FAULTY, b"row 4097 " + TOO_MANY), (words, ended)
+            assert (ended.status, ended.output) == (FAULTY, b"4097 1 " + TOO_MANY), (words, ended)
         ended = desk.call("enter", TOGETHER, given=b"1,sheet,1\n" + more)
         assert (ended.status, ended.output, told_of(ended)[0]) == (FAULTS, b"", b"line 2 " + TOO_MANY), ended
         # No other row gets these words.
-        others = [(b"1,sheet,25-cv-05000\n", b"row 4097 fault 4 BadField 3\n"), (b"1,open,25-cv-1x,2025-03-03\n", b"row 4097 fault 4 BadField 3\n"),
-                  (b"1,open,25-cv-09999\n", b"row 4097 fault 3 WrongCount\n")]
+        others = [(b"1,sheet,25-cv-05000\n", b"4097 1 fault 4 BadField 3\n"), (b"1,open,25-cv-1x,2025-03-03\n", b"4097 1 fault 4 BadField 3\n"),
+                  (b"1,open,25-cv-09999\n", b"4097 1 fault 3 WrongCount\n")]
         ended = desk.call("enter", given=b"".join(row for row, _ in others))
         assert ended.output == b"".join(answer for _, answer in others), ended
         assert desk.journal.read_bytes() == whole
@@ -500,7 +533,7 @@ def check_numbers(programs):
         assert desk.enter(rows) == b"".join(answers)
         again = [b"1,open,1:25-cv-01234,2025-03-05\n", b"1,sheet,25-cv-01234\n", b"1,sheet,2\n", b"1,sheet,1:25-cr-01234\n", b"1,sheet,1\n"]
         told = [b"5 1 refused 2 CaseIsOpen\n", b"6 1 sheet\ncase 25-cv-01234 filed 2025-03-04\n", b"7 1 sheet\ncase 1:25-cv-01234-ABC filed 2025-03-03\n",
-                b"row 8 fault 4 BadField 3\n", b"8 1 sheet\ncase 1 filed 2025-03-03\n"]
+                b"8 1 fault 4 BadField 3\n", b"8 1 sheet\ncase 1 filed 2025-03-03\n"]
         assert desk.call("enter", given=b"".join(again)).output == b"".join(told)
         journal = desk.read()
         assert names_of(journal) == [b"1:25-cv-01234-ABC", b"25-cv-01234"], names_of(journal)
@@ -595,7 +628,7 @@ def main(words):
     for check in (lambda: check_examples(programs, draw), lambda: check_folder(programs), lambda: check_long(programs), lambda: check_cut(programs), lambda: check_unbegun(programs),
                   lambda: check_changed(programs), lambda: check_beside(programs),
                   lambda: check_trial(programs, draw), lambda: check_warnings(programs), lambda: check_choices(programs, draw), lambda: check_together(programs, draw),
-                  lambda: check_refused(programs), lambda: check_faulty(programs), lambda: check_cases(programs),
+                  lambda: check_refused(programs), lambda: check_faulty(programs), lambda: check_clerks(programs), lambda: check_cases(programs),
                   lambda: check_numbers(programs), lambda: check_moves(programs, draw), lambda: check_court(programs),
                   lambda: compared(programs, draw, count // 10), lambda: damaged(programs, draw, 12, count // 2),
                   lambda: killed(programs, draw, count), lambda: killed_together(programs, draw, count // 3)):

@@ -16,12 +16,11 @@ import sys
 import tempfile
 from collections import Counter
 
-from lib.desk import Desk, divided
+from lib.desk import Desk, FAULT_LINE, divided
 from lib.journal import rows_of
 from lib.made_inputs import INPUTS, made_input
 from lib.programs import programs_of, run, seed_and_count
 
-FAULT = b"row "
 # The number of another clerk than the first, at the beginning of a row, and after the number of the row in its answer.
 OTHER_CLERK = rb"(?:[2-9]|[1-5][0-9]|6[0-4])"
 ROW_OF_ANOTHER, ANSWER_TO_ANOTHER = re.compile(b'^("?)' + OTHER_CLERK + b'("?,)'), re.compile(b"^([0-9]+ )" + OTHER_CLERK + b" ")
@@ -30,7 +29,7 @@ SAME, FAULTS, REFUSED_COURT = "answered the same", "with rows that can't be read
 
 def is_fault(line):
     """Whether a line of the desk tells of a row that can't be read."""
-    return line.startswith(FAULT) and b" fault " in line
+    return FAULT_LINE.match(line) is not None
 
 
 def of_first_clerk(row):

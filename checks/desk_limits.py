@@ -221,7 +221,7 @@ def check_full_journal(programs, count):
         ended = desk.call("enter", given=opens + row * (count - 2) + command + row * 2)
         *_, last, beyond, asked, again = ended.output.splitlines()
         said = b" 1 last 2025-09-02"
-        assert ended.status == FAULTY and last == b"%d" % (count - 1) + said and b"TooManyRows" in beyond, (last, beyond)
+        assert ended.status == FAULTY and last == b"%d" % (count - 1) + said and beyond == b"%d 1 fault 6 TooManyRows" % count, (last, beyond)
         assert asked == again == b"%d" % count + said, (asked, again)
         began = time.monotonic()
         ended = desk.call("check")

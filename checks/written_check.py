@@ -281,7 +281,7 @@ def check_names(desk):
         ended = entered(given, "--all-or-nothing")
         lines = told_of(ended)[0].decode()
         assert ended.status == FAULTS and not ended.output and desk.journal.read_bytes() == before, ended
-        assert re.fullmatch("line {} would be answered: row [0-9]+ fault 4 BadField 4: {}\n".format(given.count("\n"), said), lines), ended
+        assert re.fullmatch("line {} would be answered: [0-9]+ 1 fault 4 BadField 4: {}\n".format(given.count("\n"), said), lines), ended
     tried = desk.call("try", "--as-written", given=b"1,file,21,59(b),2025-09-10,09:00,electronic\n1,file,21,1,2025-09-10,09:00,electronic\n1,file,21,59(b),2025-09-10,09:00,electronic\n")
     assert tried.output.count(b"filed timely") == 2 and b"deadlines 1 and 3" in tried.output and desk.journal.read_bytes() == before, tried
 

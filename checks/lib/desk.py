@@ -13,7 +13,7 @@ REFUSED = 10
 TOGETHER, KEEP_REFUSED, FAULTS = "--all-or-nothing", "--keep-refused", 3
 # The status with which a session ends in which some rows had faults or were held back, and the line with which a row is answered
 # that has a fault.
-FAULTY, FAULT_LINE = 8, re.compile(rb"row \d+ fault ")
+FAULTY, FAULT_LINE = 8, re.compile(rb"\d+ (?:\d+|-) fault ")
 # What a session says first of each that was cut off before it.
 CUT_OFF = re.compile(rb"docket: a session of [^\n]* was cut off; the last row that is kept is row (\d+): see 'docket log [^\n]* --row \1'\n")
 # A court's file that is short, so that a journal's bytes are mostly those of its rows.

@@ -13,10 +13,11 @@ from lib.journal import CORRECTIONS, COURT_MARK, STRIKE_MARK, after_name, rows_o
 from reference.court_file import court_of
 from strike_check import Replay, other_court
 
-# With what the answer to a line begins, with the number of its row; and the number in the answer to a line that can't be read.
-ANSWER, FAULT = re.compile(rb"(?:(\d+) \d+|row (\d+) fault) "), re.compile(rb"^row \d+ fault ", re.MULTILINE)
-# What a row ends with that can't be read, and how it is answered, with another number.
-FAULTY, UNREADABLE = b",no,row\n", b"row 0 fault 2 UnknownCommand\n"
+# With what the answer to a line begins, with the number of its row and the word for one that can't be read; and that number in the
+# answer to such a line.
+ANSWER, FAULT = re.compile(rb"(\d+) \d+ (fault )?"), re.compile(rb"^\d+ (?=\d+ fault )", re.MULTILINE)
+# What a row ends with that can't be read, and how the one of a clerk is answered, with another number.
+FAULTY, UNREADABLE = b",no,row\n", b"0 %b fault 2 UnknownCommand\n"
 # The statuses with which a session has come to the end of its input, for how many seconds a program waits for others that have the
 # folder, so that none gives up on a busy machine, and how long one may take.
 TO_THE_END, WAIT, LONGEST = (0, 8), ["--wait", "600"], 1200
@@ -121,7 +122,7 @@ def wanted(rows, answers):
     """The answers to rows in their order, as far as rows are kept: those that can't be read have one too."""
     answers, told = iter(answers), []
     for row in rows:
-        answer = UNREADABLE if row.endswith(FAULTY) else next(answers, None)
+        answer = UNREADABLE % row[:-len(FAULTY)] if row.endswith(FAULTY) else next(answers, None)
         if answer is None:
             break
         told.append(answer)
@@ -132,12 +133,12 @@ def check_numbers(lines):
     """The rows' numbers grow in what a session writes. A line that can't be read has the number that its row would have had."""
     last, least = 0, 1
     for found in filter(None, map(ANSWER.match, lines)):
-        if found[1]:
-            assert int(found[1]) >= max(least, last + 1), (found[1], last, least)
-            last = int(found[1])
+        number = int(found[1])
+        assert number >= max(least, last + 1), (number, last, least)
+        if found[2]:
+            least = number
         else:
-            assert int(found[2]) >= max(least, last + 1), (found[2], last, least)
-            least = int(found[2])
+            last = number
 
 
 def check_session(session, mine):
@@ -145,12 +146,12 @@ def check_session(session, mine):
     readable = [row for row in session.given if not row.endswith(FAULTY)]
     assert [row for row, _ in mine] == readable[:len(mine)], ("other rows were kept than were given", session.clerk, mine, session.given)
     told = wanted(session.given, [answer for _, answer in mine])
-    written = FAULT.sub(b"row 0 fault ", answers_alone(b"".join(session.lines)))
+    written = FAULT.sub(b"0 ", answers_alone(b"".join(session.lines)))
     assert told.startswith(written), ("an answer isn't that of the journal", session.clerk, written[-300:], told[max(0, len(written) - 300):][:400])
     if session.process.returncode in TO_THE_END:
         assert len(mine) == len(readable) and written == told, ("a row isn't kept or not answered", session.clerk, session.errors)
     check_numbers(session.lines)
-    return len(mine) - sum(bool(found and found[1]) for found in map(ANSWER.match, session.lines))
+    return len(mine) - sum(bool(found and not found[2]) for found in map(ANSWER.match, session.lines))
 
 
 def explained(sessions, kept, before):
