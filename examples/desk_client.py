@@ -9,7 +9,7 @@ import subprocess
 import sys
 
 # What the first line of each answer begins with.
-BEGINS = re.compile("[0-9]+ [0-9]+ |row [0-9]+ fault ")
+BEGINS = re.compile("[0-9]+ ([0-9]+|-) ")
 
 
 def answers(rows, folder):
