@@ -60,7 +60,7 @@ unfound_words (NoDeadline rule) = none_words (rule_code rule) ++ by_number
 unfound_words (TwoDeadlines rule number other) = first_words number ++ second_words other ++ rule_code rule ++ by_number
 unfound_words NoMotion = codes "the case has no motion"
 
--- the clerk of a line, whatever else is wrong with it
+-- the clerk of a line, where it is text and begins with a clerk's number, as rows do
 abbrev pub clerk_in : (line : List ℕ) → Option ℕ
 clerk_in line = clerk_read most_clerks line
 

@@ -1,4 +1,4 @@
--- The clerk of one line, whatever else is wrong with the line.
+-- The clerk of one line, which may have faults.
 use Rattle.std.specs.Prelude.{ℕ, List, [], ◌∷◌, Option, None, if◌then◌else◌}
 use Rattle.std.specs.List.{list_all}
 use Rattle.std.specs.Str.{is_utf8}
