@@ -7,10 +7,10 @@
 COUNT plain rows at random (20,000 without it) are written in eleven styles, as people and their programs write them; each must
 be read as the row it was made from. As many fields have blanks and dots in them: each must be read, or be a fault, as
 lib/written_fields.py has it from docs/clerk/ROWS.md, and so must the word that is suggested for a misspelt period. Each section
-of docs/law/RULES.md whose period is entered must be answered with its text. Some two hundred lines are spoiled as people spoil
-them; what is said of each must be what runs/written/said.txt has. A case that was opened in one form of its number must be found in
-all others. --write writes that file anew: read it as someone who made
-the mistake. What --json says must be the same faults. It needs Python 3.8 or later.
+of docs/law/RULES.md whose period is entered must be read as its text, or where it has two be a fault that names both; and the
+definition must have just these. Some two hundred lines are spoiled as people spoil them; what is said of each must be what
+runs/written/said.txt has. A case that was opened in one form of its number must be found in all others. --write writes that file
+anew: read it as someone who made the mistake. What --json says must be the same faults. It needs Python 3.8 or later.
 """
 import csv
 import datetime
@@ -24,6 +24,7 @@ from lib.case_names import read, spelled
 from lib.desk import Desk, FAULTS, SHORT_COURT, told_of
 from lib.programs import TOP, programs_of, seed_and_count
 from lib.spoiled_lines import spoiled
+from lib.written_fields import ENTERED as SECTIONS, spelled as spelled_section
 from lib.written_trials import check_broken, check_misspelt, check_sections
 
 SAID = TOP / "runs" / "written" / "said.txt"
@@ -35,7 +36,10 @@ LONG = ["January", "February", "March", "April", "May", "June", "July", "August"
 # The periods of the Rules, and how they are cited.
 RULES = {"4m": "4(m)", "12a1Ai": "12(a)(1)(A)(i)", "12a1Aii-us": "12(a)(1)(A)(ii)-US", "12a1Aii-abroad": "12(a)(1)(A)(ii) abroad",
          "12a1B": "12(a)(1)(B)", "12a1C": "12(a)(1)(C)", "12a2": "12(a)(2)", "12a3": "12(a)(3)", "59b": "59(b)", "59e": "59(e)"}
-ENTERED = ["14d/after/filing/event/plain", "72h/after/service/event/plain", "7d/before/service/event/60b"]
+ENTERED = ["14d/after/filing/event/plain", "72h/after/service/event/plain", "7d/before/service/event/60b", "30d/after/service/served/plain",
+           "30d/after/filing/event/60b"]
+# The sections that set one period which is entered, by its text.
+NAMED = {text: [section for section, texts in SECTIONS.items() if texts == [text]] for text in ENTERED}
 KINDS = {"A": ["personal", "by hand", "hand delivery"], "B": ["left", "dwelling"], "C": ["mail", "by mail", "U.S. mail"], "D": ["with clerk", "clerk"],
          "E": ["ECF", "CM/ECF", "e-mail", "electronic"], "F": ["other", "consent"]}
 WORDS = {"electronic": ["electronic", "ECF", "Electronically"], "paper": ["paper", "on paper", "Paper"], "yes": ["yes", "Y", "Yes"], "no": ["no", "N", "NO"],
@@ -142,6 +146,8 @@ def loosened(draw, style, column, text):
         return case_in(draw, text)
     if column in ("period", "deadline") and text in RULES:
         return draw.choice([RULES[text], "FRCP " + RULES[text], "Rule " + RULES[text], "Fed. R. Civ. P. " + RULES[text], text.upper(), text])
+    if column == "period" and NAMED[text] and draw.random() < 0.7:
+        return draw.choice(spelled_section(draw.choice(NAMED[text])))
     if column == "kind?":
         return draw.choice(KINDS[text] + [text, text.lower()])
     if column in ("judge", "judge."):
@@ -339,7 +345,7 @@ def main(words):
         print("{} rows in {} styles, each read as the row it was made from".format(count, len(STYLES)))
         print("{} of {} fields with blanks and dots in them are read, and the others are faults".format(check_broken(desk, draw, count, JUDGES, ROOMS), count))
         print("{} misspelt periods, each with its suggestion or with none".format(check_misspelt(desk, draw, count // 10)))
-        print("{} sections whose periods are entered, each with its texts".format(check_sections(desk, draw)))
+        print("{} sections whose periods are entered, each read as its text or said to be one of two".format(check_sections(desk, draw)))
         check_entering(desk)
         check_names(desk)
         check_lines(desk)

@@ -9,7 +9,11 @@ RULES_PAGE = pathlib.Path(__file__).resolve().parent.parent.parent / "docs" / "l
 # The codes of periods, and how each is cited where letters and digits alone count, in small letters.
 CODES = {"4m": "4m", "12a1ai": "12a1Ai", "12a1aiius": "12a1Aii-us", "12a1aiiabroad": "12a1Aii-abroad", "12a1b": "12a1B", "12a1c": "12a1C",
          "12a2": "12a2", "12a3": "12a3", "59b": "59b", "59e": "59e"}
-CITED = ("", "rule", "frcp", "fedrcivp")
+# What is written before the number of a section, by what docs/law/RULES.md has before it.
+BEFORE = {"": ["", "Rule ", "FRCP ", "Fed. R. Civ. P. "],
+          "FRAP ": ["FRAP ", "Fed. R. App. P. "],
+          "Supp. ": ["Supp. ", "", "Rule ", "Supp. R. ", "Supp. Rule ", "Supplemental Rule ", "Fed. R. Civ. P. Supp. R. "],
+          "Supp. Soc. Sec. ": ["Supp. Soc. Sec. ", "Supp. R. Soc. Sec. ", "Supp. Rules for 405(g) "]}
 NUMBER = "(?:0|[1-9][0-9]{0,8})"
 
 
@@ -20,10 +24,9 @@ def passed_over(text):
 
 
 def folded(text):
-    """A text in small letters, with its letters and digits alone; None where a number would be made of two."""
-    if re.search(r"[0-9][^0-9A-Za-z]+[0-9]", text):
-        return None
-    return re.sub(r"[^0-9A-Za-z]", "", text).lower()
+    """A text in small letters, with its letters and digits alone, and a blank between two numbers."""
+    apart = re.sub(r"(?<=[0-9])[^0-9A-Za-z]+(?=[0-9])", "_", text)
+    return re.sub(r"[^0-9A-Za-z_]", "", apart).replace("_", " ").lower()
 
 
 def number_in(text, least, most):
@@ -51,15 +54,12 @@ def grant_in(text):
 
 
 def period_in(text):
-    """An entered period, or the code of a Rule's."""
+    """An entered period, or that of a section that sets one: its code, or its text."""
     if "/" in text:
         length = "[1-9][0-9]{0,2}[dh]/(after|before)/(filing|service)/event/plain"
         return passed_over(text) if re.fullmatch(length, passed_over(text)) else None
-    word = folded(text)
-    for cited in CITED:
-        if word and word.startswith(cited) and word[len(cited):] in CODES:
-            return CODES[word[len(cited):]]
-    return None
+    texts = SECTIONS.get(folded(text), [])
+    return texts[0] if len(texts) == 1 else None
 
 
 def time_in(text):
@@ -99,11 +99,41 @@ def nearest_code(word):
 
 
 def entered_periods():
-    """The sections of docs/law/RULES.md whose periods are entered, of Rules and statutes, each with its texts."""
+    """The sections of docs/law/RULES.md whose periods are entered, of Rules and statutes, each with its texts; and the parts of
+    a section for which the page has a text each."""
     entered = {}
-    table = RULES_PAGE.read_text().split("## Periods of other Rules", 1)[1].split("\n## ", 1)[0]
-    part = r"(?:\([^)| ]*\))+"
-    row = r"^\| ((?:FRAP |Supp\. )?[0-9A-Z][0-9.]*{0}|[0-9]+ U\.S\.C\. [0-9]+{0})[^|]* \| .* \| ([^|]*) \|$".format(part)
-    for section, texts in re.findall(row, table, re.MULTILINE):
-        entered.setdefault(section, []).extend(re.findall("`([^`]+)`", texts))
-    return {section: texts for section, texts in entered.items() if texts}
+    tables = RULES_PAGE.read_text().split("## Periods of other Rules", 1)[1].split("\n## ", 1)[0]
+    for row in re.findall(r"^\| (?!Rule |Statute )(.*) \|$", tables, re.MULTILINE):
+        cells = row.split(" | ")
+        section = re.match(r"(?:FRAP |Supp\. Soc\. Sec\. |Supp\. |[0-9]+ U\.S\.C\. )?[0-9A-Z][0-9.]*(?:\([A-Za-z0-9]+\))*", cells[0])
+        texts = re.findall("`([^`]+)`([^`]*)", cells[-1])
+        assert section and texts, row
+        for text, after in texts:
+            for name in [section[0]] + [section[0] + part for part in re.findall(r"\([A-Za-z]+\)", after)]:
+                if text not in entered.setdefault(name, []):
+                    entered[name].append(text)
+    return entered
+
+
+def parted(section):
+    """What is before the number of a section of docs/law/RULES.md, and the number. A statute's title is of its number."""
+    before = max((before for before in BEFORE if section.startswith(before)), key=len)
+    return before, section[len(before):]
+
+
+def is_statute(section):
+    return " U.S.C. " in section
+
+
+def spelled(section):
+    """The ways in which people write a section of docs/law/RULES.md."""
+    if is_statute(section):
+        return [section.replace("U.S.C.", code) for code in ("U.S.C.", "USC", "U.S.C. \u00a7")]
+    before, number = parted(section)
+    return [front + number for front in BEFORE[before]]
+
+
+# The periods of each section, a code or texts, by the ways in which it is written, folded.
+ENTERED = entered_periods()
+SECTIONS = {folded(front + number): [code] for number, code in CODES.items() for front in BEFORE[""]}
+SECTIONS.update({folded(text): texts for section, texts in ENTERED.items() for text in spelled(section)})

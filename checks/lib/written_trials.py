@@ -1,9 +1,14 @@
 """Fields with blanks and dots in them, misspelt periods and sections of Rules, tried with the built desk."""
 import csv
 import json
+import re
 
-from lib.written_fields import CITED, CODES, case_in, entered_periods, folded, grant_in, name_in, nearest_code, number_in, period_in, slots_in, time_in
+from lib.programs import TOP
+from lib.written_fields import CODES, ENTERED, case_in, folded, grant_in, is_statute, name_in, nearest_code, number_in, parted, period_in, slots_in, spelled, time_in
 
+# The definition of the sections whose periods are entered, and its name for the book of each.
+NAMED = TOP / "crates" / "row_fields" / "specs" / "Named.antt"
+BOOKS = {"": "CivilRules", "FRAP ": "AppellateRules", "Supp. ": "ForfeitureRules", "Supp. Soc. Sec. ": "SocialSecurityRules"}
 START = "1,start,12,{},2025-08-04,,,"
 BOOK = "1,book,12,1,{},{},2025-10-06,10:00,{},2025-09-15"
 
@@ -21,7 +26,8 @@ def kinds_of(judges, rooms):
         (BOOK.format("Ames", "{}", "2"), rooms, lambda text: name_in(text, rooms)),
         (BOOK.format("{}", "11A", "2"), judges, lambda text: name_in(text, judges)),
         ("1,extend,12,2,{},2025-09-10,11:30,no,yes,no", ["+14d", "+24H", "+120d"], grant_in),
-        (START, ["59(e)", "Rule 12(a)(3)", "Fed. R. Civ. P. 12(a)(1)(A)(i)", "FRCP 4(m)", "14d/after/filing/event/plain", "120h/before/service/event/plain"], period_in),
+        (START, ["59(e)", "Rule 12(a)(3)", "Fed. R. Civ. P. 12(a)(1)(A)(i)", "FRCP 4(m)", "33(b)(2)", "28 U.S.C. 1447(c)", "14d/after/filing/event/plain",
+                 "120h/before/service/event/plain"], period_in),
         ("1,file,12,3,2025-09-29,{},electronic", ["9:30", "09:30", "12:15 PM", "2 p.m.", "11:45am"], time_in),
     ]
 
@@ -73,7 +79,7 @@ def misspelt(draw):
 
 def check_misspelt(desk, draw, count):
     """A code is suggested where a slip makes the word of it alone, and else none."""
-    sections = [folded(section.replace(".", "x")) for section in entered_periods()]
+    sections = [folded(section) for section in ENTERED]
     words = [word for word in (misspelt(draw) for _ in range(count))
              if word and period_in(word) is None and word != "12a1aii" and not any(section.startswith(word) for section in sections)]
     faults = faults_in(desk, [START.format(word) for word in words])
@@ -82,15 +88,35 @@ def check_misspelt(desk, draw, count):
     return len(words)
 
 
+def defined():
+    """The sections of the definition, by book and number, each with its texts."""
+    sections = re.findall(r'(?:one_period|two_periods) ([A-Za-z]+)((?: \(codes "[^"]*"\))+)', NAMED.read_text())
+    texts = [(book, re.findall('"([^"]*)"', given)) for book, given in sections]
+    assert len(texts) == len({(book, given[0]) for book, given in texts}), "a section is defined twice"
+    return {(book, given[0]): given[1:] for book, given in texts}
+
+
+def check_definition():
+    """The sections of the definition are those of docs/law/RULES.md, with the same texts."""
+    documented = {}
+    for section, texts in ENTERED.items():
+        before, number = parted(section)
+        documented["UnitedStatesCode" if is_statute(section) else BOOKS[before], folded(number)] = texts
+    assert defined() == documented, [(key, defined().get(key), documented.get(key)) for key in set(defined()) | set(documented)
+                                     if defined().get(key) != documented.get(key)]
+
+
 def check_sections(desk, draw):
-    """Each section whose period is entered is answered with its texts, in any way of citing it, and with no code."""
-    entered = entered_periods()
-    sections = sorted(entered)
-    before = {"": "", "rule": "Rule ", "frcp": "FRCP ", "fedrcivp": "Fed. R. Civ. P. "}
-    cited = [(before[draw.choice(CITED)] if " " not in section else "") + section for section in sections]
-    faults = faults_in(desk, [START.format(section) for section in cited])
-    for number, section in enumerate(sections, 1):
-        advice = faults[number].get("advice", "")
-        assert advice.startswith(section + " is entered as ") and all(text in advice for text in entered[section]), (section, entered[section], faults[number])
-        assert "nearest" not in faults[number], (section, faults[number])
-    return len(sections)
+    """Each section whose period is entered is read as its text, in any way of writing it. One with two is a fault that names both."""
+    check_definition()
+    tried = [(draw.choice([str, str.upper, str.lower])(draw.choice([text, re.sub("[()]", "", text)])), texts)
+             for section, texts in ENTERED.items() for text in spelled(section)]
+    faults = faults_in(desk, [START.format(text) for text, _ in tried])
+    read = [(text, texts[0]) for text, texts in tried if len(texts) == 1]
+    ended = desk.call("plain", given="".join(START.format(text) + "\n" for text, _ in read).encode())
+    assert ended.output.decode() == "".join(START.format(text) + "\n" for _, text in read), ended
+    for number, (text, texts) in enumerate(tried, 1):
+        fault = faults.get(number, {})
+        assert len(texts) < 3 and [fault.get("one"), fault.get("other")] == (texts if len(texts) == 2 else [None, None]), (text, texts, fault)
+        assert len(texts) == 1 or fault["advice"].endswith("docs/law/RULES.md says when") and "nearest" not in fault, (text, fault)
+    return len(ENTERED)

@@ -2,6 +2,7 @@ pub mod Said
 pub mod Letters
 pub mod Numbers
 pub mod Choices
+pub mod Named
 pub mod Months
 pub mod Dates
 pub mod Times

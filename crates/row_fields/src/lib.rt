@@ -7,6 +7,7 @@ mod laws;
 mod letters;
 mod line;
 mod months;
+mod named;
 mod said;
 mod times;
 
@@ -15,5 +16,6 @@ pub use dates::{DateOrder, date_said};
 pub use laws::{no_other_reading, numbers_stay_whole, order_is_kept, places_follow_their_marks};
 pub use letters::{bare, folded};
 pub use line::{cut_line, place_in, separator_of, typed};
+pub use named::{NamedPeriod, RuleBook, fronts, named_periods, section_said};
 pub use said::Said;
 pub use times::time_said;

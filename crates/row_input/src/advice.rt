@@ -1,8 +1,8 @@
 //! What to write in place of what was found.
 
-use crate::periods::entered_as;
+use crate::periods::parts_entered;
 use court_clock::Day;
-use row_fields::{DateOrder, Said, date_said, time_said};
+use row_fields::{DateOrder, Said, date_said, folded, time_said};
 use row_forms::Column;
 use row_written::{Fault, Flaw};
 use std::alloc::{AllocError, Global};
@@ -101,12 +101,19 @@ fn for_number(alloc: Global, found: &str) -> Result<String, AllocError> {
     Ok(String::new(alloc))
 }
 
-/// What to write where a field may be two things.
-fn for_two(column: Column) -> &'static str {
+/// What to write where a field may be two periods, of which this is one.
+fn for_two_periods(one: &str) -> &'static str {
+    if one.as_bytes().contains(&b'/') {
+        "write the one that is meant: docs/law/RULES.md says when"
+    } else {
+        "12a1Aii-us is for a request that was sent to a place in the United States, 12a1Aii-abroad for one sent abroad"
+    }
+}
+
+/// What to write where a field may be two things, of which this is one.
+fn for_two(column: Column, one: &str) -> &'static str {
     match column {
-        Column::Period | Column::Deadline => {
-            "12a1Aii-us is for a request that was sent to a place in the United States, 12a1Aii-abroad for one sent abroad"
-        }
+        Column::Period | Column::Deadline => for_two_periods(one),
         Column::Judge | Column::Judges | Column::Room =>
             "write the name as the court's file has it",
         _ =>
@@ -134,8 +141,11 @@ pub(crate) fn advice(
             | Column::Need
             | Column::Slots,
         ) => for_number(alloc, found),
-        Flaw::Unknown(Column::Period) => entered_as(alloc, found),
-        Flaw::Unclear(column) => String::from_str(alloc, for_two(column)),
+        Flaw::Unknown(Column::Period) => {
+            let word = folded(alloc, found)?;
+            parts_entered(alloc, word.as_str())
+        }
+        Flaw::Unclear(column) => String::from_str(alloc, for_two(column, fault.one.as_str())),
         Flaw::Excess => String::from_str(alloc, "a field with a comma in it is written in quotes"),
         _ => Ok(String::new(alloc)),
     }

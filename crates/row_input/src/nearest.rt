@@ -1,6 +1,6 @@
 //! The known word that is nearest to what was found.
 
-use crate::periods::{CODES, entered_as, number_cited};
+use crate::periods::{CODES, is_section, number_cited};
 use court_days::Court;
 use row_fields::{cut_line, folded};
 use row_forms::{COMMANDS, Column};
@@ -72,12 +72,12 @@ fn nearest_judge(alloc: Global, court: &Court, panel: &str) -> Result<Option<Str
     Ok(None)
 }
 
-/// The code of a period that is nearest to what was found, unless that is known by how it is entered.
-fn nearest_code(alloc: Global, found: &str, word: &str) -> Result<Option<String>, AllocError> {
-    if entered_as(alloc, found)?.is_empty() {
-        nearest_of(alloc, number_cited(word), &CODES)
-    } else {
+/// The code of a period that is nearest to a folded word, unless that cites a section that sets another period.
+fn nearest_code(alloc: Global, word: &str) -> Result<Option<String>, AllocError> {
+    if is_section(alloc, word)? {
         Ok(None)
+    } else {
+        nearest_of(alloc, number_cited(word), &CODES)
     }
 }
 
@@ -95,7 +95,7 @@ fn nearest_in(
             let names = rooms_of(alloc, court)?;
             nearest_of(alloc, word, &names)
         }
-        Column::Period | Column::Deadline => nearest_code(alloc, found, word),
+        Column::Period | Column::Deadline => nearest_code(alloc, word),
         Column::Motion => nearest_of(alloc, word, &["last"]),
         Column::ServiceOrNone => nearest_of(
             alloc,

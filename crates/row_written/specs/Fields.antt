@@ -8,7 +8,7 @@ use Rattle.row_forms.specs.Words.{CourtNames, is_number}
 use Rattle.row_fields.specs.declared.said.Said.{Said}
 use Rattle.row_fields.specs.declared.said.Said.TheVariants.{Unknown, Clear}
 use Rattle.row_fields.specs.declared.dates.DateOrder.{DateOrder}
-use Rattle.row_fields.specs.Words.{answer_said, bare, date_said, folded, list_said, means_said, rule_said, said_map, service_said, time_said}
+use Rattle.row_fields.specs.Words.{answer_said, bare, date_said, folded, list_said, means_said, rule_said, said_map, section_said, service_said, time_said}
 use Rattle.row_forms.specs.declared.headings.columns.Column.{Column}
 use Rattle.row_forms.specs.declared.headings.columns.Column.TheVariants.{Clerk, Command, Case, Deadline, Motion, Period, Date, Time, Start, TimeOrNone, SecondOrNone, ServiceOrNone, Means, Grant, ByMotion, Cause, Neglect, Need, Holidays, From, To, Judge, Judges, Room, Slots, Notice}
 use Rattle.row_written.specs.Names.{name_said, panel_said}
@@ -63,12 +63,12 @@ word_in Cause word = answer_said word
 word_in Neglect word = answer_said word
 word_in Holidays word = list_said word
 word_in ServiceOrNone word = service_said word
-word_in _ word = rule_said word
+word_in _ word = section_said word
 
 abbrev pub word_said : Column → List ℕ → Said (List ℕ)
 word_said column text = word_in column (folded text)
 
--- a period: a Rule's number, or one with slashes, which a court enters
+-- a period: the number of a section of the Rules or of a statute, or one with slashes, which a court enters
 abbrev pub period_said : List ℕ → Said (List ℕ)
 period_said text = if list_any (λ b. nat_eq b 47) text then Clear (bare text) else word_said Period text
 

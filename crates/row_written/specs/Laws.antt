@@ -85,6 +85,7 @@ module _ (names : CourtNames) (order : Option DateOrder) where
 abbrev pub NumbersAreTheirFields : Type 0
 NumbersAreTheirFields = (names : CourtNames) (order : Option DateOrder) (text number : List ℕ) → is_number number ≡ true → AreTheirFields names order text number
 
--- A number of slots, an entered period and the length of an extension have the numbers of their fields, each with the same digits.
+-- A number of slots, a period with slashes and the length of an extension have the numbers of their fields, each with the same
+-- digits. (A period that is named by its section has those of the table.)
 abbrev pub LengthsKeepTheirNumbers : Type 0
 LengthsKeepTheirNumbers = (names : CourtNames) (order : Option DateOrder) (text plain : List ℕ) → HaveTheirNumbers names order text plain

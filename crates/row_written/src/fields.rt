@@ -15,7 +15,7 @@ use court_clock::Day;
 use court_days::Court;
 use row_fields::{
     DateOrder, Said, answer_said, bare, date_said, folded, list_said, means_said, rule_said,
-    service_said, time_said,
+    section_said, service_said, time_said,
 };
 use row_forms::Column;
 use std::alloc::{AllocError, Global};
@@ -181,12 +181,12 @@ fn word_said(alloc: Global, column: Column, text: &str) -> Result<Said<String>, 
         Column::ByMotion | Column::Cause | Column::Neglect => answer_said(word.as_str()),
         Column::Holidays => list_said(word.as_str()),
         Column::ServiceOrNone => service_said(word.as_str()),
-        _ => rule_said(word.as_str()),
+        _ => section_said(word.as_str()),
     };
     owned(alloc, said)
 }
 
-// A period: a Rule's number, or one with slashes, which a court enters.
+// A period: the number of a section of the Rules or of a statute, or one with slashes, which a court enters.
 fn period_said(alloc: Global, text: &str) -> Result<Said<String>, AllocError>
     ensures { IfOk result (λ said. said_map string_bytes said ≡ period_said text.now) }
 {

@@ -18,8 +18,8 @@ pub fn numbers_are_their_fields()
     ensures { NumbersAreTheirFields }
 {}
 
-/// A number of slots, an entered period and the length of an extension have the numbers of their fields, each with the same
-/// digits.
+/// A number of slots, a period with slashes and the length of an extension have the numbers of their fields, each with the
+/// same digits.
 pub fn lengths_keep_their_numbers()
     ensures { LengthsKeepTheirNumbers }
 {}

@@ -1,0 +1,270 @@
+//! The sections of Rules and statutes that set a period which is entered, by their names.
+
+ghost use Rattle.std.specs.Prelude.{◌≡◌, find, map, option_map};
+ghost use Rattle.std.specs.List.{list_any};
+ghost use Rattle.row_fields.specs.Named.{cites, entered_said, fronts, is_number_after, named_periods, period_cited, period_view, section_said, texts_said};
+ghost use Rattle.row_fields.specs.Said.{said_map};
+
+use crate::choices::rule_said;
+use crate::said::Said;
+
+/// A book of Rules, or that of the statutes.
+#[derive(Clone, Copy, Debug, PartialEq, Eq)]
+pub enum RuleBook {
+    /// The Federal Rules of Civil Procedure.
+    CivilRules,
+    /// The Supplemental Rules for Admiralty or Maritime Claims and Asset Forfeiture Actions.
+    ForfeitureRules,
+    /// The Supplemental Rules for Social Security Actions under 42 U.S.C. 405(g).
+    SocialSecurityRules,
+    /// The Federal Rules of Appellate Procedure.
+    AppellateRules,
+    /// The United States Code.
+    UnitedStatesCode,
+}
+
+/// A section that sets a period which is entered, or two.
+#[derive(Clone, Copy, Debug)]
+pub struct NamedPeriod {
+    /// In which book it is.
+    pub book: RuleBook,
+    /// The section as it is cited, as `33(b)(2)` or `FRAP 4(a)(5)`.
+    pub section: &'static str,
+    /// Its number when it is folded, without what says in which book it is: `33b2`, `4a5`; `28usc1447c` for a statute.
+    pub number: &'static str,
+    /// The period, as it is entered.
+    pub text: &'static str,
+    /// The other one, where it sets two.
+    pub other: Option<&'static str>,
+}
+
+/// A line of the table of sections.
+macro_rules! entered {
+    ($book:ident, $section:literal, $number:literal: $text:literal) => {
+        NamedPeriod {
+            book: RuleBook::$book,
+            section: $section,
+            number: $number,
+            text: $text,
+            other: None,
+        }
+    };
+    ($book:ident, $section:literal, $number:literal: $text:literal, $other:literal) => {
+        NamedPeriod {
+            book: RuleBook::$book,
+            section: $section,
+            number: $number,
+            text: $text,
+            other: Some($other),
+        }
+    };
+}
+
+/// The sections, in the order of docs/law/RULES.md.
+static SECTIONS: [NamedPeriod; 78] = [
+    entered!(CivilRules, "4(d)(1)(F)", "4d1f": "30d/after/service/event/plain", "60d/after/service/event/plain"),
+    entered!(CivilRules, "5.1(c)", "5 1c": "60d/after/filing/event/plain"),
+    entered!(CivilRules, "6(c)(1)", "6c1": "14d/before/service/event/plain"),
+    entered!(CivilRules, "6(c)(2)", "6c2": "7d/before/service/event/plain"),
+    entered!(CivilRules, "11(c)(2)", "11c2": "21d/after/filing/served/plain"),
+    entered!(CivilRules, "12(a)(4)(A)", "12a4a": "14d/after/service/event/plain"),
+    entered!(CivilRules, "12(a)(4)(B)", "12a4b": "14d/after/service/served/plain"),
+    entered!(CivilRules, "12(e)", "12e": "14d/after/service/event/plain"),
+    entered!(CivilRules, "12(f)(2)", "12f2": "21d/after/filing/served/plain"),
+    entered!(CivilRules, "14(a)(1)", "14a1": "14d/after/filing/event/plain"),
+    entered!(CivilRules, "15(a)(1)(A)", "15a1a": "21d/after/filing/event/plain"),
+    entered!(CivilRules, "15(a)(1)(B)", "15a1b": "21d/after/filing/served/plain"),
+    entered!(CivilRules, "15(a)(3)", "15a3": "14d/after/service/served/plain"),
+    entered!(CivilRules, "16(b)(2)", "16b2": "90d/after/filing/event/plain", "60d/after/filing/event/plain"),
+    entered!(CivilRules, "23(f)", "23f": "14d/after/filing/event/60b", "45d/after/filing/event/60b"),
+    entered!(CivilRules, "25(a)(1)", "25a1": "90d/after/filing/served/plain", "90d/after/filing/event/plain"),
+    entered!(CivilRules, "26(a)(1)(C)", "26a1c": "14d/after/service/event/plain"),
+    entered!(CivilRules, "26(a)(1)(D)", "26a1d": "30d/after/service/event/plain"),
+    entered!(CivilRules, "26(a)(2)(D)(i)", "26a2di": "90d/before/service/event/plain"),
+    entered!(CivilRules, "26(a)(2)(D)(ii)", "26a2dii": "30d/after/service/event/plain"),
+    entered!(CivilRules, "26(a)(3)(B)", "26a3b": "30d/before/service/event/plain", "14d/after/service/event/plain"),
+    entered!(CivilRules, "26(d)(2)", "26d2": "21d/after/service/event/plain"),
+    entered!(CivilRules, "26(f)(1)", "26f1": "21d/before/service/event/plain"),
+    entered!(CivilRules, "26(f)(2)", "26f2": "14d/after/filing/event/plain"),
+    entered!(CivilRules, "27(a)(2)", "27a2": "21d/before/service/event/plain"),
+    entered!(CivilRules, "30(e)(1)", "30e1": "30d/after/service/event/plain"),
+    entered!(CivilRules, "31(a)(5)", "31a5": "14d/after/service/served/plain", "7d/after/service/served/plain"),
+    entered!(CivilRules, "33(b)(2)", "33b2": "30d/after/service/served/plain"),
+    entered!(CivilRules, "34(b)(2)(A)", "34b2a": "30d/after/service/served/plain", "30d/after/service/event/plain"),
+    entered!(CivilRules, "36(a)(3)", "36a3": "30d/after/service/served/plain"),
+    entered!(CivilRules, "38(b)(1)", "38b1": "14d/after/service/served/plain", "14d/after/service/event/plain"),
+    entered!(CivilRules, "38(c)", "38c": "14d/after/service/served/plain"),
+    entered!(CivilRules, "45(d)(2)(B)", "45d2b": "14d/after/service/event/plain"),
+    entered!(CivilRules, "50(b)", "50b": "28d/after/filing/event/50b"),
+    entered!(CivilRules, "50(d)", "50d": "28d/after/filing/event/50d"),
+    entered!(CivilRules, "52(b)", "52b": "28d/after/filing/event/52b"),
+    entered!(CivilRules, "53(f)(2)", "53f2": "21d/after/filing/served/plain"),
+    entered!(CivilRules, "54(d)(1)", "54d1": "14d/after/filing/event/plain", "7d/after/service/event/plain"),
+    entered!(CivilRules, "54(d)(2)(B)", "54d2b": "14d/after/filing/event/plain"),
+    entered!(CivilRules, "55(b)(2)", "55b2": "7d/before/service/event/plain"),
+    entered!(CivilRules, "56(b)", "56b": "30d/after/filing/event/plain"),
+    entered!(CivilRules, "58(c)(2)(B)", "58c2b": "150d/after/filing/event/plain"),
+    entered!(CivilRules, "59(c)", "59c": "14d/after/filing/served/plain"),
+    entered!(CivilRules, "59(d)", "59d": "28d/after/filing/event/59d"),
+    entered!(CivilRules, "62(a)", "62a": "30d/after/filing/event/plain"),
+    entered!(CivilRules, "65(b)(2)", "65b2": "14d/after/filing/event/plain"),
+    entered!(CivilRules, "65(b)(4)", "65b4": "2d/before/service/event/plain"),
+    entered!(CivilRules, "68(a)", "68a": "14d/before/service/event/plain", "14d/after/service/served/plain"),
+    entered!(CivilRules, "68(c)", "68c": "14d/before/service/event/plain"),
+    entered!(CivilRules, "71.1(e)(2)", "71 1e2": "21d/after/service/event/plain"),
+    entered!(CivilRules, "72(a)", "72a": "14d/after/filing/served/plain"),
+    entered!(CivilRules, "72(b)(2)", "72b2": "14d/after/filing/served/plain"),
+    entered!(CivilRules, "81(c)(2)", "81c2": "21d/after/service/event/plain", "7d/after/service/event/plain"),
+    entered!(CivilRules, "81(c)(2)(A)", "81c2a": "21d/after/service/event/plain"),
+    entered!(CivilRules, "81(c)(2)(B)", "81c2b": "21d/after/service/event/plain"),
+    entered!(CivilRules, "81(c)(2)(C)", "81c2c": "7d/after/service/event/plain"),
+    entered!(CivilRules, "81(c)(3)(B)", "81c3b": "14d/after/service/event/plain", "14d/after/service/served/plain"),
+    entered!(CivilRules, "81(c)(3)(B)(i)", "81c3bi": "14d/after/service/event/plain"),
+    entered!(CivilRules, "81(c)(3)(B)(ii)", "81c3bii": "14d/after/service/served/plain"),
+    entered!(ForfeitureRules, "Supp. G(4)(b)(ii)(B)", "g4biib": "35d/after/filing/event/plain"),
+    entered!(ForfeitureRules, "Supp. G(5)(a)(ii)(B)", "g5aiib": "30d/after/filing/event/plain", "60d/after/filing/event/plain"),
+    entered!(ForfeitureRules, "Supp. G(5)(b)", "g5b": "21d/after/filing/event/plain"),
+    entered!(ForfeitureRules, "Supp. G(6)(b)", "g6b": "21d/after/service/served/plain"),
+    entered!(UnitedStatesCode, "28 U.S.C. 1446(b)(1)", "28usc1446b1": "30d/after/filing/event/60b"),
+    entered!(UnitedStatesCode, "28 U.S.C. 1446(b)(3)", "28usc1446b3": "30d/after/filing/event/60b"),
+    entered!(UnitedStatesCode, "28 U.S.C. 1447(c)", "28usc1447c": "30d/after/filing/event/60b"),
+    entered!(UnitedStatesCode, "28 U.S.C. 1608(d)", "28usc1608d": "60d/after/service/event/plain"),
+    entered!(UnitedStatesCode, "5 U.S.C. 552(a)(4)(C)", "5usc552a4c": "30d/after/service/event/plain"),
+    entered!(UnitedStatesCode, "42 U.S.C. 405(g)", "42usc405g": "60d/after/filing/event/60b"),
+    entered!(SocialSecurityRules, "Supp. Soc. Sec. 4", "4": "60d/after/service/event/plain"),
+    entered!(SocialSecurityRules, "Supp. Soc. Sec. 6", "6": "30d/after/filing/event/plain"),
+    entered!(SocialSecurityRules, "Supp. Soc. Sec. 7", "7": "30d/after/filing/served/plain"),
+    entered!(SocialSecurityRules, "Supp. Soc. Sec. 8", "8": "14d/after/filing/served/plain"),
+    entered!(AppellateRules, "FRAP 4(a)(1)", "4a1": "30d/after/filing/event/60b", "60d/after/filing/event/60b"),
+    entered!(AppellateRules, "FRAP 4(a)(1)(A)", "4a1a": "30d/after/filing/event/60b"),
+    entered!(AppellateRules, "FRAP 4(a)(1)(B)", "4a1b": "60d/after/filing/event/60b"),
+    entered!(AppellateRules, "FRAP 4(a)(4)", "4a4": "30d/after/filing/event/60b", "60d/after/filing/event/60b"),
+    entered!(AppellateRules, "FRAP 4(a)(5)", "4a5": "30d/after/filing/event/60b", "14d/after/filing/event/60b"),
+];
+
+// What comes before a section's number in each book, when it is folded.
+
+const CIVIL_FRONTS: [&str; 4] = ["", "rule", "frcp", "fedrcivp"];
+
+const FORFEITURE_FRONTS: [&str; 7] = [
+    "",
+    "rule",
+    "supp",
+    "suppr",
+    "supprule",
+    "supplementalrule",
+    "fedrcivpsuppr",
+];
+
+const SOCIAL_SECURITY_FRONTS: [&str; 3] = ["suppsocsec", "supprsocsec", "supprulesfor405g"];
+
+const APPELLATE_FRONTS: [&str; 2] = ["frap", "fedrappp"];
+
+const CODE_FRONTS: [&str; 1] = [""];
+
+/// The sections that set a period which is entered.
+#[tactic(auto, unfolding(crate::specs::Named::named_periods))]
+pub fn named_periods() -> &'static [NamedPeriod]
+    ensures { map period_view result.now ≡ named_periods }
+{
+    &SECTIONS[..]
+}
+
+/// What comes before the number of a section of that book, as people cite it, when it is folded.
+pub fn fronts(book: RuleBook) -> &'static [&'static str]
+    ensures { map (λ front. front.now) result.now ≡ fronts book }
+{
+    match book {
+        RuleBook::CivilRules => &CIVIL_FRONTS,
+        RuleBook::ForfeitureRules => &FORFEITURE_FRONTS,
+        RuleBook::SocialSecurityRules => &SOCIAL_SECURITY_FRONTS,
+        RuleBook::AppellateRules => &APPELLATE_FRONTS,
+        RuleBook::UnitedStatesCode => &CODE_FRONTS,
+    }
+}
+
+// Whether a folded word is this number after this front.
+#[tactic(auto, unfolding(crate::specs::Named::is_number_after))]
+fn is_number_after(front: &str, number: &str, word: &str) -> bool
+    ensures { result ≡ is_number_after front.now number.now word.now }
+{
+    let (front, word) = (front.as_bytes(), word.as_bytes());
+    word.starts_with(front) && word.split_at(front.len()).1 == number.as_bytes()
+}
+
+// Whether a folded word is this number after one of these fronts.
+fn is_after_any(texts: &[&str], number: &str, word: &str) -> bool
+    ensures { result ≡ list_any (λ front. is_number_after front number.now word.now) (map (λ text. text.now) texts.now) }
+{
+    match texts {
+        [] => false,
+        [front, rest @ ..] => {
+            is_number_after(front, number, word) || is_after_any(rest, number, word)
+        }
+    }
+}
+
+// Whether a folded word cites a section.
+#[tactic(auto, unfolding(crate::specs::Named::cites))]
+fn cites(word: &str, period: &NamedPeriod) -> bool
+    ensures { result ≡ cites word.now (period_view period.now) }
+{
+    is_after_any(fronts(period.book), period.number, word)
+}
+
+// The first of these sections that a folded word cites.
+fn first_cited(word: &str, periods: &[NamedPeriod]) -> Option<NamedPeriod>
+    ensures { option_map period_view result ≡ find (cites word.now) (map period_view periods.now) }
+{
+    match periods {
+        [] => None,
+        [period, rest @ ..] => {
+            if cites(word, period) {
+                Some(*period)
+            } else {
+                first_cited(word, rest)
+            }
+        }
+    }
+}
+
+// The section that a folded word cites, if it is one of these.
+#[tactic(auto, unfolding(crate::specs::Named::period_cited))]
+fn period_cited(word: &str) -> Option<NamedPeriod>
+    ensures { option_map period_view result ≡ period_cited word.now }
+{
+    first_cited(word, named_periods())
+}
+
+// The text of a section's period, or both.
+fn texts_said(period: &NamedPeriod) -> Said<&'static str>
+    ensures { said_map (λ text. text.now) result ≡ texts_said (period_view period.now) }
+{
+    match period.other {
+        None => Said::Clear(period.text),
+        Some(other) => Said::Unclear(period.text, other),
+    }
+}
+
+// The texts of the periods that the section sets which a folded word cites.
+#[tactic(auto, unfolding(crate::specs::Named::entered_said))]
+fn entered_said(word: &str) -> Said<&'static str>
+    ensures { said_map (λ text. text.now) result ≡ entered_said word.now }
+{
+    match period_cited(word) {
+        None => Said::Unknown,
+        Some(period) => texts_said(&period),
+    }
+}
+
+/// The period that the section sets which a folded word cites: its code, or its text as it is entered.
+#[tactic(auto, unfolding(crate::specs::Named::section_said))]
+pub fn section_said(word: &str) -> Said<&'static str>
+    ensures { said_map (λ text. text.now) result ≡ section_said word.now }
+{
+    match rule_said(word) {
+        Said::Unknown => entered_said(word),
+        Said::Clear(code) => Said::Clear(code),
+        Said::Unclear(one, other) => Said::Unclear(one, other),
+    }
+}
