@@ -6,7 +6,7 @@ use crate::review::{Due, due_on};
 use crate::{Alike, Asked, Slip, Warnings, ZoneDoubt};
 use court_clock::Day;
 use court_file_text::Key;
-use court_holidays::{FederalHoliday, observed_for};
+use court_holidays::{Closing, FederalHoliday, closings_known, observed_for};
 use std::alloc::AllocError;
 use toml::{Table, Value};
 
@@ -26,6 +26,9 @@ pub(crate) fn push_warnings(
     }
     for day in &warnings.unknown {
         push_unknown(sheet, file, *day)?;
+    }
+    for closing in &warnings.closings {
+        push_closing(sheet, file, *closing)?;
     }
     push_at_weekend(sheet, file, Key::Federal, &warnings.federal_at_weekend)?;
     push_at_weekend(sheet, file, Key::State, &warnings.state_at_weekend)?;
@@ -109,10 +112,10 @@ fn push_ends_soon(sheet: &mut Sheet<'_>, today: Day) -> Result<(), AllocError> {
     let shown = sheet.warning_at(Key::To, None)?;
     write!(
         sheet.text,
-        "the span ends on {shown}, before a year has passed from {today}"
+        "the span ends on {shown}, too early for {today}: it has to go on for a year and, from October on, past the end of the next year"
     )?;
     sheet.end(
-        "; a period that ends after the span is answered 'beyond', so move to, and add the holidays until then",
+        "; a period that ends after the span is answered 'beyond', so add years by 'docket court update', or move to, and add the holidays until then",
     )
 }
 
@@ -192,6 +195,24 @@ fn push_unknown(sheet: &mut Sheet<'_>, file: &Table, day: Day) -> Result<(), All
     sheet.end(
         "; it stays if an executive order closed the government on it and the court takes it for a holiday, else mend it",
     )
+}
+
+fn push_closing(sheet: &mut Sheet<'_>, file: &Table, closing: Closing) -> Result<(), AllocError> {
+    let Some(day) = Day::from_text(closing.day) else {
+        return Ok(());
+    };
+    let mark = where_to_add(sheet, file, day)?;
+    sheet.begin_warning(Key::Federal, mark)?;
+    let (order, known) = (closing.order, closings_known());
+    write!(
+        sheet.text,
+        "the President closed the executive departments on {day}, by {order}, and the file doesn't have the date"
+    )?;
+    write!(
+        sheet.text,
+        "; a court that takes the day for a legal holiday, Rule 6(a)(6)(B), adds it here, and another one writes it in a comment; such days are known up to {known}"
+    )?;
+    sheet.end("")
 }
 
 fn push_at_weekend(

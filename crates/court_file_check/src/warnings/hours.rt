@@ -1,10 +1,11 @@
 //! Hours and spans that look wrong.
 
-ghost use Rattle.std.specs.Prelude.{◌≡◌};
-ghost use Rattle.court_file_check.specs.Warnings.{closes_early, ends_soon, is_long_day, is_short_span};
+ghost use Rattle.std.specs.Prelude.{◌≡◌, true};
+ghost use Rattle.court_file_check.specs.Warnings.{closes_early, ends_soon, is_autumn, is_long_day, is_short_span, next_year_end};
 
 use court_clock::{Clock, Day};
 use court_days::Days;
+use court_holidays::{on, year_of};
 
 /// Whether the office closes before noon.
 pub(crate) fn closes_early(clock: &Clock) -> bool
@@ -28,12 +29,32 @@ pub(crate) fn is_short_span(days: &Days) -> bool
     days.to().number() < days.from().number() + 90
 }
 
-/// Whether the span ends within a year after the day, if one is given.
+/// Whether the span ends within a year after the day, if one is given, or with the next year or before that, where the day is
+/// in autumn.
 pub(crate) fn ends_soon(days: &Days, today: Option<Day>) -> bool
     ensures { result ≡ ends_soon days.now today }
 {
     match today {
-        Some(today) => days.to().number() < today.number() + 365,
+        Some(today) => {
+            days.to().number() < today.number() + 365
+                || (is_autumn(today) && days.to().number() <= next_year_end(today).number())
+        }
         None => false,
     }
+}
+
+/// Whether the day is in October, November or December.
+fn is_autumn(day: Day) -> bool
+    ensures { result ≡ is_autumn day }
+{
+    let year = year_of(day);
+    1970 <= year && year <= 2197 && on(year, 10, 1).number() <= day.number()
+}
+
+/// The last day of the next year.
+fn next_year_end(day: Day) -> Day
+    requires { is_autumn day ≡ true }
+    ensures { result ≡ next_year_end day }
+{
+    on(year_of(day) + 1, 12, 31)
 }
