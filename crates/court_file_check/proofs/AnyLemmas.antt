@@ -56,6 +56,11 @@ filter_more p f xs i x below is =
     let more : take (i + 1) xs ≡ take i xs ++ x ∷ [] = take_more xs i x below ∙ ap (λ y. take i xs ++ y ∷ []) (sym is) in
     ap (λ ys. filter p (map f ys)) more ∙ ap (filter p) (map_pushed f (take i xs) x) ∙ filter_pushed p (map f (take i xs)) (f x)
 
+-- those that pass of a list, with one item more
+pub filter_taken : {X : Type 0} (p : X → Bool) (xs : List X) (i : ℕ) (x : X) → i < length xs → x ≡ get_or xs i x
+    → filter p (take (i + 1) xs) ≡ filter p (take i xs) ++ cond (p x) (x ∷ []) []
+filter_taken p xs i x below is = ap (filter p) (take_more xs i x below ∙ ap (λ y. take i xs ++ y ∷ []) (sym is)) ∙ filter_pushed p (take i xs) x
+
 pub no_days : (p : ℤ → Bool) (first : ℤ) → list_any p (days_from first 0) ≡ false
 no_days p first = refl
 

@@ -11,7 +11,7 @@ use Rattle.court_file_check.specs.declared.warnings.Asked.{Asked}
 use Rattle.court_file_check.specs.declared.warnings.Warnings.{Warnings}
 use Rattle.court_file_check.specs.declared.review.DayTest.TheVariants.{FederalAtWeekend, InBoth, Lacking, StateAtWeekend, Unknown}
 use Rattle.court_file_check.specs.declared.warnings.slips.Slip.{Slip}
-use Rattle.court_file_check.specs.Warnings.{bare_years, slips_from, closes_early, is_long_day, is_short_span, ends_soon, unsaid_closings}
+use Rattle.court_file_check.specs.Warnings.{bare_years, slips_from, closes_early, is_long_day, is_short_span, ends_soon, unsaid_closings, unsaid_holidays}
 
 -- the slips of a list, if there is one
 abbrev pub slips_in : DaysView → Result Items CourtFault → List (ℕ × Slip)
@@ -28,6 +28,7 @@ pub record AreWarnings (asked : Asked) (text : List ℕ) (document : Members) (f
   pub lacking : w.lacking.items ≡ days_that file.days (Lacking asked.capital)
   pub unknown : w.unknown.items ≡ days_that file.days (Unknown asked.capital)
   pub closings : map closing_view w.closings.items ≡ unsaid_closings file.days text
+  pub unlisted : w.unlisted.items ≡ unsaid_holidays file.days text asked.capital asked.state
   pub federal_at_weekend : w.federal_at_weekend.items ≡ days_that file.days FederalAtWeekend
   pub state_at_weekend : w.state_at_weekend.items ≡ days_that file.days StateAtWeekend
   pub in_both : w.in_both.items ≡ days_that file.days InBoth

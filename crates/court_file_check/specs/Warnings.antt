@@ -4,13 +4,15 @@ use Rattle.std.specs.List.{list_any, range_with_len, starts_with}
 use Rattle.std.specs.Ordering.{int_eq}
 use Rattle.std.specs.Option.{option_and_then, option_to_list}
 use Rattle.toml.specs.Data.{Data, Items, no_items, item, as_str}
-use Rattle.court_clock.specs.Words.{day_of_text}
+use Rattle.court_clock.specs.Words.{day_of_text, day_text}
 use Rattle.court_days.specs.Words.{DaysView, is_among, is_covered}
 use Rattle.court_holidays.specs.Federal.Words.{ClosingView, closings, set_in}
 use Rattle.court_holidays.specs.States.Words.{on}
+use Rattle.court_holidays.specs.declared.states.state.State.{State}
 use Rattle.jiff_tz.specs.Year.{year_of_day}
 use Rattle.court_holidays.specs.declared.federal.statute.FederalHoliday.TheVariants.{NewYearsDay}
-use Rattle.court_file_check.specs.Review.{days_from}
+use Rattle.court_file_check.specs.Review.{days_from, days_that}
+use Rattle.court_file_check.specs.declared.review.DayTest.TheVariants.{Unlisted}
 use Rattle.court_file_check.specs.declared.warnings.slips.Slip.{Slip}
 use Rattle.court_file_check.specs.declared.warnings.slips.Slip.TheVariants.{Outside, Twice, Early}
 
@@ -99,3 +101,13 @@ is_unsaid c text closing = is_unsaid_day c text closing.day (day_of_text closing
 
 unfoldable pub unsaid_closings : DaysView → (text : List ℕ) → List ClosingView
 unsaid_closings c text = filter (is_unsaid c text) closings
+
+-- a day whose date isn't in the text
+abbrev pub is_day_unsaid : (text : List ℕ) → ℤ → Bool
+is_day_unsaid text d = not (has_text text (day_text d))
+
+-- the days of the span that the law of the court's State names, where it is known which that is, that no list has, and of which the text
+-- says nothing
+abbrev pub unsaid_holidays : DaysView → (text : List ℕ) → (capital : Bool) → Option State → List ℤ
+unsaid_holidays c text capital None = []
+unsaid_holidays c text capital (Some state) = filter (is_day_unsaid text) (days_that c (Unlisted capital state))

@@ -9,11 +9,12 @@ use crate::review::{DayTest, days_that};
 use court_clock::Day;
 use court_days::{Court, Days};
 use court_file_text::Key;
-use court_holidays::Closing;
+use court_holidays::{Closing, State};
 use std::alloc::{AllocError, Global};
 use toml::Table;
 
 mod closings;
+mod holidays;
 mod hours;
 pub(crate) mod names;
 pub(crate) mod slips;
@@ -21,6 +22,7 @@ mod years;
 pub(crate) mod zone;
 
 use closings::unsaid_closings;
+use holidays::unsaid_holidays;
 use hours::{closes_early, ends_soon, is_long_day, is_short_span};
 use names::{Alike, alike_at};
 use slips::{Slip, slips_at};
@@ -34,6 +36,8 @@ pub struct Asked {
     pub today: Option<Day>,
     /// Whether the court is in the capital's region, which has Inauguration Day.
     pub capital: bool,
+    /// The State whose holidays the court keeps, if it is known.
+    pub state: Option<State>,
 }
 
 /// What may be wrong with a court's file.
@@ -57,6 +61,8 @@ pub struct Warnings {
     pub unknown: Vec<Day>,
     /// The days of the span on which the President closed the executive departments, and of which the file says nothing.
     pub closings: Vec<Closing>,
+    /// The holidays of the State's law in the span that no list has, and of which the file says nothing.
+    pub unlisted: Vec<Day>,
     /// The Saturdays and Sundays of the federal list.
     pub federal_at_weekend: Vec<Day>,
     /// Those of the state list.
@@ -96,6 +102,7 @@ pub(crate) fn warnings_of(
         lacking: days_that(alloc, days, DayTest::Lacking { capital })?,
         unknown: days_that(alloc, days, DayTest::Unknown { capital })?,
         closings: unsaid_closings(alloc, days, text)?,
+        unlisted: unsaid_holidays(alloc, days, text, capital, asked.state)?,
         federal_at_weekend: days_that(alloc, days, DayTest::FederalAtWeekend)?,
         state_at_weekend: days_that(alloc, days, DayTest::StateAtWeekend)?,
         in_both: days_that(alloc, days, DayTest::InBoth)?,

@@ -7,4 +7,4 @@ pub use Rattle.court_writing.specs.Own.{OwnView, are_hours, closes_of, judges_of
 pub use Rattle.court_writing.specs.Written.{are_years, IsListed, AreDaysOf, IsOfCourt, IsFileOf}
 pub use Rattle.court_writing.specs.Courts.{District, of_district, zone_text}
 unfoldable pub use Rattle.court_writing.specs.Courts.{districts, district_named}
-pub use Rattle.court_writing.specs.Update.{IsUpdateOf}
+pub use Rattle.court_writing.specs.Update.{IsUpdateOf, court_said}

@@ -24,6 +24,6 @@ pub use courts::CourtName;
 pub use fault::WriteFault;
 pub use names::{NamesFault, names_in};
 pub use own::CourtOwn;
-pub use update::{UpdateFault, Updated, court_update};
+pub use update::{UpdateFault, Updated, court_said, court_update};
 pub use writing::court_text;
 pub use zones::ZoneName;

@@ -121,7 +121,7 @@ fn reaches(days: &Days, to: u16) -> bool
 }
 
 /// The court that a text says it is the file of: the eighth word of the line that says so is its code.
-fn court_said(text: &[u8]) -> Option<CourtName>
+pub fn court_said(text: &[u8]) -> Option<CourtName>
     ensures { option_map (λ c. of_district c.code.now c.state (zone_text c.zone)) result ≡ court_said text.now }
 {
     let line = text.split(|byte| *byte == b'\n').find(|line| line.starts_with(

@@ -1,18 +1,19 @@
 //! A court's file: checked, or written.
-ghost use Rattle.std.specs.Prelude.{◌≡◌, false, IfOk, OnOk, ℕ, List};
+ghost use Rattle.std.specs.Prelude.{◌≡◌, false, IfOk, OnOk, ℕ, List, option_map};
 ghost use Rattle.std.specs.Io.KnownBytes.{Appends};
 ghost use Rattle.court_days.specs.Words.{court_in};
-ghost use Rattle.court_writing.specs.Words.{IsFileOf, zone_text};
+ghost use Rattle.court_writing.specs.Words.{IsFileOf, court_said, zone_text};
 ghost use Rattle.docket.specs.Endings.{IsDayUsed, check_status};
 ghost use Rattle.program_streams.specs.Words.{has_failed, watched};
 
 use crate::fault::{Fault, misspoken};
 use crate::folder::{put, read_file};
-use court_clock::Instant;
+use court_clock::{Day, Instant};
 use court_days::Court;
 use court_file_check::{Asked, Report, check_file as checked_file, report_of};
 use court_file_text::CourtFault;
-use court_writing::{CourtName, CourtOwn, NamesFault, court_text, names_in};
+use court_holidays::State;
+use court_writing::{CourtName, CourtOwn, NamesFault, court_said, court_text, names_in};
 use desk_program::check_court;
 use program_main::today_by;
 use program_streams::Watched;
@@ -33,26 +34,50 @@ fn status_of(report: &Report) -> u8
     }
 }
 
-// What a check goes by: the day that is asked or, where none is, the one that the court's clock shows.
+// The day that a check goes by: the one that is asked or, where none is, the one that the court's clock shows.
+fn day_used(
+    alloc: Global,
+    bytes: &[u8],
+    asked: Option<Day>,
+    clock_time: Instant,
+) -> Result<Option<Day>, AllocError>
+    ensures { IfOk result (IsDayUsed asked (court_in bytes.now) clock_time) }
+{
+    if asked.is_some() {
+        return Ok(asked);
+    }
+    match Court::from_bytes(alloc, bytes) {
+        Ok(court) => Ok(Some(today_by(court.clock(), clock_time))),
+        Err(CourtFault::OutOfMemory) => Err(AllocError),
+        Err(_) => Ok(None),
+    }
+}
+
+// The State of the court that a file names as its own, if it names one.
+fn state_of(bytes: &[u8]) -> Option<State>
+    ensures { result ≡ option_map (λ court. court.state) (court_said bytes.now) }
+{
+    match court_said(bytes) {
+        Some(court) => Some(court.state),
+        None => None,
+    }
+}
+
+// What a check goes by, beside what is asked: the day of the court's clock, and the State that the file names.
 fn asked_on(
     alloc: Global,
     bytes: &[u8],
     asked: Asked,
     clock_time: Instant,
 ) -> Result<Asked, AllocError>
-    ensures { IfOk result (λ used. (used.capital ≡ asked.capital) × IsDayUsed asked.today (court_in bytes.now) clock_time used.today) }
+    ensures day { IfOk result (λ used. IsDayUsed asked.today (court_in bytes.now) clock_time used.today) }
+    ensures place { IfOk result (λ used. (used.capital ≡ asked.capital) × (used.state ≡ option_map (λ court. court.state) (court_said bytes.now))) }
 {
-    if asked.today.is_some() {
-        return Ok(asked);
-    }
-    match Court::from_bytes(alloc, bytes) {
-        Ok(court) => Ok(Asked {
-            today: Some(today_by(court.clock(), clock_time)),
-            capital: asked.capital,
-        }),
-        Err(CourtFault::OutOfMemory) => Err(AllocError),
-        Err(_) => Ok(asked),
-    }
+    Ok(Asked {
+        today: day_used(alloc, bytes, asked.today, clock_time)?,
+        capital: asked.capital,
+        state: state_of(bytes),
+    })
 }
 
 /// Checks a court's file, writes what was found, and gives the status. A file with no fault that no program can take, since a line

@@ -269,7 +269,7 @@ IsTask clock_time sub.Memo name given (task.Memo of asked) = IsSource clock_time
 IsTask clock_time sub.Sheet name given (task.Report of asked) =
     IsSheetSource clock_time given of × (asked ≡ sheet_asked clock_time (option_and_then case_called (case_given given)))
 IsTask clock_time sub.CourtCheck name given (task.CourtCheck file asked shown) =
-    IsText (codes "file") given file × (asked.today ≡ option_and_then day_of_text (first_of (codes "today") given)) × (asked.capital ≡ has (codes "capital") given) × (shown ≡ clock_time)
+    IsText (codes "file") given file × (asked.today ≡ option_and_then day_of_text (first_of (codes "today") given)) × (asked.capital ≡ has (codes "capital") given) × (asked.state ≡ None) × (shown ≡ clock_time)
 IsTask clock_time sub.CourtWrite name given (task.CourtWrite court writing) =
     (option_and_then district_named (first_of (codes "court") given) ≡ Some (of_district court.code.now court.state (zone_text court.zone))) × IsWriting given writing
 IsTask clock_time sub.CourtUpdate name given (task.CourtUpdate folder updating) = IsText (codes "folder") given folder × IsUpdating given updating

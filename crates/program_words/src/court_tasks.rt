@@ -30,7 +30,12 @@ pub(crate) fn check(
         day_if_given(alloc, given),
     )?;
     let capital = has_flag(given, "capital");
-    Ok(Task::CourtCheck(file, CheckAsked { today, capital }, clock_time))
+    let asked = CheckAsked {
+        today,
+        capital,
+        state: None,
+    };
+    Ok(Task::CourtCheck(file, asked, clock_time))
 }
 
 /// What a court's file has that is written.

@@ -6,7 +6,9 @@ use crate::review::{Due, due_on};
 use crate::{Alike, Asked, Slip, Warnings, ZoneDoubt};
 use court_clock::Day;
 use court_file_text::Key;
-use court_holidays::{Closing, FederalHoliday, closings_known, observed_for};
+use court_holidays::{
+    Closing, FederalHoliday, State, closings_known, observed_for, state_holiday_on,
+};
 use std::alloc::AllocError;
 use toml::{Table, Value};
 
@@ -29,6 +31,11 @@ pub(crate) fn push_warnings(
     }
     for closing in &warnings.closings {
         push_closing(sheet, file, *closing)?;
+    }
+    if let Some(state) = asked.state {
+        for day in &warnings.unlisted {
+            push_unlisted(sheet, file, state, *day)?;
+        }
     }
     push_at_weekend(sheet, file, Key::Federal, &warnings.federal_at_weekend)?;
     push_at_weekend(sheet, file, Key::State, &warnings.state_at_weekend)?;
@@ -128,12 +135,17 @@ fn push_bare_year(sheet: &mut Sheet<'_>, year: u16) -> Result<(), AllocError> {
     sheet.end("; add its holidays, or end the span before it")
 }
 
-/// Where a date is to be added to the federal list: the first item that is later, or else the list's closing bracket.
-fn where_to_add(sheet: &Sheet<'_>, file: &Table, day: Day) -> Result<Option<Mark>, AllocError> {
-    if let Some(item) = item_after(file, Key::Federal, day) {
-        return sheet.mark_of(Key::Federal, Some(item));
+/// Where a date is to be added to a list: the first item that is later, or else the list's closing bracket.
+fn where_to_add(
+    sheet: &Sheet<'_>,
+    file: &Table,
+    key: Key,
+    day: Day,
+) -> Result<Option<Mark>, AllocError> {
+    if let Some(item) = item_after(file, key, day) {
+        return sheet.mark_of(key, Some(item));
     }
-    match sheet.value_mark(Key::Federal)? {
+    match sheet.value_mark(key)? {
         Some(whole) => Ok(Some(Mark {
             start: whole.end.saturating_sub(1),
             ..whole
@@ -148,7 +160,7 @@ fn push_lacking(
     day: Day,
     capital: bool,
 ) -> Result<(), AllocError> {
-    let mark = where_to_add(sheet, file, day)?;
+    let mark = where_to_add(sheet, file, Key::Federal, day)?;
     sheet.begin_warning(Key::Federal, mark)?;
     match due_on(day, capital) {
         Some(Due::SetByLaw(holiday)) => {
@@ -201,7 +213,7 @@ fn push_closing(sheet: &mut Sheet<'_>, file: &Table, closing: Closing) -> Result
     let Some(day) = Day::from_text(closing.day) else {
         return Ok(());
     };
-    let mark = where_to_add(sheet, file, day)?;
+    let mark = where_to_add(sheet, file, Key::Federal, day)?;
     sheet.begin_warning(Key::Federal, mark)?;
     let (order, known) = (closing.order, closings_known());
     write!(
@@ -213,6 +225,32 @@ fn push_closing(sheet: &mut Sheet<'_>, file: &Table, closing: Closing) -> Result
         "; a court that takes the day for a legal holiday, Rule 6(a)(6)(B), adds it here, and another one writes it in a comment; such days are known up to {known}"
     )?;
     sheet.end("")
+}
+
+fn push_unlisted(
+    sheet: &mut Sheet<'_>,
+    file: &Table,
+    state: State,
+    day: Day,
+) -> Result<(), AllocError> {
+    let Some(listed) = state_holiday_on(state, day) else {
+        return Ok(());
+    };
+    let mark = where_to_add(sheet, file, Key::State, day)?;
+    sheet.begin_warning(Key::State, mark)?;
+    let (name, statute) = (listed.holiday().name(), state.statute());
+    let doubt = if listed.is_doubtful() {
+        ", doubtful"
+    } else {
+        ""
+    };
+    write!(
+        sheet.text,
+        "{day} is {name} by {statute}{doubt}, and the file doesn't have the date"
+    )?;
+    sheet.end(
+        "; the law may be newer than the file: add the day here, or write its date in a comment if the court doesn't go by it",
+    )
 }
 
 fn push_at_weekend(

@@ -48,7 +48,7 @@ fn is_unsaid(days: &Days, text: &[u8], closing: &Closing) -> bool
 }
 
 /// Whether a text has these bytes.
-fn has_text(text: &[u8], part: &[u8]) -> bool
+pub(crate) fn has_text(text: &[u8], part: &[u8]) -> bool
     ensures { result ≡ has_text text.now part.now }
 {
     let mut found = false;
