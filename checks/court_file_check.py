@@ -30,10 +30,17 @@ KEYS = ["zone", "opens", "closes", "from", "to", "federal", "state", "judges", "
 DOUBT = 9
 # The file ends on 2026-12-31: long enough for the first of these days, and too early from 1 October 2025 on, since it ends with the next year.
 USED = ("2025-09-30", "2025-10-01", "2025-12-31", "2026-03-02")
-# Dates of closings that the text doesn't have.
+# Of what the text doesn't have the date: closings, and holidays of the State.
 SAYS = " It was open on 2025-01-09, 2025-12-24 and 2025-12-26."
 UNSAID = (("it says nothing of the days on which the President closed the government", COURT.replace(SAYS, "")),
           ("it lists one of them, and names another in a comment", COURT.replace(SAYS, " Not closed: 2025-01-09").replace('"2025-12-25",', '"2025-12-24", "2025-12-25",')))
+# The line by which a file names its court, and the same file without a day that the law of the court's State names.
+NAMED = "# Written by `docket court write --court new_york_southern --from 2025 --to 2026`.\n" + COURT
+LACKS = NAMED.replace('    "2026-02-12", # Lincoln\'s Birthday\n', "")
+UNSAID += (("it names its court, and has each day of the State's law", NAMED),
+           ("it lacks one of these days", LACKS),
+           ("it names that day in a comment", LACKS.replace("# A court", "# Open on 2026-02-12. A court")),
+           ("it lacks the day, and doesn't name its court", LACKS.replace("# Written by", "# Made by")))
 # What may differ unseen: nothing says which hours, names and holidays of the state are right.
 FREE = {"opens", "closes", "from", "to", "state", "judges", "rooms"}
 
