@@ -50,13 +50,17 @@ map_pushed : {X Y : Type 0} (f : X → Y) (xs : List X) (x : X) → map f (xs ++
 map_pushed f [] x = refl
 map_pushed f (z ∷ zs) x = ap (λ ys. f z ∷ ys) (map_pushed f zs x)
 
-pub filter_more : {X Y : Type 0} (p : Y → Bool) (f : X → Y) (xs : List X) (i : ℕ) (x : X) → i < length xs → x ≡ get_or xs i x
-    → filter p (map f (take (i + 1) xs)) ≡ filter p (map f (take i xs)) ++ cond (p (f x)) (f x ∷ []) []
-filter_more p f xs i x below is =
-    let more : take (i + 1) xs ≡ take i xs ++ x ∷ [] = take_more xs i x below ∙ ap (λ y. take i xs ++ y ∷ []) (sym is) in
-    ap (λ ys. filter p (map f ys)) more ∙ ap (filter p) (map_pushed f (take i xs) x) ∙ filter_pushed p (map f (take i xs)) (f x)
+-- those that pass of the views of a list so far, and one more
+pub filter_goes_on : {X Y : Type 0} (p : Y → Bool) (f : X → Y) (xs : List X) (i : ℕ) (d : X) (passes : Bool) (before after : List Y) → i < length xs → before ≡ filter p (map f (take i xs))
+    → passes ≡ p (f (get_or xs i d)) → after ≡ before ++ cond passes (f (get_or xs i d) ∷ []) [] → after ≡ filter p (map f (take (i + 1) xs))
+filter_goes_on p f xs i d passes before after below so_far is added =
+    let x = get_or xs i d in
+    added
+    ∙ ap (λ ys. ys ++ cond passes (f x ∷ []) []) so_far
+    ∙ ap (λ b. filter p (map f (take i xs)) ++ cond b (f x ∷ []) []) is
+    ∙ sym (ap (λ ys. filter p (map f ys)) (take_more xs i d below) ∙ ap (filter p) (map_pushed f (take i xs) x) ∙ filter_pushed p (map f (take i xs)) (f x))
 
--- those that pass of a list, with one item more
+-- those that pass of a list so far, and one more
 pub filter_taken : {X : Type 0} (p : X → Bool) (xs : List X) (i : ℕ) (x : X) → i < length xs → x ≡ get_or xs i x
     → filter p (take (i + 1) xs) ≡ filter p (take i xs) ++ cond (p x) (x ∷ []) []
 filter_taken p xs i x below is = ap (filter p) (take_more xs i x below ∙ ap (λ y. take i xs ++ y ∷ []) (sym is)) ∙ filter_pushed p (take i xs) x

@@ -81,11 +81,18 @@ is_autumn d = int_le (pos 1970) (year_of_day d) && (int_le (year_of_day d) (pos 
 abbrev pub next_year_end : ℤ → ℤ
 next_year_end d = on 12 31 (year_of_day d +ℤ pos 1)
 
--- The span ends within a year after a day, where one is given; or with the next year or before that, and the day is in autumn, when the
--- next year's calendar is made.
+-- the span ends within a year after a day
+abbrev pub ends_within_a_year : DaysView → ℤ → Bool
+ends_within_a_year c d = int_lt c.to (d +ℤ pos 365)
+
+-- the day is in autumn, when the next year's calendar is made, and the span ends with that year or before it
+abbrev pub ends_by_next_year : DaysView → ℤ → Bool
+ends_by_next_year c d = is_autumn d && int_le c.to (next_year_end d)
+
+-- one of these, of a day that is given
 abbrev pub ends_soon : DaysView → Option ℤ → Bool
 ends_soon c None = false
-ends_soon c (Some today) = int_lt c.to (today +ℤ pos 365) || (is_autumn today && int_le c.to (next_year_end today))
+ends_soon c (Some today) = ends_within_a_year c today || ends_by_next_year c today
 
 -- a text has these bytes somewhere
 abbrev pub has_text : (text part : List ℕ) → Bool

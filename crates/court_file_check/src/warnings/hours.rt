@@ -1,7 +1,7 @@
 //! Hours and spans that look wrong.
 
 ghost use Rattle.std.specs.Prelude.{◌≡◌, true};
-ghost use Rattle.court_file_check.specs.Warnings.{closes_early, ends_soon, is_autumn, is_long_day, is_short_span, next_year_end};
+ghost use Rattle.court_file_check.specs.Warnings.{closes_early, ends_by_next_year, ends_soon, ends_within_a_year, is_autumn, is_long_day, is_short_span, next_year_end};
 
 use court_clock::{Clock, Day};
 use court_days::Days;
@@ -35,12 +35,23 @@ pub(crate) fn ends_soon(days: &Days, today: Option<Day>) -> bool
     ensures { result ≡ ends_soon days.now today }
 {
     match today {
-        Some(today) => {
-            days.to().number() < today.number() + 365
-                || (is_autumn(today) && days.to().number() <= next_year_end(today).number())
-        }
+        Some(today) => ends_within_a_year(days, today) || ends_by_next_year(days, today),
         None => false,
     }
+}
+
+/// Whether the span ends within a year after the day.
+fn ends_within_a_year(days: &Days, day: Day) -> bool
+    ensures { result ≡ ends_within_a_year days.now day }
+{
+    days.to().number() < day.number() + 365
+}
+
+/// Whether the day is in autumn, and the span ends with the next year or before that.
+fn ends_by_next_year(days: &Days, day: Day) -> bool
+    ensures { result ≡ ends_by_next_year days.now day }
+{
+    is_autumn(day) && days.to().number() <= next_year_end(day).number()
 }
 
 /// Whether the day is in October, November or December.
