@@ -41,7 +41,7 @@ FILES = {
     "doubtful.toml": SHORT_COURT.replace(b'"2025-05-26", ', b""),
     "other.toml": SHORT_COURT.replace(b'"2025-03-28"', b'"2025-03-28", "2025-03-31"'),
     "more.toml": SHORT_COURT.replace(b'"Brandt"', b'"Brandt", "Cole"'),
-    "sound.txt": SHORT_COURT + b"%%\n" + b"".join(ROWS), "faulty.txt": SHORT_COURT.replace(b"08:30", b"8:30") + b"%%\n",
+    "names.txt": b"Kahale\n\nO-Brien\n", "sound.txt": SHORT_COURT + b"%%\n" + b"".join(ROWS), "faulty.txt": SHORT_COURT.replace(b"08:30", b"8:30") + b"%%\n",
     "rows.txt": SHORT_COURT + b"%%\n" + FAULT,
 }
 REPORTS = ("due", "week --judge Ames --of 2025-03-03", "page", "ics --stamp 20250901T120000Z", "json", "json --lines", "sql", "memo",
@@ -171,9 +171,15 @@ TABLE = [
     ("sheet F 1 --input sound.txt", b"", WORDS), ("sheet S 1:25-cv-7", b"", 0), ("sheet N 1", b"", JOURNAL), ("sheet E 1", b"", JOURNAL), ("memo F --today 2025-03-03", b"", WORDS), ("ics F --stamp now", b"", WORDS),
     ("court check court.toml", b"", DOUBT), ("court check doubtful.toml", b"", DOUBT), ("court check divided.toml", b"", COURT), ("court check faulty.toml", b"", COURT), ("court check none.toml", b"", STREAM),
     ("court check", b"", WORDS), ("court check court.toml --today x", b"", WORDS), ("court check faulty.toml" + FULL, b"", STREAM),
-    ("court check written.toml", b"", 0),
+    ("court check written.toml --today 2024-03-01", b"", 0), ("court check written.toml --today 2025-10-01", b"", DOUBT),
     ("court write --court hawaii --from 2024 --to 2026", b"", 0), ("court write --court hawai --from 2024 --to 2026", b"", WORDS),
     ("court write --court hawaii --from 2026 --to 2024", b"", WORDS), ("court write --court hawaii --from x --to 2024", b"", WORDS),
+    ("court write --court hawaii --from 2024 --to 2026 --judges names.txt --rooms names.txt --opens 09:00 --closes 16:30", b"", 0),
+    ("court write --court hawaii --from 2024 --to 2026 --judges rows.txt", b"", COURT), ("court write --court hawaii --from 2024 --to 2026 --rooms none.txt", b"", STREAM),
+    ("court write --court hawaii --from 2024 --to 2026 --opens 9:00", b"", WORDS), ("court write --court hawaii --from 2024 --to 2026 --opens 17:00", b"", WORDS),
+    ("court update W --to 2029", b"", 0), ("court update W --to 2029 --wait 0", b"", 0), ("court update W --to 2026", b"", WORDS), ("court update W --to 2200", b"", WORDS), ("court update W", b"", WORDS),
+    ("court update W --to x", b"", WORDS), ("court update W --to 2029 --wait 86401", b"", WORDS), ("court update F --to 2029", b"", COURT), ("court update N --to 2029", b"", JOURNAL),
+    ("court update W --to 2029" + FULL, b"", STREAM), *(("{} --wait {}".format(words, wait), b"", WORDS) for words in ("enter F", "strike F 1 " + STRIKE, "court change F more.toml") for wait in ("x", "86401", "-1", "1.5")),
     ("court write --court hawaii", b"", WORDS), ("court write --court hawaii --from 2024 --to 2026" + FULL, b"", STREAM),
     ("court change F more.toml", b"", 0), ("court change F other.toml", b"", DIFFERS), ("court change F other.toml --accept", b"", 0),
     ("court change F faulty.toml", b"", COURT), ("court change F none.toml", b"", STREAM), ("court change F", b"", WORDS), ("court change N more.toml", b"", JOURNAL),
@@ -198,6 +204,7 @@ class Place:
         for name, data in FILES.items():
             (self.made / name).write_bytes(data)
         (self.made / "written.toml").write_bytes(self.run(self.made, "court write --court hawaii --from 2024 --to 2026", b"").output)
+        assert self.run(self.made, "init W --court written.toml", b"").status == 0
         for name in ("F", "S"):
             desk = Desk(programs, self.made / "E", SHORT_COURT)
             desk.enter(ROWS + [b"1,open,1:25-cv-7,2025-03-04\n"] * (name == "S"))

@@ -142,8 +142,8 @@ fn corrected<D: Disk, W: Write>(
     )
 }
 
-// Writes what was said while the folder was this program's, now that it is others' again.
-fn write_said<W: Write>(writer: &mut Watched<W>, said: &Watched<Vec<u8>>) -> Result<(), Fault>
+/// Writes what was said while the folder was this program's, now that it is others' again.
+pub fn write_said<W: Write>(writer: &mut Watched<W>, said: &Watched<Vec<u8>>) -> Result<(), Fault>
     requires { has_failed writer.old ≡ false }
 {
     if said.failed() {

@@ -136,7 +136,7 @@ fn not_written<E: Write>(alloc: Global, errors: &mut Watched<E>, fault: &WriteFa
     ensures { (result ≡ write_status fault.now) ⊎ (result ≡ 5) }
 {
     let status = match fault {
-        WriteFault::BadYears => 1,
+        WriteFault::BadYears | WriteFault::BadHours => 1,
         WriteFault::NotReadBack => 2,
         WriteFault::OutOfMemory => return ended_by(alloc, errors, &DeskFault::OutOfMemory),
     };

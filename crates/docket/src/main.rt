@@ -7,6 +7,7 @@ mod answered;
 mod beside;
 mod clerk;
 mod court;
+mod court_update;
 mod enter;
 mod fault;
 mod folder;

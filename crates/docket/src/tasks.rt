@@ -5,6 +5,7 @@ ghost use Rattle.program_streams.specs.Words.{has_failed};
 use crate::alone::{change, correct, init};
 use crate::beside::{ask, cases, check, plain, rows, struck, try_rows};
 use crate::court::{check_file, write_file};
+use crate::court_update::update;
 use crate::enter::enter;
 use crate::fault::Fault;
 use crate::logs::log;
@@ -75,8 +76,13 @@ pub fn done<H: Threads + Wait + Sync, W: Write, E: Write>(
         Task::Log(folder, asked) => log(rt, threads, writer, folder.as_str(), asked)?,
         Task::Report(source, asked) => report(rt, threads, writer, source, asked)?,
         Task::Memo(source, asked) => memo(rt, threads, writer, source, asked)?,
-        Task::CourtCheck(file, asked) => return check_file(rt, writer, file.as_str(), asked),
-        Task::CourtWrite(court, from, to) => write_file(rt.alloc(), writer, *court, *from, *to)?,
+        Task::CourtCheck(file, asked, clock_time) => {
+            return check_file(rt, writer, file.as_str(), *asked, *clock_time);
+        }
+        Task::CourtWrite(court, writing) => write_file(rt, writer, errors, *court, writing)?,
+        Task::CourtUpdate(folder, updating) => {
+            update(rt, threads, writer, errors, folder.as_str(), *updating)?
+        }
         Task::CourtChange(folder, changing) => {
             change(rt, threads, writer, folder.as_str(), changing)?
         }

@@ -79,10 +79,19 @@ abbrev pub check_line : App
 check_line = with_rule (with_rule (with_rule (new_app (codes "check")) (place_rule (codes "file"))) (text_rule (codes "today"))) (flag_rule (codes "capital"))
 
 abbrev pub write_line : App
-write_line = with_rule (with_rule (with_rule (new_app (codes "write")) (needed_rule (codes "court"))) (needed_rule (codes "from"))) (needed_rule (codes "to"))
+write_line =
+    with_rule (with_rule (with_rule (with_rule (with_rule (with_rule (with_rule (new_app (codes "write")) (needed_rule (codes "court"))) (needed_rule (codes "from"))) (needed_rule (codes "to")))
+    (text_rule (codes "judges"))) (text_rule (codes "rooms"))) (text_rule (codes "opens"))) (text_rule (codes "closes"))
+
+-- whether a file is taken though answers differ, and how long to wait for others
+abbrev pub with_taking : App → App
+with_taking line = with_wait (with_rule line (flag_rule (codes "accept")))
+
+abbrev pub update_line : App
+update_line = with_taking (with_rule (folder_line (codes "update")) (needed_rule (codes "to")))
 
 abbrev pub change_line : App
-change_line = with_wait (with_rule (with_rule (folder_line (codes "change")) (place_rule (codes "file"))) (flag_rule (codes "accept")))
+change_line = with_taking (with_rule (folder_line (codes "change")) (place_rule (codes "file")))
 
 -- ---- the whole
 
@@ -107,4 +116,4 @@ command_line = with_subcommand (with_subcommand (with_memo (with_reports (with_k
 
 -- the words after `court`
 abbrev pub court_line : App
-court_line = with_subcommand (with_subcommand (with_subcommand (bare_line (codes "docket court")) check_line.top) write_line.top) change_line.top
+court_line = with_subcommand (with_subcommand (with_subcommand (with_subcommand (bare_line (codes "docket court")) check_line.top) write_line.top) update_line.top) change_line.top

@@ -6,7 +6,7 @@ use Rattle.std.specs.declared.alloc.Global.{Global}
 use Rattle.clap.specs.Kinds.{or_else}
 use Rattle.clap.specs.Words.{Kinds, Row, Text, first_of}
 use Rattle.clap.specs.declared.error.kind.ErrorKind.TheVariants.{ArgumentConflict, MissingRequiredArgument}
-use Rattle.court_clock.specs.Words.{day_of_text}
+use Rattle.court_clock.specs.Words.{day_of_text, minute_of_text}
 use Rattle.court_writing.specs.Words.{district_named, of_district, zone_text}
 use Rattle.desk_warnings.specs.declared.register.HeldBack.{HeldBack}
 use Rattle.desk_warnings.specs.declared.register.HeldBack.TheVariants.{Nothing, Warned}
@@ -33,6 +33,8 @@ use Rattle.program_words.specs.declared.task.Source.{Source}
 use Rattle.program_words.specs.declared.task.Source.TheVariants as source
 use Rattle.program_words.specs.declared.task.Style.{Style}
 use Rattle.program_words.specs.declared.task.Task.{Task}
+use Rattle.program_words.specs.declared.task.Updating.{Updating}
+use Rattle.program_words.specs.declared.task.Writing.{Writing}
 use Rattle.program_words.specs.declared.task.Task.TheVariants as task
 use Rattle.program_words.specs.Given.{clerk_of, faults_beside, faults_if_given, faults_reading, faults_together, faults_without, is_flag, line_of, order_of, seconds_of, wait_of, year_of}
 
@@ -62,6 +64,7 @@ abbrev pub court_meant : (name : Text) → Subcommand
 court_meant name =
     if bytes_eq name (codes "check") then sub.CourtCheck
     else if bytes_eq name (codes "write") then sub.CourtWrite
+    else if bytes_eq name (codes "update") then sub.CourtUpdate
     else sub.CourtChange
 
 -- ---- what was given
@@ -138,6 +141,26 @@ pub record IsCorrecting (clock_time : ℤ) (given : List Row) (correcting : Corr
 -- the faults of the row, of why, and of how long to wait
 abbrev pub correcting_faults : List Row → Kinds
 correcting_faults given = or_else (or_else (faults_reading number_of (first_of (codes "row") given)) (faults_reading line_of (first_of (codes "reason") given))) (wait_faults given)
+
+-- what a court's file has that is written
+pub record IsWriting (given : List Row) (writing : Writing) : Type 0 where
+  pub from : option_and_then year_of (first_of (codes "from") given) ≡ Some writing.from
+  pub to : option_and_then year_of (first_of (codes "to") given) ≡ Some writing.to
+  pub opens : writing.opens ≡ option_and_then minute_of_text (first_of (codes "opens") given)
+  pub closes : writing.closes ≡ option_and_then minute_of_text (first_of (codes "closes") given)
+  pub judges : option_map string_bytes writing.judges ≡ first_of (codes "judges") given
+  pub rooms : option_map string_bytes writing.rooms ≡ first_of (codes "rooms") given
+
+abbrev pub writing_faults : List Row → Kinds
+writing_faults given =
+    or_else (or_else (faults_reading year_of (first_of (codes "from") given)) (faults_reading year_of (first_of (codes "to") given)))
+    (or_else (faults_if_given minute_of_text (first_of (codes "opens") given)) (faults_if_given minute_of_text (first_of (codes "closes") given)))
+
+-- years that are added to a court's file
+pub record IsUpdating (given : List Row) (updating : Updating) : Type 0 where
+  pub to : option_and_then year_of (first_of (codes "to") given) ≡ Some updating.to
+  pub accept : updating.accept ≡ has (codes "accept") given
+  pub wait : wait_of (first_of (codes "wait") given) ≡ Some updating.wait
 
 -- another court's file
 pub record IsChanging (given : List Row) (changing : Changing) : Type 0 where
@@ -245,11 +268,11 @@ IsTask clock_time sub.Report name given (task.Report of asked) = IsSource clock_
 IsTask clock_time sub.Memo name given (task.Memo of asked) = IsSource clock_time given of × IsMemoAsked given asked
 IsTask clock_time sub.Sheet name given (task.Report of asked) =
     IsSheetSource clock_time given of × (asked ≡ sheet_asked clock_time (option_and_then case_called (case_given given)))
-IsTask clock_time sub.CourtCheck name given (task.CourtCheck file asked) =
-    IsText (codes "file") given file × (asked.today ≡ option_and_then day_of_text (first_of (codes "today") given)) × (asked.capital ≡ has (codes "capital") given)
-IsTask clock_time sub.CourtWrite name given (task.CourtWrite court from to) =
-    (option_and_then district_named (first_of (codes "court") given) ≡ Some (of_district court.code.now court.state (zone_text court.zone)))
-    × (option_and_then year_of (first_of (codes "from") given) ≡ Some from) × (option_and_then year_of (first_of (codes "to") given) ≡ Some to)
+IsTask clock_time sub.CourtCheck name given (task.CourtCheck file asked shown) =
+    IsText (codes "file") given file × (asked.today ≡ option_and_then day_of_text (first_of (codes "today") given)) × (asked.capital ≡ has (codes "capital") given) × (asked.state ≡ None) × (shown ≡ clock_time)
+IsTask clock_time sub.CourtWrite name given (task.CourtWrite court writing) =
+    (option_and_then district_named (first_of (codes "court") given) ≡ Some (of_district court.code.now court.state (zone_text court.zone))) × IsWriting given writing
+IsTask clock_time sub.CourtUpdate name given (task.CourtUpdate folder updating) = IsText (codes "folder") given folder × IsUpdating given updating
 IsTask clock_time sub.CourtChange name given (task.CourtChange folder changing) = IsText (codes "folder") given folder × IsChanging given changing
 IsTask clock_time subcommand name given other = ⊥
 
@@ -276,6 +299,6 @@ faults_given sub.Memo given = or_else (report_source_faults given) (memo_faults 
 faults_given sub.Sheet given = or_else (sheet_source_faults given) (faults_reading case_called (case_given given))
 faults_given sub.Court given = MissingRequiredArgument ∷ []
 faults_given sub.CourtCheck given = or_else (faults_without (first_of (codes "file") given)) (faults_unless (is_day_taken (first_of (codes "today") given)))
-faults_given sub.CourtWrite given =
-    or_else (faults_reading district_named (first_of (codes "court") given)) (or_else (faults_reading year_of (first_of (codes "from") given)) (faults_reading year_of (first_of (codes "to") given)))
+faults_given sub.CourtWrite given = or_else (faults_reading district_named (first_of (codes "court") given)) (writing_faults given)
+faults_given sub.CourtUpdate given = or_else (or_else (faults_without (first_of (codes "folder") given)) (faults_reading year_of (first_of (codes "to") given))) (wait_faults given)
 faults_given sub.CourtChange given = or_else (or_else (faults_without (first_of (codes "folder") given)) (faults_without (first_of (codes "file") given))) (wait_faults given)

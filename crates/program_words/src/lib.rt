@@ -19,6 +19,7 @@ mod values;
 mod words;
 
 pub use task::{
-    AsOf, Changing, Correcting, Entering, Keeping, Lines, LogAsked, Source, Style, Task,
+    AsOf, Changing, Correcting, Entering, Keeping, Lines, LogAsked, Source, Style, Task, Updating,
+    Writing,
 };
 pub use words::asked_of;

@@ -42,10 +42,13 @@ pub enum Task {
     Report(Source, ReportAsked),
     /// `memo`.
     Memo(Source, MemoAsked),
-    /// `court check`: a court's file, and what is known of its use.
-    CourtCheck(String, CheckAsked),
-    /// `court write`: the court whose file is written, and the first and the last year.
-    CourtWrite(CourtName, u16, u16),
+    /// `court check`: a court's file, what is known of its use, and the instant that the clock shows, by which it is today where no
+    /// other day is said.
+    CourtCheck(String, CheckAsked, Instant),
+    /// `court write`: the court whose file is written, and what the file has.
+    CourtWrite(CourtName, Writing),
+    /// `court update`: a folder, and up to which year its court's file is to go.
+    CourtUpdate(String, Updating),
     /// `court change`: a folder, and the other court's file.
     CourtChange(String, Changing),
 }
@@ -142,6 +145,34 @@ pub struct Correcting {
     /// The instant that the clock shows, by which that is done on that day.
     pub clock_time: Instant,
     /// Whether it is done though answers differ.
+    pub accept: bool,
+    /// How many seconds to wait while another program keeps rows.
+    pub wait: u32,
+}
+
+/// What a court's file has that is written.
+#[derive(Debug, Drop)]
+pub struct Writing {
+    /// The first year.
+    pub from: u16,
+    /// The last year.
+    pub to: u16,
+    /// When the office opens, in minutes from midnight.
+    pub opens: Option<u16>,
+    /// When it closes.
+    pub closes: Option<u16>,
+    /// A file with the names of judges.
+    pub judges: Option<String>,
+    /// A file with the names of rooms.
+    pub rooms: Option<String>,
+}
+
+/// Years that are added to a folder's court's file.
+#[derive(Clone, Copy, Debug)]
+pub struct Updating {
+    /// The last year.
+    pub to: u16,
+    /// Whether the file is taken though answers differ.
     pub accept: bool,
     /// How many seconds to wait while another program keeps rows.
     pub wait: u32,

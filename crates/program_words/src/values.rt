@@ -5,7 +5,7 @@ ghost use Rattle.std.specs.List.{list_all};
 ghost use Rattle.std.specs.Option.{option_and_then};
 ghost use Rattle.clap.specs.declared.error.kind.ErrorKind.{ErrorKind};
 ghost use Rattle.clap.specs.Words.{first_of, found_of, rows_of};
-ghost use Rattle.court_clock.specs.Words.{day_of_text};
+ghost use Rattle.court_clock.specs.Words.{day_of_text, minute_of_text};
 ghost use Rattle.court_writing.specs.Words.{district_named, of_district, zone_text};
 ghost use Rattle.program_main.specs.Options.Words.{IsAnswerFor, IsFaultAmong};
 ghost use Rattle.office_texts.specs.Names.Words.{case_called};
@@ -15,14 +15,14 @@ ghost use Rattle.program_words.specs.Given.{clerk_of, faults_if_given, faults_re
 use crate::courts::nearest_names;
 use crate::given::{missing, mistake, text_in};
 use clap::ArgMatches;
-use court_clock::Day;
+use court_clock::{Day, minute_from_text};
 use court_writing::CourtName;
 use office_texts::CaseCalled;
 use program_main::{
     DaySaid, OptionsFault, case_option, case_said, day_option, number_of, said_option,
 };
 use row_fields::DateOrder;
-use std::alloc::Global;
+use std::alloc::{AllocError, Global};
 
 /// The order that a text names.
 fn order_of(text: &str) -> Option<DateOrder>
@@ -193,6 +193,39 @@ pub(crate) fn year_in(
             Some(year) => Ok(year),
             None => Err(unread(alloc, text, shown, "write a year as 2030")),
         },
+    }
+}
+
+/// The minute of the day of that name, if one was given. The words call it by `shown`. BadWords where its text is none.
+pub(crate) fn minute_if_given(
+    alloc: Global,
+    given: &ArgMatches<'_>,
+    name: &str,
+    shown: &str,
+) -> Result<Option<u16>, OptionsFault>
+    ensures minute { IfOk result (λ minute. minute ≡ option_and_then minute_of_text (first_of name.now (rows_of (found_of given.now)))) }
+    ensures faults { IsAnswerFor (faults_if_given minute_of_text (first_of name.now (rows_of (found_of given.now)))) result }
+{
+    match text_in(given, name) {
+        None => Ok(None),
+        Some(text) => match minute_from_text(text) {
+            Some(minute) => Ok(Some(minute)),
+            None => Err(unread(alloc, text, shown, "write a time as 08:30 or 17:00")),
+        },
+    }
+}
+
+/// The text of that name, if one was given.
+pub(crate) fn text_if_given(
+    alloc: Global,
+    given: &ArgMatches<'_>,
+    name: &str,
+) -> Result<Option<String>, AllocError>
+    ensures { IfOk result (λ text. option_map string_bytes text ≡ first_of name.now (rows_of (found_of given.now))) }
+{
+    match text_in(given, name) {
+        None => Ok(None),
+        Some(text) => Ok(Some(String::from_str(alloc, text)?)),
     }
 }
 

@@ -3,7 +3,7 @@ use Rattle.std.specs.List.{find}
 use Rattle.std.specs.Str.{bytes_eq}
 use Rattle.court_writing.specs.Courts.{district_named, of_district, zone_text}
 use Rattle.court_writing.proofs.CourtLemmas.{found}
-use Rattle.court_writing.proofs.courts.CourtName.named.Goals as goal
+use Rattle.court_writing.proofs.courts.CourtName.coded.Goals as goal
 
 pub returns : goal.returns
 unfolding district_named
