@@ -60,8 +60,9 @@ fn direction_of(text: &str) -> Option<Direction>
     }
 }
 
+/// What has to be done in time: `filing` or `service`.
 #[tactic(auto, unfolding(crate::specs::Fields::Period::act_of))]
-fn act_of(text: &str) -> Option<Act>
+pub fn act_of(text: &str) -> Option<Act>
     ensures { result ≡ act_of text.now }
 {
     match text {
