@@ -71,7 +71,7 @@ pub start_is : (fields : List (List ℕ)) (work : Work) → start_row fields ≡
 start_is fields work h = by (number_in fields 3) (measured_from fields 4) refl h
   where
     by : (case : Result ℕ RowCause) (m : Result Measured RowCause) → measured_from fields 4 ≡ m
-        → (case >>= (λ n. m >>= (λ x. Ok (Command (command.Start n x.period x.event x.second x.service))))) ≡ Ok work
+        → (case >>= (λ (n : ℕ). m >>= (λ (x : Measured). Ok (Command (command.Start n x.period x.event x.second x.service))))) ≡ Ok work
         → (form_asking work ≡ Start) × (is_office_work work ≡ true)
     by (Err cause) m same e = cc e
     by (Ok n) (Err cause) same e = cc e

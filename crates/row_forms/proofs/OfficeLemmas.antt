@@ -50,7 +50,7 @@ counted false r h = h
 compute_is : (fields : List (List ℕ)) (work : Work) → compute_row fields ≡ Ok work → is_office_work work ≡ true
 compute_is fields work h = by (measured_from fields 3) refl h
   where
-    by : (m : Result Measured RowCause) → measured_from fields 3 ≡ m → (m >>= (λ x. Ok (Query (query.Compute x.period x.event x.second x.service)))) ≡ Ok work → is_office_work work ≡ true
+    by : (m : Result Measured RowCause) → measured_from fields 3 ≡ m → (m >>= (λ (x : Measured). Ok (Query (query.Compute x.period x.event x.second x.service)))) ≡ Ok work → is_office_work work ≡ true
     by (Err cause) same e = cc e
     by (Ok x) same e =
         let is : Query (query.Compute x.period x.event x.second x.service) ≡ work = cc e in

@@ -38,9 +38,9 @@ fn entered_of(text: &str) -> Option<Entered>
     })
 }
 
-/// A number of days followed by `d`, or of hours followed by `h`.
+// A number of days followed by `d`, or of hours followed by `h`.
 #[tactic(auto, unfolding(crate::specs::Fields::Period::length_of))]
-pub fn length_of(text: &str) -> Option<Length>
+fn length_of(text: &str) -> Option<Length>
     ensures { result ≡ length_of text.now }
 {
     match count_of(text, 'd') {
