@@ -22,8 +22,8 @@ pub fn rows_ask_by_their_words()
     ensures { RowsAskByTheirWords }
 {}
 
-/// A row is refused exactly where the table of forms says so, at the desk by its table and by clerk_office by its own: it has another number of fields than its form has columns,
-/// or this is its first column that doesn't take its field.
+/// A row is refused exactly where the table of forms says so, at the desk by its table and by clerk_office by its own: it has
+/// another number of fields than its form has columns, or this is its first column that doesn't take its field.
 #[tactic(auto, using(crate::proofs::TakenLemmas::rows_follow_the_table_lem))]
 pub fn rows_follow_the_table()
     ensures { RowsFollowTheTable }

@@ -22,9 +22,9 @@ use std::alloc::{AllocError, Global};
 /// How many rows the office takes.
 pub const MAX_ROWS: u32 = 100_000;
 
-/// The rows of a text in CSV, in the forms of clerk_office, for a run with this number of clerks. The text has no header; its records may differ in
-/// their number of fields; blank lines are skipped and not counted. Judges and rooms are numbered as the court's file
-/// has them. The first row that can't be read is the fault.
+/// The rows of a text in CSV, in the forms of clerk_office, for a run with this number of clerks. The text has no header; its
+/// records may differ in their number of fields; blank lines are skipped and not counted. Judges and rooms are numbered as
+/// the court's file has them. The first row that can't be read is the fault.
 #[tactic(auto, unfolding(crate::specs::Rows::rows_read))]
 pub fn read_rows(
     alloc: Global,
