@@ -1,5 +1,5 @@
 -- The names of judges or rooms in a text, a line each.
-use Rattle.std.specs.Prelude.{◌≡◌, ℕ, suc, ◌==◌, not, nat_le, List, [], ◌∷◌, ◌++◌, length, map, string_bytes, Option, None, Some, Result, Ok, Err, String, if◌then◌else◌}
+use Rattle.std.specs.Prelude.{◌≡◌, ℕ, suc, ◌==◌, nat_le, List, [], ◌∷◌, ◌++◌, length, map, string_bytes, Option, None, Some, Result, Ok, Err, String, if◌then◌else◌}
 use Rattle.std.specs.List.{slice_split}
 use Rattle.std.specs.Str.{is_utf8, trim}
 use Rattle.std.specs.declared.alloc.Global.{Global}
@@ -11,20 +11,24 @@ use Rattle.court_writing.specs.declared.names.NamesFault.TheVariants.{BadName, T
 
 -- the names so far, and that of the line with this number: it is one that a court's file can take, none before it is the same, and there
 -- are 32 at most
-abbrev pub and_name : (number : ℕ) → List (List ℕ) → (name : List ℕ) → Result (List (List ℕ)) NamesFault
-and_name number names [] = Ok names
-and_name number names (b ∷ bs) =
-    if not (is_name (b ∷ bs)) then Err (BadName number)
-    else if is_named names (b ∷ bs) then Err (Twice number)
+abbrev pub and_new : (number : ℕ) → List (List ℕ) → (name : List ℕ) → Result (List (List ℕ)) NamesFault
+and_new number names name =
+    if is_named names name then Err (Twice number)
     else if nat_le 32 (length names) then Err (TooMany number)
-    else Ok (names ++ (b ∷ bs) ∷ [])
+    else Ok (names ++ name ∷ [])
+
+abbrev pub and_name : (number : ℕ) → List (List ℕ) → (name : List ℕ) → Result (List (List ℕ)) NamesFault
+and_name number names name =
+    if length name == 0 then Ok names
+    else if is_name name then and_new number names name
+    else Err (BadName number)
 
 -- blanks around a name are left out
 abbrev pub and_line : (number : ℕ) → List (List ℕ) → (line : List ℕ) → Result (List (List ℕ)) NamesFault
 and_line number names line = if is_utf8 line then and_name number names (trim line) else Err (BadName number)
 
 -- the lines from one with this number on
-pub each_after : Result (List (List ℕ)) NamesFault → (List (List ℕ) → Result (List (List ℕ)) NamesFault) → Result (List (List ℕ)) NamesFault
+abbrev pub each_after : Result (List (List ℕ)) NamesFault → (List (List ℕ) → Result (List (List ℕ)) NamesFault) → Result (List (List ℕ)) NamesFault
 each_after (Ok names) next = next names
 each_after (Err fault) next = Err fault
 

@@ -1,5 +1,5 @@
 -- A court's file to which years are added.
-use Rattle.std.specs.Prelude.{◌≡◌, ◌⊎◌, ℕ, suc, ◌-◌, nat_le, ◌==◌, ◌&&◌, not, Bool, true, false, ℤ, pos, ◌+ℤ◌, ◌≤ℤ◌, int_le, unsigned_abs, List, [], ◌∷◌, ◌++◌, codes, nat_eq, slice_get, Option, Some, None, Result, Ok, Err, is_some, option_and_then, IfErr, if◌then◌else◌}
+use Rattle.std.specs.Prelude.{◌≡◌, ◌⊎◌, ℕ, suc, ◌-◌, nat_le, ◌==◌, ◌&&◌, not, Bool, true, false, ℤ, pos, ◌+ℤ◌, ◌≤ℤ◌, int_le, unsigned_abs, List, [], ◌∷◌, ◌++◌, codes, length, nat_eq, slice_get, Option, Some, None, Result, Ok, Err, is_some, option_and_then, IfErr, if◌then◌else◌}
 use Rattle.std.specs.List.{find, slice_split, starts_with}
 use Rattle.jiff_tz.specs.Year.{year_of_day}
 use Rattle.court_clock.specs.Words.{day_text, days_through}
@@ -24,11 +24,16 @@ use Rattle.court_writing.specs.declared.update.UpdateFault.TheVariants as fault
 abbrev pub words : List ℕ → List (List ℕ)
 words line = slice_split (λ byte. byte == 32) line
 
--- the first line that begins as `court write` begins it names the court by its eighth word
+-- the first line that begins as `court write` begins it
+abbrev pub line_said : List ℕ → Option (List ℕ)
+line_said text = find (λ line. starts_with nat_eq line (codes "# Written by `docket court write --court ")) (slice_split (λ byte. byte == 10) text)
+
+-- it names the court by its eighth word
+abbrev pub court_in_line : (line : List ℕ) → Option District
+court_in_line line = option_and_then district_named (slice_get (words line) 7)
+
 abbrev pub court_said : List ℕ → Option District
-court_said text =
-    option_and_then (λ line. option_and_then district_named (slice_get (words line) 7))
-    (find (λ line. starts_with nat_eq line (codes "# Written by `docket court write --court ")) (slice_split (λ byte. byte == 10) text))
+court_said text = option_and_then court_in_line (line_said text)
 
 -- ---- the text
 
@@ -43,9 +48,12 @@ join_text Line = codes "\n"
 join_text Comma = codes ",\n"
 
 -- lines are put in at a place, if there are some
+abbrev pub IsPutIn : (is_none : Bool) → (lines : List ℕ) → (text result : List ℕ) → Type 0
+IsPutIn true lines text result = result ≡ text
+IsPutIn false lines text result = (join : Join) × IsPut [] (join_text join ++ lines) text result
+
 abbrev pub IsWithLines : (lines : List ℕ) → (text result : List ℕ) → Type 0
-IsWithLines [] text result = result ≡ text
-IsWithLines (b ∷ bs) text result = (join : Join) × IsPut [] (join_text join ++ b ∷ bs) text result
+IsWithLines lines = IsPutIn (length lines == 0) lines
 
 -- a list's lines of the days from a first one to the end of a year: those of the rest of its own year, and those of the years after it
 abbrev pub lines_after : State → HolidayList → (first : ℤ) → (to : ℕ) → List ℕ
@@ -55,8 +63,7 @@ lines_after state list first to =
 
 -- what is said of the days that are added
 abbrev pub said_list : (key lines : List ℕ) → List ℕ
-said_list key [] = key ++ codes ": no day is added\n"
-said_list key (b ∷ bs) = key ++ codes ": added are\n" ++ b ∷ bs
+said_list key lines = if length lines == 0 then key ++ codes ": no day is added\n" else key ++ codes ": added are\n" ++ lines
 
 abbrev pub said_text : (last end : ℤ) → (federal of_state : List ℕ) → List ℕ
 said_text last end federal of_state =
@@ -72,7 +79,7 @@ pub record IsExtended (state : State) (last : ℤ) (to : ℕ) (text result said 
   pub federal : IsWithLines (lines_after state list.Federal (last +ℤ pos 1) to) with_last with_federal
   pub of_state : IsWithLines (lines_after state list.State (last +ℤ pos 1) to) with_federal with_state
   pub names : IsWithLines (lines_through state Named (last +ℤ pos 1) (on 12 31 (pos to))) with_state result ⊎ (result ≡ with_state)
-  pub said : said ≡ said_text last (on 12 31 (pos to)) (lines_after state list.Federal (last +ℤ pos 1) to) (lines_after state list.State (last +ℤ pos 1) to)
+  pub told : said ≡ said_text last (on 12 31 (pos to)) (lines_after state list.Federal (last +ℤ pos 1) to) (lines_after state list.State (last +ℤ pos 1) to)
 
 -- ---- what it says
 
@@ -105,8 +112,14 @@ IsUpdateOf text to result said = (before : CourtFile) × (court_in text ≡ Ok b
 -- ---- why it isn't made
 
 -- the year is one of 2016 to 2199, the file goes up to the first of these, and it has at most 36,525 days, which is all that it may have
+abbrev pub ends_late_enough : DaysView → Bool
+ends_late_enough c = int_le (on 12 31 (pos 2015)) c.to
+
+abbrev pub has_room : DaysView → (to : ℕ) → Bool
+has_room c to = nat_le (days_through c.from (on 12 31 (pos to))) 36525
+
 abbrev pub is_year : DaysView → (to : ℕ) → Bool
-is_year c to = nat_le 2016 to && (nat_le to 2199 && (int_le (on 12 31 (pos 2015)) c.to && nat_le (days_through c.from (on 12 31 (pos to))) 36525))
+is_year c to = nat_le 2016 to && (nat_le to 2199 && (ends_late_enough c && has_room c to))
 
 abbrev pub refusal_of : CourtFile → Option District → (to : ℕ) → Option UpdateFault
 refusal_of file None to = Some fault.NoCourt

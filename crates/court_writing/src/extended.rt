@@ -1,19 +1,20 @@
 //! The text of a court's file with years added.
 
-ghost use Rattle.std.specs.Prelude.{◌≡◌, ◌++◌, ◌⊎◌, [], ◌<ℤ◌, pos, true, string_bytes, IfOk, IfSome, OnOk};
+ghost use Rattle.std.specs.Prelude.{◌≡◌, ◌++◌, ◌⊎◌, ◌≤◌, [], ◌<ℤ◌, ◌≤ℤ◌, ◌+ℤ◌, codes, pos, string_bytes, IfOk, IfSome, OnOk};
 ghost use Rattle.court_clock.specs.Words.{day_text};
 ghost use Rattle.court_file_text.specs.Words.{key_name};
-ghost use Rattle.court_holidays.specs.States.Words.{on};
-ghost use Rattle.court_writing.specs.Update.{IsExtended, IsLate, IsPut, IsWithLines, is_year, join_text, said_list, said_text};
+ghost use Rattle.court_holidays.specs.States.Words.{IsNear};
+ghost use Rattle.court_writing.specs.Update.{IsExtended, IsLate, IsPut, IsWithLines, join_text, said_list, said_text};
 
 use crate::lines::{Line, push_lines};
 use crate::lists::days_after;
 use crate::put::{Join, last_day_place, list_end, names_end, put};
 use crate::update::{UpdateFault, Updated};
+use crate::writing::last_day;
 use court_clock::Day;
 use court_days::{Days, HolidayList};
 use court_file_text::Key;
-use court_holidays::{State, later, on};
+use court_holidays::{State, later};
 use std::alloc::{AllocError, Global};
 use std::fmt::Write;
 
@@ -25,24 +26,36 @@ pub(crate) fn extended(
     before: &Days,
     to: u16,
 ) -> Result<Updated, UpdateFault>
-    requires year { is_year before.now to ≡ true }
-    requires more { before.now.to <ℤ on 12 31 (pos to) }
+    requires first { 2016 ≤ to }
+    requires last { to ≤ 2199 }
+    requires early { pos 0 ≤ℤ before.now.to }
+    requires room { before.now.to <ℤ pos 84005 }
     ensures extended { IfOk result (λ updated. IsExtended state before.now.to to text.now updated.file.items (string_bytes updated.said)) }
     ensures late { IsLate result }
 {
     let last = before.to();
-    let first = later(last, 1);
-    let end = on(to as i16, 12, 31);
+    let first = day_after(last);
+    let end = last_day(to);
     let federal = days_after(alloc, state, HolidayList::Federal, first, to)?;
     let of_state = days_after(alloc, state, HolidayList::State, first, to)?;
     let mut names = String::new(alloc);
     push_lines(&mut names, state, Line::Named, first, end)?;
-    let file = with_last_day(alloc, text, last, end)?;
-    let file = with_days(alloc, &file, Key::Federal, federal.as_str())?;
-    let file = with_days(alloc, &file, Key::State, of_state.as_str())?;
-    let file = with_names(alloc, &file, names.as_str())?;
+    let with_last = with_last_day(alloc, text, last, end)?;
+    let with_federal = with_days(alloc, &with_last, Key::Federal, federal.as_str())?;
+    let with_state = with_days(alloc, &with_federal, Key::State, of_state.as_str())?;
+    let file = with_names(alloc, &with_state, names.as_str())?;
     let said = said_of(alloc, last, end, federal.as_str(), of_state.as_str())?;
     Ok(Updated { file, said })
+}
+
+/// The day after a file's last one, which is before 31 December 2199.
+fn day_after(last: Day) -> Day
+    requires early { pos 0 ≤ℤ last }
+    requires room { last <ℤ pos 84005 }
+    ensures value { result ≡ last +ℤ pos 1 }
+    ensures near { IsNear 0 result }
+{
+    later(last, 1)
 }
 
 /// What is said of the days that were added.
@@ -67,9 +80,17 @@ fn push_said(said: &mut String, key: Key, lines: &str) -> Result<(), AllocError>
     ensures { OnOk result (string_bytes said.new ≡ string_bytes said.old ++ said_list (key_name key) lines.now) }
 {
     if lines.is_empty() {
-        return write!(said, "{key}: no day is added\n");
+        push_none(said, key)
+    } else {
+        write!(said, "{key}: added are\n{lines}")
     }
-    write!(said, "{key}: added are\n{lines}")
+}
+
+/// Adds that no day is added to a list.
+fn push_none(said: &mut String, key: Key) -> Result<(), AllocError>
+    ensures { OnOk result (string_bytes said.new ≡ string_bytes said.old ++ (key_name key ++ codes ": no day is added\n")) }
+{
+    write!(said, "{key}: no day is added\n")
 }
 
 /// The text with another last day.
@@ -110,12 +131,16 @@ fn with_names(alloc: Global, text: &[u8], lines: &str) -> Result<Vec<u8>, Update
     ensures put { IfOk result (λ put. IsWithLines lines.now text.now put.items ⊎ (put.items ≡ text.now)) }
     ensures late { IsLate result }
 {
-    if let Some((at, join)) = names_end(text) {
-        if let Some(put) = joined(alloc, text, at, join, lines)? {
-            return Ok(put);
-        }
+    if lines.is_empty() {
+        return Ok(Vec::from_slice(alloc, text)?);
     }
-    Ok(Vec::from_slice(alloc, text)?)
+    let Some((at, join)) = names_end(text) else {
+        return Ok(Vec::from_slice(alloc, text)?);
+    };
+    match joined(alloc, text, at, join, lines)? {
+        Some(put) => Ok(put),
+        None => Ok(Vec::from_slice(alloc, text)?),
+    }
 }
 
 /// The text with lines that come after `at` bytes. None where the text has fewer.

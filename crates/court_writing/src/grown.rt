@@ -7,10 +7,11 @@ ghost use Rattle.court_writing.specs.Update.{IsGrown, IsKept, IsLate, was_in};
 
 use crate::listed::{federal_on, state_on};
 use crate::update::UpdateFault;
+use crate::writing::last_day;
 use court_clock::Day;
 use court_days::{Court, Days, HolidayList};
 use court_file_text::CourtFault;
-use court_holidays::{State, count_through, day_at, on};
+use court_holidays::{State, count_through, day_at};
 use std::alloc::Global;
 
 /// Whether the text is the file with those days, up to the end of the year. `Beyond` has a day that it lists and that the court's
@@ -33,7 +34,7 @@ pub(crate) fn check_grown(
         Err(_) => return Err(UpdateFault::NotReadBack),
     };
     let days = court.days();
-    if days.from() != before.from() || days.to() != on(to as i16, 12, 31) {
+    if !is_span(before, days, to) {
         return Err(UpdateFault::NotReadBack);
     }
     match first_other(state, before, days) {
@@ -41,6 +42,16 @@ pub(crate) fn check_grown(
         Some(day) if before.covered(day) => Err(UpdateFault::NotReadBack),
         Some(day) => Err(UpdateFault::Beyond(day)),
     }
+}
+
+/// Whether the days begin as the old ones did and go on to the end of the year.
+fn is_span(before: &Days, days: &Days, to: u16) -> bool
+    requires first { 2016 ≤ to }
+    requires last { to ≤ 2199 }
+    ensures from { result ≡ true → days.now.from ≡ before.now.from }
+    ensures to { result ≡ true → days.now.to ≡ on 12 31 (pos to) }
+{
+    days.from() == before.from() && days.to() == last_day(to)
 }
 
 /// The first covered day that isn't in the lists as it has to be.

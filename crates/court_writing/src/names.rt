@@ -3,7 +3,7 @@
 ghost use Rattle.std.specs.Prelude.{◌≡◌, ◌==◌, [], map, string_bytes, OnErr, OnOk};
 ghost use Rattle.std.specs.List.{slice_split};
 ghost use Rattle.court_file_check.specs.Inside.Names.{texts_of};
-ghost use Rattle.court_writing.specs.Names.{IsAdded, IsRead, and_line, each_line, fault_line, names_in};
+ghost use Rattle.court_writing.specs.Names.{IsAdded, IsRead, and_line, and_name, and_new, each_line, fault_line, names_in};
 ghost use Rattle.court_writing.specs.Own.{texts};
 ghost use Rattle.court_writing.specs.declared.names.NamesFault.TheVariants.{OutOfMemory};
 
@@ -73,7 +73,10 @@ fn names_of(alloc: Global, lines: &[&[u8]]) -> Result<Vec<String>, NamesFault>
 {
     let mut names = Vec::new(alloc);
     for (place, line) in lines.iter().enumerate() {
-        add_line(alloc, &mut names, place + 1, line)?;
+        match add_line(alloc, &mut names, place + 1, line) {
+            Ok(()) => {}
+            Err(fault) => return Err(fault),
+        }
     }
     Ok(names)
 }
@@ -87,16 +90,39 @@ fn add_line(
 ) -> Result<(), NamesFault>
     ensures { IsAdded result (texts_of names.new.items) (and_line number (texts_of names.old.items) line.now) }
 {
-    let Ok(line) = str::from_utf8(line) else {
-        return Err(NamesFault::BadName(number));
-    };
-    let name = line.trim();
+    match str::from_utf8(line) {
+        Ok(line) => add_name(alloc, names, number, line.trim()),
+        Err(_) => Err(NamesFault::BadName(number)),
+    }
+}
+
+/// Adds the name, if it isn't empty.
+fn add_name(
+    alloc: Global,
+    names: &mut Vec<String>,
+    number: usize,
+    name: &str,
+) -> Result<(), NamesFault>
+    ensures { IsAdded result (texts_of names.new.items) (and_name number (texts_of names.old.items) name.now) }
+{
     if name.is_empty() {
-        return Ok(());
+        Ok(())
+    } else if is_name(name) {
+        add_new(alloc, names, number, name)
+    } else {
+        Err(NamesFault::BadName(number))
     }
-    if !is_name(name) {
-        return Err(NamesFault::BadName(number));
-    }
+}
+
+/// Adds a name that a court's file can take.
+fn add_new(
+    alloc: Global,
+    names: &mut Vec<String>,
+    number: usize,
+    name: &str,
+) -> Result<(), NamesFault>
+    ensures { IsAdded result (texts_of names.new.items) (and_new number (texts_of names.old.items) name.now) }
+{
     if is_named(names, name) {
         return Err(NamesFault::Twice(number));
     }

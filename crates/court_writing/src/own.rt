@@ -80,7 +80,7 @@ impl CourtOwn {
     {
         match &self.judges {
             Some(names) => texts_of(alloc, names),
-            None => Vec::from_slice(alloc, &["Ames", "Brandt", "Calloway"]),
+            None => three(alloc, "Ames", "Brandt", "Calloway"),
         }
     }
 
@@ -90,7 +90,7 @@ impl CourtOwn {
     {
         match &self.rooms {
             Some(names) => texts_of(alloc, names),
-            None => Vec::from_slice(alloc, &["1", "2", "3"]),
+            None => three(alloc, "1", "2", "3"),
         }
     }
 
@@ -131,4 +131,20 @@ fn texts_of(alloc: Global, names: &[String]) -> Result<Vec<&str>, AllocError>
         found.push(name.as_str())?;
     }
     Ok(found)
+}
+
+/// Three names.
+fn three<'a>(
+    alloc: Global,
+    first: &'a str,
+    second: &'a str,
+    third: &'a str,
+) -> Result<Vec<&'a str>, AllocError>
+    ensures { IfOk result (λ names. texts names.items ≡ first.now ∷ second.now ∷ third.now ∷ []) }
+{
+    let mut names = Vec::new(alloc);
+    names.push(first)?;
+    names.push(second)?;
+    names.push(third)?;
+    Ok(names)
 }

@@ -1,16 +1,17 @@
 //! Years that are added to a court's file.
 
-ghost use Rattle.std.specs.Prelude.{◌≡◌, ◌≤◌, ◌<ℤ◌, int_le, option_map, pos, slice_get, string_bytes, IfOk};
+ghost use Rattle.std.specs.Prelude.{◌≡◌, ◌≤◌, ◌<ℤ◌, ◌≤ℤ◌, int_le, option_map, pos, slice_get, string_bytes, IfOk};
 ghost use Rattle.std.specs.Bool.{OnFalse, OnTrue};
 ghost use Rattle.court_days.specs.Words.{court_in, file_of};
 ghost use Rattle.court_holidays.specs.States.Words.{on};
 ghost use Rattle.court_writing.specs.Courts.{of_district, zone_text};
-ghost use Rattle.court_writing.specs.Update.{IsRefused, IsUpdateFrom, IsUpdateOf, court_said, is_year, refusal, refusal_of, words};
+ghost use Rattle.court_writing.specs.Update.{IsRefused, IsUpdateFrom, IsUpdateOf, court_in_line, court_said, ends_late_enough, has_room, is_year, line_said, refusal, refusal_of, words};
 ghost use Rattle.court_writing.specs.declared.update.UpdateFault.TheVariants.{OutOfMemory};
 
 use crate::courts::CourtName;
 use crate::extended::extended;
 use crate::grown::check_grown;
+use crate::writing::last_day;
 use court_clock::Day;
 use court_days::{Court, Days};
 use court_file_text::{CourtFault, Key};
@@ -67,6 +68,7 @@ pub struct Updated {
 /// Adds years to a court's file, up to the end of that one: the days that the court's lists have after the file's last day, each list's
 /// at its end and their names at the end of the table of names. All other bytes stay. Of the faults the first that applies of
 /// `NotRead`, `NoCourt`, `BadYear` and `Reached` comes, and the others after these; `OutOfMemory` says that memory ran out.
+#[tactic(auto, using(crate::proofs::UpdateLemmas::memory_refused, crate::proofs::UpdateLemmas::not_read))]
 pub fn court_update(alloc: Global, text: &[u8], to: u16) -> Result<Updated, UpdateFault>
     ensures updated { IfOk result (λ updated. IsUpdateOf text.now to updated.file.items (string_bytes updated.said)) }
     ensures refused { IsRefused (refusal (court_in text.now) (court_said text.now) to) result }
@@ -103,11 +105,26 @@ fn update_of(alloc: Global, text: &[u8], court: &Court, to: u16) -> Result<Updat
 fn is_year(days: &Days, to: u16) -> bool
     ensures value { result ≡ is_year days.now to }
     ensures years { OnTrue result ((2016 ≤ to) × (to ≤ 2199)) }
+    ensures early { OnTrue result (pos 0 ≤ℤ days.now.to) }
 {
-    2016 <= to
-        && to <= 2199
-        && on(2015, 12, 31).number() <= days.to().number()
-        && count_through(days.from(), on(to as i16, 12, 31)) <= 36_525
+    2016 <= to && to <= 2199 && ends_late_enough(days) && has_room(days, to)
+}
+
+/// Whether the file with these days goes up to the first year that can be added.
+fn ends_late_enough(days: &Days) -> bool
+    ensures value { result ≡ ends_late_enough days.now }
+    ensures early { OnTrue result (pos 0 ≤ℤ days.now.to) }
+{
+    on(2015, 12, 31).number() <= days.to().number()
+}
+
+/// Whether the file with these days can have all days up to the end of the year.
+fn has_room(days: &Days, to: u16) -> bool
+    requires first { 2016 ≤ to }
+    requires last { to ≤ 2199 }
+    ensures { result ≡ has_room days.now to }
+{
+    count_through(days.from(), last_day(to)) <= 36_525
 }
 
 /// Whether the file with these days goes up to the end of the year already.
@@ -115,19 +132,38 @@ fn reaches(days: &Days, to: u16) -> bool
     requires first { 2016 ≤ to }
     requires last { to ≤ 2199 }
     ensures value { result ≡ int_le (on 12 31 (pos to)) days.now.to }
-    ensures no { OnFalse result (days.now.to <ℤ on 12 31 (pos to)) }
+    ensures room { OnFalse result (days.now.to <ℤ pos 84005) }
 {
-    on(to as i16, 12, 31).number() <= days.to().number()
+    last_day(to).number() <= days.to().number()
 }
 
 /// The court that a text says it is the file of: the eighth word of the line that says so is its code.
 pub fn court_said(text: &[u8]) -> Option<CourtName>
     ensures { option_map (λ c. of_district c.code.now c.state (zone_text c.zone)) result ≡ court_said text.now }
 {
-    let line = text.split(|byte| *byte == b'\n').find(|line| line.starts_with(
+    match line_said(text) {
+        Some(line) => court_in_line(line),
+        None => None,
+    }
+}
+
+/// The line of a text that says so.
+fn line_said(text: &[u8]) -> Option<&[u8]>
+    ensures { option_map (λ line. line.now) result ≡ line_said text.now }
+{
+    text.split(|byte| *byte == b'\n').find(|line| line.starts_with(
         b"# Written by `docket court write --court ",
-    ))?;
-    CourtName::coded(eighth_word(line)?)
+    ))
+}
+
+/// The court that such a line names.
+fn court_in_line(line: &[u8]) -> Option<CourtName>
+    ensures { option_map (λ c. of_district c.code.now c.state (zone_text c.zone)) result ≡ court_in_line line.now }
+{
+    match eighth_word(line) {
+        Some(word) => CourtName::coded(word),
+        None => None,
+    }
 }
 
 /// The eighth of the words of a line, between blanks.

@@ -199,7 +199,7 @@ fn first_day(year: u16) -> Day
 }
 
 /// 31 December of the year.
-fn last_day(year: u16) -> Day
+pub(crate) fn last_day(year: u16) -> Day
     requires { IsStated (pos year) }
     ensures value { result ≡ days_from_civil (pos year) 12 31 }
     ensures near { IsNear 0 result }

@@ -1,8 +1,9 @@
-use Rattle.std.proofs.Common.{◌≡◌, ◌∙◌, Ok, rules, sym}
+use Rattle.std.proofs.Common.{◌≡◌, ◌∙◌, Ok, ap, rules}
 use Rattle.toml.specs.View.{table_view}
 use Rattle.court_file_text.specs.declared.key.Key.TheVariants.{Judges, Rooms}
 use Rattle.court_days.specs.Words.{court_of, file_of}
 use Rattle.court_writing.specs.Courts.{zone_text}
+use Rattle.court_writing.specs.Own.{texts}
 use Rattle.court_writing.proofs.CourtLemmas.{names_read, read_once, zone_read}
 use Rattle.court_writing.proofs.writing.check_document.Goals as goal
 
@@ -23,8 +24,8 @@ returns-then-is_of_years-clause-written c =
         zone_is = zone_read document (file_of c.in-Ok.read) (zone_text c.args.court.zone) read zone;
         opens = hours.0 ∙ is.opens;
         closes = hours.1 ∙ is.closes;
-        judges = judges ∙ is.judges;
-        rooms = rooms ∙ is.rooms;
+        judges = judges ∙ ap texts c.deref.ensures.value ∙ is.judges;
+        rooms = rooms ∙ ap texts c.deref-2.ensures.value ∙ is.rooms;
         days = days;
       },
     )

@@ -12,7 +12,7 @@ returns-in-NotText c =
     let (met, begins, no_text) = c.in_ok-read_first.ensures.no_text (ap Ok c.in-NotText.is) in
     sym (clerk_unread c.args.clerks c.args.bytes.now met begins.later begins.is no_text)
 
-pub returns-in-Text : goal.returns-in-Text
-returns-in-Text c =
+pub returns : goal.returns
+returns c =
     let (begins, text) = c.in_ok-read_first.ensures.text (ap Ok c.in-Text.is) in
     c.clerk_of.ensures ∙ ap (clerk_of c.args.clerks) c.column.ensures ∙ sym (clerk_first c.args.clerks c.args.bytes.now (fields_of c.read_first.new.fields) begins.later begins.is text)
