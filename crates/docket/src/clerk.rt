@@ -111,6 +111,13 @@ impl<R: Read + Drop> OfClerk<R> {
     }
 }
 
+// Copies as many bytes as there is room for, and gives their number.
+fn copied(from: &[u8], to: &mut [u8]) -> usize {
+    let count = from.len().min(to.len());
+    to[..count].copy_from_slice(&from[..count]);
+    count
+}
+
 /// The lines of standard input, each as it is to be read and none too long.
 pub fn lines_of(rt: &HostRuntime, lines: Lines) -> Result<ShortLines<OfClerk<Stdin>>, Fault> {
     let clerk = clerk_of(rt, lines)?;
@@ -125,9 +132,10 @@ impl<R: Read + Drop> Read for OfClerk<R> {
         if self.given >= self.made.len() {
             self.make()?;
         }
-        let rest = self.made.get(self.given..).unwrap_or(&[]);
-        let count = rest.len().min(buf.len());
-        buf[..count].copy_from_slice(&rest[..count]);
+        let count = match self.made.get(self.given..) {
+            Some(rest) => copied(rest, buf),
+            None => 0,
+        };
         self.given = self.given.saturating_add(count);
         Ok(count)
     }

@@ -112,19 +112,22 @@ fn answered<W: Write>(
 fn after_turn<E: Write>(
     alloc: Global,
     errors: &mut Watched<E>,
-    mut session: Session,
+    session: Session,
     entries: Option<Vec<Vec<u8>>>,
     before: u32,
     after: u32,
 ) -> Result<Session, Fault> {
+    let Session {
+        left,
+        account,
+        mut own,
+    } = session;
     if let Some(entries) = entries {
-        let text = session
-            .own
-            .told_of_corrections(alloc, session.left.standing(), &entries)?;
+        let text = own.told_of_corrections(alloc, left.standing(), &entries)?;
         say(errors, &text);
     }
-    session.own.add(before, after)?;
-    Ok(session)
+    own.add(before, after)?;
+    Ok(Session { left, account, own })
 }
 
 // A turn of a session, which keeps rows and answers them.

@@ -78,10 +78,12 @@ sheet_line = with_rule (with_rule (with_source (new_app (codes "sheet"))) (text_
 abbrev pub check_line : App
 check_line = with_rule (with_rule (with_rule (new_app (codes "check")) (place_rule (codes "file"))) (text_rule (codes "today"))) (flag_rule (codes "capital"))
 
+-- the names and the hours that a court has of its own
+abbrev pub with_own : App → App
+with_own line = with_rule (with_rule (with_rule (with_rule line (text_rule (codes "judges"))) (text_rule (codes "rooms"))) (text_rule (codes "opens"))) (text_rule (codes "closes"))
+
 abbrev pub write_line : App
-write_line =
-    with_rule (with_rule (with_rule (with_rule (with_rule (with_rule (with_rule (new_app (codes "write")) (needed_rule (codes "court"))) (needed_rule (codes "from"))) (needed_rule (codes "to")))
-    (text_rule (codes "judges"))) (text_rule (codes "rooms"))) (text_rule (codes "opens"))) (text_rule (codes "closes"))
+write_line = with_own (with_rule (with_rule (with_rule (new_app (codes "write")) (needed_rule (codes "court"))) (needed_rule (codes "from"))) (needed_rule (codes "to")))
 
 -- whether a file is taken though answers differ, and how long to wait for others
 abbrev pub with_taking : App → App

@@ -2,7 +2,7 @@
 
 ghost use Rattle.std.specs.Prelude.{◌≡◌, codes, IfOk};
 ghost use Rattle.clap.specs.Words.{app_of, new_app};
-ghost use Rattle.program_words.specs.CommandLine.{change_line, check_line, court_line, update_line, with_taking, write_line};
+ghost use Rattle.program_words.specs.CommandLine.{change_line, check_line, court_line, update_line, with_own, with_taking, write_line};
 
 use crate::command::bare;
 use crate::folder_commands::{of_folder, with_wait};
@@ -109,6 +109,13 @@ fn write<'a>(alloc: Global, names: &'a str) -> Result<Command<'a>, AllocError>
     let command = with_needed(alloc, command, "court", "NAME", COURT_NAME)?;
     let command = with_needed(alloc, command, "from", "YEAR", "The first year")?;
     let command = with_needed(alloc, command, "to", "YEAR", LAST_YEAR)?;
+    with_own(alloc, command)
+}
+
+/// The command, which also takes the names and the hours that a court has of its own.
+fn with_own<'a>(alloc: Global, command: Command<'a>) -> Result<Command<'a>, AllocError>
+    ensures { IfOk result (λ whole. app_of whole ≡ with_own (app_of command.entry)) }
+{
     let command = with_text(alloc, command, "judges", "FILE", JUDGES)?;
     let command = with_text(alloc, command, "rooms", "FILE", ROOMS)?;
     let command = with_text(alloc, command, "opens", "HH:MM", OPENS)?;

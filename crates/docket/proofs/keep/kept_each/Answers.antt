@@ -5,6 +5,6 @@ pub returns-in-Ok-clause-promised : goal.returns-in-Ok-clause-promised
 returns-in-Ok-clause-promised g c = λ kept keeps.
     let (bytes, consumed, promised) = c.enter.ensures.promised kept keeps in (lines_of bytes, promised)
 
-pub returns-clause-promised : goal.returns-clause-promised
-returns-clause-promised g c = λ kept keeps.
+pub returns-in-Err-clause-promised : goal.returns-in-Err-clause-promised
+returns-in-Err-clause-promised g c = λ kept keeps.
     let (bytes, consumed, promised) = c.enter.ensures.promised kept keeps in (lines_of bytes, promised)
