@@ -31,7 +31,7 @@ pub fn rows_follow_the_table()
 
 /// The desk reads a row of clerk_office as that does, and such a row asks for nothing that the desk alone takes: its period is one
 /// of the Rules, or a number of days or hours.
-#[tactic(auto, using(crate::proofs::OfficeLemmas::office_rows_are_read_alike_lem, crate::proofs::OfficeLemmas::rows_are_office_work_lem))]
+#[tactic(auto, using(crate::proofs::OfficeLemmas::rows_are_office_work_lem))]
 pub fn office_rows_are_read_alike()
     ensures alike { OfficeRowsAreReadAlike }
     ensures rows { RowsAreOfficeWork }
