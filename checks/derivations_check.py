@@ -50,7 +50,7 @@ def deadline_of(period, date, time, second, kind):
         days, act, served, right_from = RULES[period]
         length, direction = ("d", days), AFTER
     elif period in SET:
-        length, direction, act, served, right_from = ("set", 0), AFTER, period.split("/")[1], False, None
+        length, direction, act, served, right_from = ("at" if time else "set", 0), AFTER, period.split("/")[1], False, None
     else:
         entered, direction, act, start, _ = period.split("/")
         length, served, right_from = (entered[-1], int(entered[:-1])), start == "served", None
@@ -117,7 +117,7 @@ def derivations(data, output):
                 if fields[0] == "compute":
                     deadline = deadline_of(*fields[1:])
                 elif fields[0] == "set":
-                    deadline = started[fields[1], shown[1]] = deadline_of("set/" + fields[4], fields[2], "", "", "")
+                    deadline = started[fields[1], shown[1]] = deadline_of("set/" + fields[4], fields[2], fields[3], "", "")
                 elif fields[0] == "start":
                     deadline = started[fields[1], shown[1]] = deadline_of(*fields[2:])
                 else:
@@ -158,7 +158,8 @@ def grant_text(grant):
 def of_row(row):
     """The deadline of a docketed row."""
     second = "" if row.second is None else day_text(row.second)
-    deadline = deadline_of(row.period.text, day_text(row.event.day), minute_text(row.event.minute), second, row.kind)
+    time = "" if row.period.unit == "set" else minute_text(row.event.minute)
+    deadline = deadline_of(row.period.text, day_text(row.event.day), time, second, row.kind)
     return deadline._replace(grants=[grant_text(grant) for grant in row.grants])
 
 
@@ -200,7 +201,7 @@ def asked(deadline):
     """The deadline as the second program has it."""
     grants = [grant_of(grant, None) for grant in deadline.grants]
     event = periods.Event(deadline.event, deadline.minute)
-    period = periods.set_to(deadline.act) if deadline.text in SET else periods.period_of_text(deadline.text)
+    period = periods.set_to(deadline.act, deadline.length[0] == "at") if deadline.text in SET else periods.period_of_text(deadline.text)
     return periods.Deadline(period, event, deadline.second, deadline.kind, grants, None)
 
 

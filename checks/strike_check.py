@@ -56,7 +56,7 @@ def drawn_row(draw):
         "1,open,{},{}".format(case, day),
         "1,start,{},{},{},,,".format(case, draw.choice(["4m", "12a1Ai", "59b", "59e"]), day),
         "1,start,{},{},{},,,".format(case, draw.choice(["4m", "12a1Ai", "59b", "59e"]), day),
-        "1,set,{},{},,{}".format(case, day, draw.choice(["filing", "service"])),
+        "1,set,{},{},{},{}".format(case, day, draw.choice(["", "09:30"]), draw.choice(["filing", "service"])),
         "1,file,{},{},{},10:00,electronic".format(case, number, day),
         "1,extend,{},{},+7d,{},09:00,yes,yes,yes".format(case, number, day),
         "1,motion,{},{},{}".format(case, day, draw.choice(["14", "7", "exparte"])),

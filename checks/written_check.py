@@ -60,7 +60,7 @@ FORMS = {
     "compute": "clerk command period date time? second? kind?",
     "sheet": "clerk command case",
     "calendar": "clerk command judge. date",
-    "set": "clerk command case date time! act",
+    "set": "clerk command case date time? act",
 }
 NAMES = sorted({column.strip("?!.") for form in FORMS.values() for column in form.split()})
 
@@ -97,7 +97,7 @@ def drawn(draw, column, clear):
         "cause!": lambda: draw.choice(["yes", "no"]), "neglect!": lambda: draw.choice(["yes", "no"]),
         "need": lambda: draw.choice(["14", "7", "exparte"]), "judge": lambda: "+".join(draw.sample(JUDGES, draw.randint(1, 3))),
         "judge.": lambda: draw.choice(JUDGES), "room": lambda: draw.choice(ROOMS), "slots": lambda: draw.choice(["2", "3q", "1"]),
-        "list": lambda: draw.choice(["federal", "state"]), "time!": lambda: "", "act": lambda: draw.choice(["filing", "service"]),
+        "list": lambda: draw.choice(["federal", "state"]), "act": lambda: draw.choice(["filing", "service"]),
     }[column]()
 
 

@@ -12,8 +12,8 @@ from reference.civil import civil, day_of_text, day_text, instant_at, minute_tex
 
 # The calendar as it is when the deadline is shown: its span, its lists of holidays, its outages (day, from, to).
 Calendar = namedtuple("Calendar", "clock first last federal state outages names")
-# What a row says of a deadline: `second` and `kind` may be None, `length` is ("d" or "h", number), or ("set", 0), `grants` are texts
-# as `+7d`, `+24h` or a date. `right_from` is the day from which the rule of its period is right, or None; `text` is the
+# What a row says of a deadline: `second` and `kind` may be None, `length` is ("d" or "h", number), or of an end that an order sets
+# ("set", 0) for a day and ("at", 0) for a time; `grants` are texts as `+7d`, `+24h` or a date. `right_from` is the day from which the rule of its period is right, or None; `text` is the
 # period as the row has it.
 Deadline = namedtuple("Deadline", "length direction act served kind event minute second summons right_from grants text")
 # A line: the day that it shows, or None; what happened; the section that it cites.
@@ -27,6 +27,8 @@ KINDS = {"A": "by hand", "B": "at office or home", "C": "by mail", "D": "by leav
          "F": "by other means"}
 LAST_DAY = {AFTER: "6(a)(1)(C)", BEFORE: "6(a)(1)(C), 6(a)(5)"}
 SAME_TIME = {AFTER: "6(a)(2)(C)", BEFORE: "6(a)(2)(C), 6(a)(5)"}
+# Where a time is fixed 6(a) doesn't apply, as the Committee Note says; else an instant ends hours.
+BY_ORDER, BY_HOURS = "6(a), 2009 Note", "6(a)(2)"
 WEEKDAYS = ["Mon", "Tue", "Wed", "Thu", "Fri", "Sat", "Sun"]
 
 
@@ -103,8 +105,13 @@ def shown_at(calendar, instant):
 def begins(calendar, deadline, line):
     unit, count = deadline.length
     if unit == "set":
-        expect(line == Line(deadline.event, "set for this day by an order", "6(a), 2009 Note"), "an order sets the day")
+        expect(line == Line(deadline.event, "set for this day by an order", BY_ORDER), "an order sets the day")
         return runs(deadline.event, False, deadline.grants)
+    if unit == "at":
+        end = instant_at(calendar.clock.zone, deadline.event, 60 * deadline.minute)
+        day, time = shown_at(calendar, end)
+        expect(line == Line(day, "set by an order for " + time, BY_ORDER), "an order sets the time")
+        return runs_until(end, deadline.grants, BY_ORDER)
     if unit == "d":
         event = later_event(deadline)
         if deadline.right_from is not None and event < deadline.right_from:
@@ -207,7 +214,7 @@ def runs(last, three, grants):
 def moves(deadline):
     """The clerk's office matters for filing, and not where the end is a date certain: one to which the time was extended last, or
     one that an order sets."""
-    certain = deadline.grants[-1][0] != "+" if deadline.grants else deadline.length[0] == "set"
+    certain = deadline.grants[-1][0] != "+" if deadline.grants else deadline.length[0] in ("set", "at")
     return deadline.act == "filing" and not certain
 
 
@@ -241,7 +248,7 @@ def extension(deadline, grant):
 
 
 def fits(deadline, grant):
-    return (grant[-1] == "h" and grant[0] == "+") == (deadline.length[0] == "h")
+    return (grant[-1] == "h" and grant[0] == "+") == (deadline.length[0] in ("h", "at"))
 
 
 def extended(deadline, line, grants, last):
@@ -292,14 +299,14 @@ def meets_last_hour(calendar, end, outage):
     return any(day == outage[0] and 60 * outage[1] <= second < 60 * outage[2] for day, second in seconds)
 
 
-def runs_until(end, grants):
+def runs_until(end, grants, section=BY_HOURS):
     def place(calendar, deadline, line):
         if grants:
-            day, by, section = extension(deadline, grants[0])
+            day, by, by_rule = extension(deadline, grants[0])
             if not fits(deadline, grants[0]):
-                expect(line == Line(day, "not extended " + by, section), "the extension is of another kind")
+                expect(line == Line(day, "not extended " + by, by_rule), "the extension is of another kind")
                 return nowhere(grants[1:])
-            expect(line == Line(day, "extended " + by, section), "the time is extended")
+            expect(line == Line(day, "extended " + by, by_rule), "the time is extended")
             return counting_hours(end, int(grants[0][1:-1]), AFTER, grants[1:])
         met = [outage for outage in calendar.outages if meets_last_hour(calendar, end, outage)]
         if moves(deadline) and met:
@@ -307,14 +314,14 @@ def runs_until(end, grants):
                    "the clerk's office was inaccessible in the last hour")
             day, second = civil(calendar.clock.zone, end)
             return for_access(calendar, deadline, day, "6(a)(3)(B)", same_time(second, ends_at))
-        return ends_at(end)(calendar, deadline, line)
+        return ends_at(end, section)(calendar, deadline, line)
     return place
 
 
-def ends_at(end):
+def ends_at(end, section=BY_HOURS):
     def place(calendar, deadline, line):
         day, time = shown_at(calendar, end)
-        expect(line == Line(day, "the time ends at " + time, "6(a)(2)"), "the time ends at that instant")
+        expect(line == Line(day, "the time ends at " + time, section), "the time ends at that instant")
         return "until {} {}".format(day_text(day), time)
     return place
 

@@ -153,12 +153,12 @@ def report_of(programs, words, data):
 
 
 def set_rows(draw, rows, cases, faulty=True):
-    """The rows with some put among them by which an order sets a deadline for a day, one of the days in them. Some have a fault, unless
-    none is to have one."""
+    """The rows with some put among them by which an order sets a deadline for a day, one of the days in them, or for a time of it. Some
+    have a fault, unless none is to have one."""
     days = re.findall(rb"\d{4}-\d\d-\d\d", b"".join(rows)) or [b"2025-09-07"]
     rows = list(rows)
     for _ in range(draw.randint(1, 8)):
-        time = draw.choice([b""] * 12 + [b"09:30"] * faulty)
+        time = draw.choice([b""] * 8 + [b"00:00", b"02:30", b"09:30", b"17:00"] + [b"9:30"] * faulty)
         act = draw.choice([b"filing"] * 8 + [b"service"] * 4 + [b"answer"] * faulty)
         row = b"1,set,%d,%s,%s,%s\n" % (draw.choice(cases), draw.choice(days), time, act)
         rows.insert(draw.randint(min(len(rows), 3), len(rows)), row)

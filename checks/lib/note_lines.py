@@ -8,7 +8,7 @@ from lib.legal_names import legal_name
 from lib.period_words import right_from
 from reference.civil import civil, day_of_text, day_text, instant_at, minute_text, weekday
 from reference.docket import DATES, DEADLINES, GRANTS, MOTIONS, OUTAGES, STEPS, deadline_of, hearing_of, motion_of, opening, step
-from reference.periods import granted, is_in_range, shown
+from reference.periods import granted, is_in_range, is_set, shown
 from reference.rule6 import AFTER, BEFORE, BEYOND, ELECTRONIC, FILING, PAPER, Filing, is_timely, permitted
 
 
@@ -130,8 +130,8 @@ def starts(row):
 
 
 def runs_from_event(row):
-    """Whether the period is counted after its event: a day that an order sets has none."""
-    return row.period.direction == AFTER and row.period.unit != "set"
+    """Whether the period is counted after its event: an end that an order sets has none."""
+    return row.period.direction == AFTER and not is_set(row.period)
 
 
 def of_extension(court, rows, command, end):
@@ -165,7 +165,7 @@ def of_set_day(rows, day, filed):
 
 def of_deadline(court, rows, row, filed, today):
     """The notes on a deadline of a case that was filed on that day, where it counts from a day or None."""
-    if row.period.unit == "set":
+    if is_set(row.period):
         return of_set_day(rows, row.event.day, filed)
     events = [row.event.day] + ([] if row.second is None else [row.second])
     lines = [note(event, "the event lies before the filing of the case") for event in events if event < filed]

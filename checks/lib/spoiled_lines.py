@@ -68,7 +68,8 @@ def spoiled():
     order = "1,set,12,2025-11-03,,filing"
     for name, act in [("another word", "answer"), ("a misspelt word", "filling"), ("nothing", "")]:
         way(name + " as an act", put(order, "filing", act))
-    way("a time for a day that an order sets", put(order, ",,", ",9:30,"))
+    for name, time in [("half past nine without a zero", "9:30"), ("a time past the end of the day", "24:30"), ("noon in words", "noon")]:
+        way(name + " as the time that an order sets", put(order, ",,", ",{},".format(time)))
     # numbers
     for name, case in [("a real case number", "1:25-cv-01234-ABC"), ("a leading zero", "012"), ("a hash before it", "#12"), ("a word before it", "case 12"),
                        ("a number as spreadsheets write it", "7.0"), ("a blank in it", "1 2"), ("a dot in it", "1.2"), ("a dot before it", ".5"), ("a dot after it", "7."),

@@ -108,9 +108,12 @@ def time_or_none(text, court):
     return 0 if text == "" else minute_of_text(text)
 
 
-def no_time(text, court):
-    """The time of a day that an order sets as a whole."""
-    return 0 if text == "" else None
+def given_time(text, court):
+    """A list of the minute, or an empty one where no time is given."""
+    if text == "":
+        return []
+    minute = minute_of_text(text)
+    return None if minute is None else [minute]
 
 
 def quarter(text, court):
@@ -205,7 +208,7 @@ COLUMNS = {
     "calendar": [judge, date],
 }
 # The forms that the desk alone takes.
-DESK_COLUMNS = {**COLUMNS, "set": [number, date, no_time, one_of("filing", "service")]}
+DESK_COLUMNS = {**COLUMNS, "set": [number, date, given_time, one_of("filing", "service")]}
 WORKS = {
     "open": lambda case, filed: ("open", case, filed),
     "start": lambda case, *rest: ("start", case) + asked_period(*rest),
@@ -220,7 +223,7 @@ WORKS = {
     "inaccessible": lambda day, begin, end: ("inaccessible", day, begin, end),
     "sheet": lambda case: ("sheet", case),
     "calendar": lambda of_judge, day: ("calendar", of_judge, day),
-    "set": lambda case, day, minute, act: ("start", case, set_to(act), Event(day, minute), None, None),
+    "set": lambda case, day, minute, act: ("start", case, set_to(act, bool(minute)), Event(day, only(minute) or 0), None, None),
 }
 
 

@@ -42,8 +42,8 @@ pub(crate) fn push_days(
     close(days, clock, row, reasons, extended)
 }
 
-/// Adds the reasons of a deadline whose end an order sets.
-pub(crate) fn push_set(
+/// Adds the reasons of a deadline for which an order sets the day on which it ends.
+pub(crate) fn push_set_day(
     days: &Days,
     clock: &Clock,
     row: &DeadlineRow,

@@ -36,6 +36,8 @@ pub enum Reason {
     Excluded(Day),
     /// An order sets the end on this day, a date certain: nothing is counted, and it isn't rolled (2009 Note to 6(a)).
     Set(Day),
+    /// The same at this instant, where the order sets a time of day too.
+    SetAt(Instant),
     /// This number of days is counted, every day counts, and this day is the last of them (6(a)(1)(B), (C)).
     Counted(u32, Day),
     /// The day is passed over, and the next one is looked at, away from the event (6(a)(1)(C), (a)(5), (a)(6)), or

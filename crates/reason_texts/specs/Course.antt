@@ -8,7 +8,7 @@ use Rattle.rule_periods.specs.Words.{direction_of, right_from}
 use Rattle.deadline_reasons.specs.declared.reason.Reason.{Reason}
 use Rattle.deadline_reasons.specs.declared.reason.Reason.TheVariants as reason
 use Rattle.reason_texts.specs.declared.course.Course.{Course}
-use Rattle.reason_texts.specs.declared.course.Search.TheVariants.{LastDay, SameTime, AccessibleDay, AccessibleHour}
+use Rattle.reason_texts.specs.declared.course.Search.TheVariants.{LastDay, SameTime, AccessibleDay, AccessibleHour, NoDay}
 
 -- the time to serve a summons and complaint
 abbrev pub is_summons : Period → Bool
@@ -32,6 +32,7 @@ course_of period = record { search = LastDay; direction = direction_of period; s
 -- After a reason. Days that are added, and accessible days, are looked for among later ones, whatever the period's
 -- direction is.
 abbrev pub course_after : Course → Reason → Course
+course_after course (reason.SetAt instant) = record course { search = NoDay }
 course_after course (reason.ThreeAdded kind) = record course { search = LastDay; direction = After }
 course_after course (reason.Extended grant) = record course { search = LastDay; direction = After }
 course_after course (reason.Continued day second) = record course { search = SameTime }

@@ -26,6 +26,7 @@ day_shown clock (reason.EndsOn day) = Some day
 day_shown clock (reason.Continued day second) = Some day
 day_shown clock (reason.UntilMidnight day) = Some day
 day_shown clock (reason.UntilClosing day minute) = Some day
+day_shown clock (reason.SetAt instant) = day_of_civil (civil_of clock.zone instant)
 day_shown clock (reason.HoursFrom instant) = day_of_civil (civil_of clock.zone instant)
 day_shown clock (reason.HoursCounted h instant forward) = day_of_civil (civil_of clock.zone instant)
 day_shown clock (reason.SameTime day instant) = day_of_civil (civil_of clock.zone instant)

@@ -82,6 +82,7 @@ outage_text outage = minute_time outage.from ++ codes " to " ++ minute_time outa
 abbrev pub first_words : Reason → List ℕ
 first_words (reason.Excluded day) = codes "day of the event, excluded"
 first_words (reason.Set day) = codes "set for this day by an order"
+first_words (reason.SetAt instant) = codes "set by an order for "
 first_words (reason.Counted n day) = codes "day "
 first_words (reason.PassedOver day cause) = []
 first_words (reason.RunsTo day) = codes "the time runs to this day"
@@ -108,6 +109,7 @@ detail_text clock names direction (reason.PassedOver day cause) = cause_shown na
 detail_text clock names direction (reason.ThreeAdded kind) = kind_text kind
 detail_text clock names direction (reason.Extended grant) = grant_text grant
 detail_text clock names direction (reason.NotExtended grant) = grant_text grant
+detail_text clock names direction (reason.SetAt instant) = time_of_civil (civil_of clock.zone instant)
 detail_text clock names direction (reason.HoursFrom instant) = time_of_civil (civil_of clock.zone instant)
 detail_text clock names direction (reason.HoursCounted h instant forward) = hours_text clock direction h instant forward
 detail_text clock names direction (reason.SameTime day instant) = time_of_civil (civil_of clock.zone instant)

@@ -18,6 +18,8 @@ pub enum Search {
     AccessibleDay,
     /// The same time on an accessible day (6(a)(3)(B)).
     AccessibleHour,
+    /// None: an order sets the time at which the period ends (2009 Note to 6(a)).
+    NoDay,
 }
 
 /// How far the reasons of a deadline have come.
@@ -52,15 +54,23 @@ impl Course {
     {
         match *reason {
             Reason::ThreeAdded(_) | Reason::Extended(_) => self.towards_later(Search::LastDay),
-            Reason::Continued(_, _) => Course {
-                search: Search::SameTime,
-                direction: self.direction,
-                summons: self.summons,
-                right_from: self.right_from,
-            },
+            Reason::SetAt(_) => self.looking_for(Search::NoDay),
+            Reason::Continued(_, _) => self.looking_for(Search::SameTime),
             Reason::Inaccessible(_) => self.towards_later(Search::AccessibleDay),
             Reason::LastHour(_, _, _) => self.towards_later(Search::AccessibleHour),
             _ => *self,
+        }
+    }
+
+    /// The course where a day is looked for in the same direction.
+    fn looking_for(&self, search: Search) -> Course
+        ensures { result ≡ record { search = search; direction = self.now.direction; summons = self.now.summons; right_from = self.now.right_from } }
+    {
+        Course {
+            search,
+            direction: self.direction,
+            summons: self.summons,
+            right_from: self.right_from,
         }
     }
 

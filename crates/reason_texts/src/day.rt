@@ -24,7 +24,8 @@ pub fn day_shown(clock: &Clock, reason: &Reason) -> Option<Day>
         | Reason::Continued(day, _)
         | Reason::UntilMidnight(day)
         | Reason::UntilClosing(day, _) => Some(day),
-        Reason::HoursFrom(instant)
+        Reason::SetAt(instant)
+        | Reason::HoursFrom(instant)
         | Reason::HoursCounted(_, instant, _)
         | Reason::SameTime(_, instant)
         | Reason::UntilInstant(instant) => day_at(clock, instant),

@@ -1,7 +1,7 @@
 //! The section of the Federal Rules of Civil Procedure by which a reason goes.
 
 ghost use Rattle.std.specs.Prelude.{◌≡◌, ◌++◌, OnOk, string_bytes};
-ghost use Rattle.reason_texts.specs.Section.{extended_by, holiday_section, looked_by, section_of, section_text};
+ghost use Rattle.reason_texts.specs.Section.{ended_by, extended_by, holiday_section, looked_by, section_of, section_text};
 
 use crate::course::{Course, Search};
 use court_clock::Direction;
@@ -22,8 +22,7 @@ fn section_of(course: &Course, reason: &Reason) -> &'static str
 {
     match *reason {
         Reason::Excluded(_) => "6(a)(1)(A)",
-        // The Committee Note says that 6(a) doesn't apply where a time is fixed.
-        Reason::Set(_) => "6(a), 2009 Note",
+        Reason::Set(_) | Reason::SetAt(_) => "6(a), 2009 Note",
         Reason::Counted(_, _) => "6(a)(1)(B)",
         Reason::PassedOver(_, _) | Reason::RunsTo(_) | Reason::SameTime(_, _) => looked_by(course),
         Reason::ThreeAdded(_) => "6(d)",
@@ -34,7 +33,7 @@ fn section_of(course: &Course, reason: &Reason) -> &'static str
         Reason::Inaccessible(_) => "6(a)(3)(A)",
         Reason::LastHour(_, _, _) => "6(a)(3)(B)",
         Reason::UntilClosing(_, _) => "6(a)(4)",
-        Reason::UntilInstant(_) => "6(a)(2)",
+        Reason::UntilInstant(_) => ended_by(course.search),
         Reason::UntilMidnight(_) | Reason::NotCovered | Reason::Beyond => "ours",
     }
 }
@@ -54,6 +53,18 @@ fn looked_by(course: &Course) -> &'static str
         },
         Search::AccessibleDay => "6(a)(3)(A)",
         Search::AccessibleHour => "6(a)(3)(B)",
+        Search::NoDay => "6(a), 2009 Note",
+    }
+}
+
+/// The section by which the time ends at an instant. No hours are counted up to a time that an order sets.
+fn ended_by(search: Search) -> &'static str
+    ensures { result.now ≡ ended_by search }
+{
+    match search {
+        Search::LastDay | Search::SameTime | Search::AccessibleDay | Search::AccessibleHour =>
+            "6(a)(2)",
+        Search::NoDay => "6(a), 2009 Note",
     }
 }
 

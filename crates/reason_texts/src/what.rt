@@ -37,6 +37,7 @@ fn first_words(reason: &Reason) -> &'static str
     match *reason {
         Reason::Excluded(_) => "day of the event, excluded",
         Reason::Set(_) => "set for this day by an order",
+        Reason::SetAt(_) => "set by an order for ",
         Reason::Counted(_, _) => "day ",
         Reason::PassedOver(_, _) => "",
         Reason::RunsTo(_) => "the time runs to this day",
@@ -72,8 +73,10 @@ fn push_detail(
         Reason::PassedOver(day, cause) => push_cause(text, names, day, cause),
         Reason::ThreeAdded(kind) => text.push_str(kind_words(kind)),
         Reason::Extended(grant) | Reason::NotExtended(grant) => push_grant(text, grant),
-        Reason::HoursFrom(instant) | Reason::SameTime(_, instant) | Reason::UntilInstant(instant) =>
-            push_time_at(text, clock, instant),
+        Reason::SetAt(instant)
+        | Reason::HoursFrom(instant)
+        | Reason::SameTime(_, instant)
+        | Reason::UntilInstant(instant) => push_time_at(text, clock, instant),
         Reason::HoursCounted(h, instant, forward) => push_hours(
             text, clock, direction, h, instant, forward,
         ),

@@ -28,11 +28,13 @@ abbrev pub days_of_length : Length → Option ℕ
 days_of_length (lengths.Days n) = Some n
 days_of_length (lengths.Hours n) = None
 days_of_length lengths.ToDay = None
+days_of_length lengths.ToTime = None
 
 abbrev pub hours_of_length : Length → Option ℕ
 hours_of_length (lengths.Days n) = None
 hours_of_length (lengths.Hours n) = Some n
 hours_of_length lengths.ToDay = None
+hours_of_length lengths.ToTime = None
 
 -- a period that a court entered, by its five words
 abbrev pub entered_fields : Entered → List Field

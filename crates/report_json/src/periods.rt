@@ -75,7 +75,7 @@ fn days_of_length(length: Length) -> Option<u32>
 {
     match length {
         Length::Days(days) => Some(days),
-        Length::Hours(_) | Length::ToDay => None,
+        Length::Hours(_) | Length::ToDay | Length::ToTime => None,
     }
 }
 
@@ -83,7 +83,7 @@ fn hours_of_length(length: Length) -> Option<u32>
     ensures { result ≡ hours_of_length length }
 {
     match length {
-        Length::Days(_) | Length::ToDay => None,
+        Length::Days(_) | Length::ToDay | Length::ToTime => None,
         Length::Hours(hours) => Some(hours),
     }
 }

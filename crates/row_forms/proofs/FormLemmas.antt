@@ -1,5 +1,5 @@
 -- Command words, their forms, and what rows of each form ask for.
-use Rattle.std.proofs.Common.{◌≡◌, ◌==◌, ℕ, Bool, true, false, List, Option, Some, None, Result, Ok, Err, cond, length, not, refl, rules, sym, ap, subst}
+use Rattle.std.proofs.Common.{◌≡◌, ◌==◌, ℕ, Bool, true, false, List, [], ◌∷◌, Option, Some, None, Result, Ok, Err, cond, length, not, refl, rules, sym, ap, subst}
 use Rattle.std.specs.List.{find}
 use Rattle.std.specs.Option.{is_some, ok_or}
 use Rattle.std.proofs.lemmas.Slice.Eq.{bytes_eq-Decides}
@@ -8,13 +8,14 @@ use Rattle.row_forms.specs.declared.fault.RowCause.{RowCause}
 use Rattle.row_forms.specs.declared.fault.RowCause.TheVariants.{UnknownCommand, WrongCount}
 use Rattle.row_forms.specs.declared.forms.periods.Measured.{Measured}
 use Rattle.row_forms.specs.declared.forms.table.Form.{Form}
-use Rattle.row_forms.specs.declared.forms.table.Form.TheVariants.{Open, Start}
+use Rattle.row_forms.specs.declared.forms.table.Form.TheVariants.{Open, Set, Start}
 use Rattle.row_forms.specs.declared.row.Work.{Work}
 use Rattle.row_forms.specs.declared.row.Work.TheVariants.{Command}
 use Rattle.docket_rows.specs.declared.command.Command.TheVariants as command
-use Rattle.rule_periods.specs.Words.{is_set}
+use Rattle.rule6.specs.declared.timeliness.Act.{Act}
+use Rattle.rule_periods.specs.Words.{EventView, is_set, is_set_length}
 use Rattle.row_forms.specs.Columns.{◌>>=◌, column, number_in}
-use Rattle.row_forms.specs.Forms.{RowsAskByTheirWords, form_asking, read_as, start_row, work_as, work_of}
+use Rattle.row_forms.specs.Forms.{RowsAskByTheirWords, form_asking, read_as, set_length, set_to, start_row, work_as, work_of}
 use Rattle.row_forms.specs.Forms.Periods.{measured_from}
 use Rattle.row_forms.specs.Forms.Table.{CommandWordsNameForms, columns_of_form, command_word, form_of, forms, is_word_of, office_form_of, office_forms}
 use Rattle.row_forms.specs.CourtNames.{CourtNames}
@@ -82,11 +83,22 @@ start_is fields work h = by (number_in fields 3) (measured_from fields 4) refl h
         let office : is_office_work (Command (command.Start n x.period x.event x.second x.service)) ≡ true = rw plain refl in
         rw (← is) (asks, office)
 
+-- a row of `set` asks for a period that an order sets
+set_length_is : (time : List ℕ) → is_set_length (set_length time) ≡ true
+unfolding set_length
+set_length_is [] = refl
+set_length_is (b ∷ time) = refl
+
+set_asks : (case : ℕ) (time : List ℕ) (act : Act) (event : EventView) → Asks Set (Ok (Command (command.Start case (set_to (set_length time) act) event None None)))
+set_asks case time act event =
+    done Set (Command (command.Start case (set_to (set_length time) act) event None None)) (ap (λ b. cond b Set Start) (set_length_is time))
+
 -- of each form, as above
 form_asks : (names : CourtNames) (form : Form) (fields : List (List ℕ)) → Asks form (read_as names form fields)
 form_asks names Open fields = search (rules, counted, after, done) depth 12
 form_asks names Start fields =
     counted Start (not (length fields == length (columns_of_form Start))) (start_row fields) (record { asks = λ work h. (start_is fields work h).0 })
+form_asks names Set fields = search (rules, counted, after, set_asks) depth 12
 form_asks names other fields = search (rules, counted, after, done) depth 12
 
 pub rows_ask_by_their_words_lem : RowsAskByTheirWords

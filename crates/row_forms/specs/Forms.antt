@@ -8,7 +8,8 @@ use Rattle.court_clock.specs.declared.direction.Direction.TheVariants.{After}
 use Rattle.court_clock.specs.Words.{minute_of_text}
 use Rattle.rule6.specs.declared.timeliness.Act.{Act}
 use Rattle.rule_periods.specs.declared.mark.Mark.TheVariants.{Plain}
-use Rattle.rule_periods.specs.declared.period.Length.TheVariants.{ToDay}
+use Rattle.rule_periods.specs.declared.period.Length.{Length}
+use Rattle.rule_periods.specs.declared.period.Length.TheVariants.{ToDay, ToTime}
 use Rattle.rule_periods.specs.declared.period.Period.{Period}
 use Rattle.rule_periods.specs.declared.period.Period.TheVariants.{Entered}
 use Rattle.rule_periods.specs.Words.{is_set}
@@ -24,7 +25,7 @@ use Rattle.row_forms.specs.Columns.{◌>>=◌, column, in_column, day_in, number
 use Rattle.row_forms.specs.Fields.Choices.{is_so, list_of, means_of}
 use Rattle.row_forms.specs.Fields.Grants.{grant_of, need_of}
 use Rattle.row_forms.specs.Fields.Period.{act_of}
-use Rattle.row_forms.specs.Fields.Times.{ending_minute, minute_of_set}
+use Rattle.row_forms.specs.Fields.Times.{ending_minute, minute_or_midnight}
 use Rattle.row_forms.specs.CourtNames.{CourtNames, number_named}
 use Rattle.row_forms.specs.Forms.Periods.{measured_from}
 use Rattle.row_forms.specs.Forms.Settings.{setting_in}
@@ -109,18 +110,23 @@ calendar_row names fields = do
   day ← day_in fields 4
   Ok (Query (query.JudgeDay (number_named names.judges (column fields 3)) day))
 
--- the period of an act that an order wants by the day of the event
-abbrev pub set_to : Act → Period
-set_to act = Entered (record { length = ToDay; direction = After; act = act; served = false; mark = Plain })
+-- an order sets the end to a day, or where a field says a time to that minute of it
+unfoldable pub set_length : (time : List ℕ) → Length
+set_length [] = ToDay
+set_length (b ∷ time) = ToTime
 
--- a row of `set`: an order sets a deadline for a day
+-- the period of an act that an order wants by the event
+abbrev pub set_to : Length → Act → Period
+set_to length act = Entered (record { length = length; direction = After; act = act; served = false; mark = Plain })
+
+-- a row of `set`: an order sets a deadline for a day, or for a time of it
 abbrev pub set_row : List (List ℕ) → Result Work RowCause
 set_row fields = do
   case ← number_in fields 3
   day ← day_in fields 4
-  minute ← in_column 5 (minute_of_set (column fields 5))
+  minute ← in_column 5 (minute_or_midnight (column fields 5))
   act ← in_column 6 (act_of (column fields 6))
-  Ok (Command (command.Start case (set_to act) (record { day = day; minute = minute }) None None))
+  Ok (Command (command.Start case (set_to (set_length (column fields 5)) act) (record { day = day; minute = minute }) None None))
 
 -- what the fields of a row of this form ask for
 abbrev pub fields_as : CourtNames → Form → List (List ℕ) → Result Work RowCause

@@ -31,7 +31,6 @@ fn held(column: Column) -> &'static str {
         Column::Room => "a room of the court's file",
         Column::Slots => "half hours, as 2, or quarter hours, as 3q",
         Column::Notice => "the day on which notice was served, as 2025-09-02",
-        Column::SetTime => "nothing, since an order sets a day as a whole",
         Column::Act => "filing or service",
     }
 }

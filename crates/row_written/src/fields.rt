@@ -232,7 +232,7 @@ fn may_be_empty(column: Column) -> bool
 {
     matches!(
         column,
-        Column::TimeOrNone | Column::SecondOrNone | Column::ServiceOrNone | Column::SetTime
+        Column::TimeOrNone | Column::SecondOrNone | Column::ServiceOrNone
     )
 }
 
@@ -271,8 +271,6 @@ fn filled_said(
         Column::Judges => panel_said(alloc, court, text),
         Column::Room => name_said(alloc, court, Named::Rooms, text),
         Column::Slots => slots_said(alloc, text),
-        // An order sets a day as a whole.
-        Column::SetTime => Ok(Said::Unknown),
     }
 }
 

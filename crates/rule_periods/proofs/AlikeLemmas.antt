@@ -15,7 +15,7 @@ use Rattle.rule_periods.specs.declared.grant.Grant.{Grant}
 use Rattle.rule_periods.specs.declared.grant.Grant.TheVariants as grant
 use Rattle.rule_periods.specs.declared.grant.Request.{Request}
 use Rattle.rule_periods.specs.declared.period.Length.{Length}
-use Rattle.rule_periods.specs.declared.period.Length.TheVariants.{Days, Hours, ToDay}
+use Rattle.rule_periods.specs.declared.period.Length.TheVariants.{Days, Hours, ToDay, ToTime}
 use Rattle.rule_periods.specs.declared.period.Period.{Period}
 use Rattle.rule_periods.specs.declared.period.Period.TheVariants as period
 use Rattle.rule_periods.specs.Base.{base_of_period, end_of_length, kind_adds}
@@ -36,6 +36,7 @@ module _ (a b : ClockView) (same : IsSameCourtClock a b) where
   length_alike c event (Hours h) direction added =
       rw (instant_alike a.zone b.zone same.zone event.day (60 * event.minute), end_of_hours_alike a b same c (instant_of b.zone event.day (60 * event.minute)) h direction) refl
   length_alike c event ToDay direction added = refl
+  length_alike c event ToTime direction added = rw (instant_alike a.zone b.zone same.zone event.day (60 * event.minute)) refl
 
   pub base_alike : (c : DaysView) (row : DeadlineRowView) (p : Period) → base_of_period c a row p ≡ base_of_period c b row p
   unfolding base_of_period

@@ -5,7 +5,7 @@ use Rattle.std.specs.Str.{bytes_eq}
 use Rattle.row_forms.specs.declared.forms.table.Form.{Form}
 use Rattle.row_forms.specs.declared.forms.table.Form.TheVariants as form
 use Rattle.row_forms.specs.declared.headings.columns.Column.{Column}
-use Rattle.row_forms.specs.declared.headings.columns.Column.TheVariants.{Clerk, Command, Case, Deadline, Motion, Period, Date, Time, Start, TimeOrNone, SecondOrNone, ServiceOrNone, Means, Grant, ByMotion, Cause, Neglect, Need, Holidays, From, To, Judge, Judges, Room, Slots, Notice, SetTime, Act}
+use Rattle.row_forms.specs.declared.headings.columns.Column.TheVariants.{Clerk, Command, Case, Deadline, Motion, Period, Date, Time, Start, TimeOrNone, SecondOrNone, ServiceOrNone, Means, Grant, ByMotion, Cause, Neglect, Need, Holidays, From, To, Judge, Judges, Room, Slots, Notice, Act}
 
 -- the forms of the rows of clerk_office
 abbrev pub office_forms : List Form
@@ -52,7 +52,7 @@ columns_of_form form.Inaccessible = Clerk ∷ Command ∷ Date ∷ From ∷ To �
 columns_of_form form.Compute = Clerk ∷ Command ∷ Period ∷ Date ∷ TimeOrNone ∷ SecondOrNone ∷ ServiceOrNone ∷ []
 columns_of_form form.Sheet = Clerk ∷ Command ∷ Case ∷ []
 columns_of_form form.Calendar = Clerk ∷ Command ∷ Judge ∷ Date ∷ []
-columns_of_form form.Set = Clerk ∷ Command ∷ Case ∷ Date ∷ SetTime ∷ Act ∷ []
+columns_of_form form.Set = Clerk ∷ Command ∷ Case ∷ Date ∷ TimeOrNone ∷ Act ∷ []
 
 -- the word is this form's
 unfoldable pub is_word_of : List ℕ → Form → Bool

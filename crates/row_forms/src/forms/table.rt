@@ -6,8 +6,8 @@ ghost use Rattle.row_forms.specs.Forms.Table.{columns_of, columns_of_form, comma
 
 use crate::headings::Column::{
     self, Act, ByMotion, Case, Cause, Clerk, Command, Date, Deadline, From, Grant, Holidays, Judge,
-    Judges, Means, Motion, Need, Neglect, Notice, Period, Room, SecondOrNone, ServiceOrNone,
-    SetTime, Slots, Start, Time, TimeOrNone, To,
+    Judges, Means, Motion, Need, Neglect, Notice, Period, Room, SecondOrNone, ServiceOrNone, Slots,
+    Start, Time, TimeOrNone, To,
 };
 
 /// The form of a row: which command or query it asks for.
@@ -39,7 +39,7 @@ pub enum Form {
     Sheet,
     /// Asks for a judge's day.
     Calendar,
-    /// Starts a deadline on a day that an order sets. It is of the desk alone.
+    /// Starts a deadline on a day, or at a time of it, that an order sets. It is of the desk alone.
     Set,
 }
 
@@ -134,7 +134,7 @@ pub fn columns_of_form(form: Form) -> &'static [Column]
         ],
         Form::Sheet => &[Clerk, Command, Case],
         Form::Calendar => &[Clerk, Command, Judge, Date],
-        Form::Set => &[Clerk, Command, Case, Date, SetTime, Act],
+        Form::Set => &[Clerk, Command, Case, Date, TimeOrNone, Act],
     }
 }
 
