@@ -8,12 +8,13 @@ import re
 from collections import namedtuple
 
 from lib.legal_names import legal_name
-from reference.civil import civil, day_of_text, day_text, instant_at, minute_text, offset_at, weekday
+from reference.civil import civil, day_of_text, day_text, instant_at, minute_of_text, minute_text, offset_at, weekday
 
 # The calendar as it is when the deadline is shown: its span, its lists of holidays, its outages (day, from, to).
 Calendar = namedtuple("Calendar", "clock first last federal state outages names")
 # What a row says of a deadline: `second` and `kind` may be None, `length` is ("d" or "h", number), or of an end that an order sets
-# ("set", 0) for a day and ("at", 0) for a time; `grants` are texts as `+7d`, `+24h` or a date. `right_from` is the day from which the rule of its period is right, or None; `text` is the
+# ("set", 0) for a day and ("at", 0) for a time; `grants` are texts as `+7d`, `+24h` or a date, or as `order DATE`
+# and `order DATE TIME`. `right_from` is the day from which the rule of its period is right, or None; `text` is the
 # period as the row has it.
 Deadline = namedtuple("Deadline", "length direction act served kind event minute second summons right_from grants text")
 # A line: the day that it shows, or None; what happened; the section that it cites.
@@ -201,7 +202,7 @@ def runs(last, three, grants):
             expect(line == wanted, "three days are added for the service")
             return counting(last, 3, AFTER, False, grants)
         if grants:
-            return extended(deadline, line, grants, last)
+            return extended(calendar, deadline, line, grants, last)
         outages = [outage for outage in calendar.outages if outage[0] == last]
         if moves(deadline) and outages:
             expect(line in [Line(last, inaccessible(outage), "6(a)(3)(A)") for outage in outages],
@@ -239,26 +240,44 @@ def closes(last):
 
 
 def extension(deadline, grant):
-    """What is said of an extension, and the section."""
+    """The day of an extension or of what an order sets, what is said of it, and the section."""
     section = "4(m)" if deadline.summons else "6(b)"
     if grant[0] == "+":
         unit = {"d": "day", "h": "hour"}[grant[-1]]
-        return None, "by {} {}{}".format(int(grant[1:-1]), unit, "" if int(grant[1:-1]) == 1 else "s"), section
-    return day_of_text(grant), "to this day", section
+        return None, "extended by {} {}{}".format(int(grant[1:-1]), unit, "" if int(grant[1:-1]) == 1 else "s"), section
+    words = grant.split(" ")
+    if words[0] != "order":
+        return day_of_text(grant), "extended to this day", section
+    time = "{} of ".format(words[2]) if sets_time(grant) else ""
+    return day_of_text(words[1]), "reset to {}this day by an order".format(time), BY_ORDER
+
+
+def sets_time(grant):
+    """Whether an order sets a time of day."""
+    return len(grant.split(" ")) == 3
 
 
 def fits(deadline, grant):
-    return (grant[-1] == "h" and grant[0] == "+") == (deadline.length[0] in ("h", "at"))
+    to_instant = sets_time(grant) or (grant[-1] == "h" and grant[0] == "+")
+    return to_instant == (deadline.length[0] in ("h", "at"))
 
 
-def extended(deadline, line, grants, last):
-    day, by, section = extension(deadline, grants[0])
-    if not fits(deadline, grants[0]):
-        expect(line == Line(day, "not extended " + by, section), "the extension is of another kind")
-        return nowhere(grants[1:])
-    expect(line == Line(day, "extended " + by, section), "the time is extended")
-    if day is not None:
+def from_certain(calendar, grants, day):
+    """On from the date certain of the first of these, or from the time of it."""
+    if not sets_time(grants[0]):
         return runs(day, False, grants[1:])
+    end = instant_at(calendar.clock.zone, day, 60 * minute_of_text(grants[0].split(" ")[2]))
+    return runs_until(end, grants[1:], BY_ORDER)
+
+
+def extended(calendar, deadline, line, grants, last):
+    day, what, section = extension(deadline, grants[0])
+    if not fits(deadline, grants[0]):
+        expect(line == Line(day, "not " + what, section), "the extension is of another kind")
+        return nowhere(grants[1:])
+    expect(line == Line(day, what, section), "the time is extended")
+    if day is not None:
+        return from_certain(calendar, grants, day)
     return counting(last, int(grants[0][1:-1]), AFTER, False, grants[1:])
 
 
@@ -302,11 +321,13 @@ def meets_last_hour(calendar, end, outage):
 def runs_until(end, grants, section=BY_HOURS):
     def place(calendar, deadline, line):
         if grants:
-            day, by, by_rule = extension(deadline, grants[0])
+            day, what, by_rule = extension(deadline, grants[0])
             if not fits(deadline, grants[0]):
-                expect(line == Line(day, "not extended " + by, by_rule), "the extension is of another kind")
+                expect(line == Line(day, "not " + what, by_rule), "the extension is of another kind")
                 return nowhere(grants[1:])
-            expect(line == Line(day, "extended " + by, by_rule), "the time is extended")
+            expect(line == Line(day, what, by_rule), "the time is extended")
+            if day is not None:
+                return from_certain(calendar, grants, day)
             return counting_hours(end, int(grants[0][1:-1]), AFTER, grants[1:])
         met = [outage for outage in calendar.outages if meets_last_hour(calendar, end, outage)]
         if moves(deadline) and met:
@@ -332,10 +353,10 @@ def nowhere(grants):
         if not grants:
             expect(line == Line(None, "beyond the days covered", "ours"), "the time is beyond the days covered")
             return "beyond"
-        day, by, section = extension(deadline, grants[0])
+        day, what, section = extension(deadline, grants[0])
         if day is not None and fits(deadline, grants[0]):
-            expect(line == Line(day, "extended " + by, section), "the time is extended")
-            return runs(day, False, grants[1:])
-        expect(line == Line(day, "not extended " + by, section), "there is nothing to extend")
+            expect(line == Line(day, what, section), "the time is extended")
+            return from_certain(calendar, grants, day)
+        expect(line == Line(day, "not " + what, section), "there is nothing to extend")
         return nowhere(grants[1:])
     return place

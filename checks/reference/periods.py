@@ -33,7 +33,8 @@ Event = namedtuple("Event", "day minute")
 # What a deadline is computed from; `filed` is the act, or None.
 Deadline = namedtuple("Deadline", "period event second kind grants filed")
 
-# An extension: "d" or "h" with a number, or "until" with a day.
+# An extension: "d" or "h" with a number, or "until" with a day; or what an order sets: "reset" with a day, or "reset at" with a
+# day and a minute of it.
 Grant = namedtuple("Grant", "unit value")
 Request = namedtuple("Request", "grant asked motion cause neglect")
 
@@ -65,6 +66,11 @@ def ends_at_instant(period):
     return period.unit in ("h", "at")
 
 
+def is_order(grant):
+    """Whether an order sets the end itself."""
+    return grant.unit in ("reset", "reset at")
+
+
 def is_in_range(unit, count):
     return unit in ("set", "at") or 1 <= count <= (3650 if unit == "d" else 8760)
 
@@ -85,8 +91,9 @@ def suits(wanted, given):
 
 
 def fits(period, grant):
-    """An extension by hours is for a period in hours, one by days or to a date for a period in days."""
-    return (grant.unit == "h") == ends_at_instant(period)
+    """An extension by hours or to a time is for a period that ends at an instant, one by days or to a date for one that ends with a
+    day."""
+    return (grant.unit in ("h", "reset at")) == ends_at_instant(period)
 
 
 def extended(days, clock, deadline):
@@ -106,8 +113,10 @@ def extended(days, clock, deadline):
     for grant in deadline.grants:
         if not fits(period, grant):
             end = None
-        elif grant.unit == "until":
+        elif grant.unit in ("until", "reset"):
             end = grant.value
+        elif grant.unit == "reset at":
+            end = instant_at(clock.zone, grant.value.day, 60 * grant.value.minute)
         elif end is not None and grant.unit == "d":
             end = rolled(days, end + grant.value, AFTER)
         elif end is not None:
@@ -118,7 +127,7 @@ def extended(days, clock, deadline):
 def shown(days, clock, deadline):
     """6(a), (b), (d): what is shown of the deadline."""
     end = extended(days, clock, deadline)
-    to_date = deadline.grants[-1].unit == "until" if deadline.grants else is_set(deadline.period)
+    to_date = deadline.grants[-1].unit not in ("d", "h") if deadline.grants else is_set(deadline.period)
     if end is not None and deadline.period.act == FILING and not to_date:
         direction = AFTER if deadline.grants else deadline.period.direction
         if ends_at_instant(deadline.period):
@@ -134,8 +143,23 @@ def granted(deadline, grant):
     return deadline._replace(grants=deadline.grants + [grant])
 
 
+def refused_order(days, clock, deadline, request):
+    """The refusal of another end that an order sets, its number, or None. What 6(b)(2) bars gets no later one."""
+    grant = request.grant
+    day = grant.value if grant.unit == "reset" else grant.value.day
+    if not covered(days, request.asked.day) or not covered(days, day):
+        return 5
+    now, then = shown(days, clock, deadline), shown(days, clock, granted(deadline, grant))
+    no_later = BEYOND not in (now, then) and now.kind == then.kind and then.end <= now.end
+    if deadline.period.extended == "never" and not no_later:
+        return 10
+    return None if fits(deadline.period, grant) else 28
+
+
 def refused_extension(days, clock, deadline, request):
-    """6(b): the refusal of the extension, its number, or None."""
+    """6(b): the refusal of the extension, or of what an order sets, its number, or None."""
+    if is_order(request.grant):
+        return refused_order(days, clock, deadline, request)
     grant, asked, period = request.grant, request.asked, deadline.period
     if not covered(days, asked.day) or (grant.unit == "until" and not covered(days, grant.value)):
         return 5

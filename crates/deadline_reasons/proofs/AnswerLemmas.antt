@@ -15,7 +15,7 @@ use Rattle.rule6.specs.Words.{expiry_of, last_day_of, end_of_hours_from, extende
 use Rattle.rule_periods.specs.declared.expiry.Expiry.{Expiry}
 use Rattle.rule_periods.specs.declared.expiry.Expiry.TheVariants.{OnDay, AtInstant}
 use Rattle.rule_periods.specs.declared.grant.Grant.{Grant}
-use Rattle.rule_periods.specs.declared.grant.Grant.TheVariants.{ByDays, ByHours, Until}
+use Rattle.rule_periods.specs.declared.grant.Grant.TheVariants.{ByDays, ByHours, Until, Reset, ResetAt}
 use Rattle.rule_periods.specs.declared.period.Entered.{Entered as EnteredPeriod}
 use Rattle.rule_periods.specs.declared.period.Length.{Length}
 use Rattle.rule_periods.specs.declared.period.Length.TheVariants.{Days, Hours, ToDay, ToTime}
@@ -181,6 +181,9 @@ module _ (c : DaysView) (clock : ClockView) (row : DeadlineRowView) where
   goes_on_keeps last false (Until d ∷ grants) (reason.Extended grant) next h =
       ap (answer_from c clock row) h.2
       ∙ and_then_extended _ (Some (OnDay last)) (Until d) grants (extended_is (is_in_hours row.period) (Some (OnDay last)) (Until d) (ap not h.1))
+  goes_on_keeps last false (Reset d ∷ grants) (reason.Extended grant) next h =
+      ap (answer_from c clock row) h.2
+      ∙ and_then_extended _ (Some (OnDay last)) (Reset d) grants (extended_is (is_in_hours row.period) (Some (OnDay last)) (Reset d) (ap not h.1))
   goes_on_keeps last false (g ∷ grants) (reason.NotExtended grant) next h =
       ap (answer_from c clock row) h.2
       ∙ and_then_extended None (Some (OnDay last)) g grants (not_extended_is (is_in_hours row.period) (Some (OnDay last)) g h.1)
@@ -197,6 +200,10 @@ module _ (c : DaysView) (clock : ClockView) (row : DeadlineRowView) where
   nothing_from_none false (ByHours n) h = refl
   nothing_from_none true (Until d) h = refl
   nothing_from_none false (Until d) h = absurd (cc)
+  nothing_from_none true (Reset d) h = refl
+  nothing_from_none false (Reset d) h = absurd (cc)
+  nothing_from_none true (ResetAt at) h = absurd (cc)
+  nothing_from_none false (ResetAt at) h = refl
 
   lacks_end : with_grants c clock row None [] ≡ shown.Beyond
   unfolding shown_after
@@ -205,9 +212,13 @@ module _ (c : DaysView) (clock : ClockView) (row : DeadlineRowView) where
     | inr f ↦ rw f refl
   ]
 
-  pub lacks_keeps : (grants : List Grant) (r : Reason) (next : Standing) → Lacks row grants r next → answer_from c clock row next ≡ with_grants c clock row None grants
+  pub lacks_keeps : (grants : List Grant) (r : Reason) (next : Standing) → Lacks clock row grants r next → answer_from c clock row next ≡ with_grants c clock row None grants
   lacks_keeps (Until d ∷ grants) (reason.Extended grant) next h =
       ap (answer_from c clock row) h.2 ∙ and_then_extended _ None (Until d) grants (extended_is (is_in_hours row.period) None (Until d) (ap not h.1))
+  lacks_keeps (Reset d ∷ grants) (reason.Extended grant) next h =
+      ap (answer_from c clock row) h.2 ∙ and_then_extended _ None (Reset d) grants (extended_is (is_in_hours row.period) None (Reset d) (ap not h.1))
+  lacks_keeps (ResetAt at ∷ grants) (reason.Extended grant) next h =
+      ap (answer_from c clock row) h.2 ∙ and_then_extended _ None (ResetAt at) grants (extended_is (is_in_hours row.period) None (ResetAt at) h.1)
   lacks_keeps (g ∷ grants) (reason.NotExtended grant) next h =
       ap (answer_from c clock row) h.2 ∙ and_then_extended None None g grants (nothing_from_none (is_in_hours row.period) g h.1)
   lacks_keeps [] reason.Beyond next h = ap (answer_from c clock row) h ∙ sym lacks_end

@@ -130,7 +130,7 @@ fn extend_all(
     Ok(extended)
 }
 
-/// Goes on by one extension.
+/// Goes on by one extension, or to the day that an order sets.
 fn extend(
     days: &Days,
     reasons: &mut Vec<Reason>,
@@ -153,7 +153,11 @@ fn extend(
             push(reasons, Reason::Extended(grant))?;
             Ok(Some(day))
         }
-        Grant::ByHours(_) => {
+        Grant::Reset(day) => {
+            push(reasons, Reason::Extended(grant))?;
+            Ok(Some(day))
+        }
+        Grant::ByHours(_) | Grant::ResetAt(_) => {
             push(reasons, Reason::NotExtended(grant))?;
             Ok(None)
         }

@@ -175,7 +175,7 @@ fn extend_all(
     Ok(extended)
 }
 
-/// Goes on by one extension.
+/// Goes on by one extension, or to the time that an order sets.
 fn extend(
     days: &Days,
     clock: &Clock,
@@ -195,7 +195,12 @@ fn extend(
             push(reasons, Reason::Extended(grant))?;
             count(days, clock, reasons, from, h, Direction::After)
         }
-        Grant::ByDays(_) | Grant::Until(_) => {
+        Grant::ResetAt(at) => {
+            let instant = clock.instant_of(at.day(), 60 * u32::from(at.minute()));
+            push(reasons, Reason::Extended(grant))?;
+            Ok(Some(instant))
+        }
+        Grant::ByDays(_) | Grant::Until(_) | Grant::Reset(_) => {
             push(reasons, Reason::NotExtended(grant))?;
             Ok(None)
         }

@@ -47,7 +47,7 @@ pub enum Reason {
     RunsTo(Day),
     /// Three days are added for this kind of service (6(d)).
     ThreeAdded(ServiceKind),
-    /// The time is extended (6(b); under Rule 4(m) by 4(m)).
+    /// The time is extended (6(b); under Rule 4(m) by 4(m)), or an order sets another end (2009 Note to 6(a)).
     Extended(Grant),
     /// This extension gives no end: it is of another kind than the period, or there is nothing that it could extend.
     NotExtended(Grant),

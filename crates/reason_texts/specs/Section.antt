@@ -2,6 +2,8 @@
 use Rattle.std.specs.Prelude.{ℕ, Bool, true, false, List, [], ◌++◌, codes}
 use Rattle.court_clock.specs.declared.direction.Direction.{Direction}
 use Rattle.court_clock.specs.declared.direction.Direction.TheVariants.{After, Before}
+use Rattle.rule_periods.specs.declared.grant.Grant.{Grant}
+use Rattle.rule_periods.specs.declared.grant.Grant.TheVariants.{Reset, ResetAt}
 use Rattle.deadline_reasons.specs.declared.reason.Cause.TheVariants.{FederalHoliday, StateHoliday}
 use Rattle.deadline_reasons.specs.declared.reason.Reason.{Reason}
 use Rattle.deadline_reasons.specs.declared.reason.Reason.TheVariants as reason
@@ -36,6 +38,12 @@ abbrev pub extended_by : (summons : Bool) → List ℕ
 extended_by true = codes "4(m)"
 extended_by false = codes "6(b)"
 
+-- the same of what is granted: a time that an order sets is extended by no rule
+abbrev pub granted_by : (summons : Bool) → Grant → List ℕ
+granted_by summons (Reset day) = by_order
+granted_by summons (ResetAt at) = by_order
+granted_by summons grant = extended_by summons
+
 -- by which a reason goes
 abbrev pub section_of : Course → Reason → List ℕ
 section_of course (reason.Excluded day) = codes "6(a)(1)(A)"
@@ -46,8 +54,8 @@ section_of course (reason.PassedOver day cause) = looked_by course.search course
 section_of course (reason.RunsTo day) = looked_by course.search course.direction
 section_of course (reason.SameTime day instant) = looked_by course.search course.direction
 section_of course (reason.ThreeAdded kind) = codes "6(d)"
-section_of course (reason.Extended grant) = extended_by course.summons
-section_of course (reason.NotExtended grant) = extended_by course.summons
+section_of course (reason.Extended grant) = granted_by course.summons grant
+section_of course (reason.NotExtended grant) = granted_by course.summons grant
 section_of course (reason.HoursFrom instant) = codes "6(a)(2)(A)"
 section_of course (reason.HoursCounted h instant forward) = codes "6(a)(2)(B)"
 section_of course (reason.EndsOn day) = codes "6(a)(2)(C)"

@@ -1,11 +1,12 @@
 //! The section of the Federal Rules of Civil Procedure by which a reason goes.
 
 ghost use Rattle.std.specs.Prelude.{◌≡◌, ◌++◌, OnOk, string_bytes};
-ghost use Rattle.reason_texts.specs.Section.{ended_by, extended_by, holiday_section, looked_by, section_of, section_text};
+ghost use Rattle.reason_texts.specs.Section.{ended_by, extended_by, granted_by, holiday_section, looked_by, section_of, section_text};
 
 use crate::course::{Course, Search};
 use court_clock::Direction;
 use deadline_reasons::{Cause, Reason};
+use rule_periods::Grant;
 use std::alloc::AllocError;
 
 /// Adds the section by which a reason goes, and for a holiday that which says what one is. `Err` says that memory ran out.
@@ -26,7 +27,7 @@ fn section_of(course: &Course, reason: &Reason) -> &'static str
         Reason::Counted(_, _) => "6(a)(1)(B)",
         Reason::PassedOver(_, _) | Reason::RunsTo(_) | Reason::SameTime(_, _) => looked_by(course),
         Reason::ThreeAdded(_) => "6(d)",
-        Reason::Extended(_) | Reason::NotExtended(_) => extended_by(course.summons),
+        Reason::Extended(grant) | Reason::NotExtended(grant) => granted_by(course.summons, grant),
         Reason::HoursFrom(_) => "6(a)(2)(A)",
         Reason::HoursCounted(_, _, _) => "6(a)(2)(B)",
         Reason::EndsOn(_) | Reason::Continued(_, _) => "6(a)(2)(C)",
@@ -65,6 +66,16 @@ fn ended_by(search: Search) -> &'static str
         Search::LastDay | Search::SameTime | Search::AccessibleDay | Search::AccessibleHour =>
             "6(a)(2)",
         Search::NoDay => "6(a), 2009 Note",
+    }
+}
+
+/// The section of what is granted. A time that an order sets is extended by no rule.
+fn granted_by(summons: bool, grant: Grant) -> &'static str
+    ensures { result.now ≡ granted_by summons grant }
+{
+    match grant {
+        Grant::Reset(_) | Grant::ResetAt(_) => "6(a), 2009 Note",
+        _ => extended_by(summons),
     }
 }
 

@@ -9,7 +9,7 @@ use Rattle.rule6.specs.declared.timeliness.Means.TheVariants.{Electronic, Paper}
 use Rattle.rule6.specs.declared.timeliness.Shown.{Shown}
 use Rattle.rule6.specs.declared.timeliness.Shown.TheVariants as shown
 use Rattle.rule_periods.specs.declared.grant.Grant.{Grant}
-use Rattle.rule_periods.specs.declared.grant.Grant.TheVariants.{ByDays, ByHours, Until}
+use Rattle.rule_periods.specs.declared.grant.Grant.TheVariants.{ByDays, ByHours, Until, Reset, ResetAt}
 use Rattle.rule_periods.specs.Words.{DeadlineRowView}
 use Rattle.docket_rows.specs.declared.sheet.SheetDeadline.{SheetDeadline}
 use Rattle.docket_rows.specs.declared.sheet.State.{State}
@@ -79,11 +79,13 @@ deadline_values clock d =
 unfoldable pub deadline_row : ClockView → (case : ℕ) → SheetDeadline → List ℕ
 deadline_row clock case d = row_of (codes "deadlines") case (deadline_values clock d)
 
--- an extension: by days, by hours, or until a day
+-- an extension: by days, by hours, or until a day, which may be that to which an order reset the end
 abbrev pub grant_values : Grant → List SqlValue
 grant_values (ByDays n) = number n ∷ null ∷ null ∷ []
 grant_values (ByHours n) = null ∷ number n ∷ null ∷ []
 grant_values (Until day) = null ∷ null ∷ day_value day ∷ []
+grant_values (Reset day) = null ∷ null ∷ day_value day ∷ []
+grant_values (ResetAt at) = null ∷ null ∷ day_value at.day ∷ []
 
 -- the extension of that number of a deadline, counted from 1 in the order in which they were given
 unfoldable pub grant_row : (case deadline : ℕ) → (place : ℕ) → Grant → List ℕ

@@ -236,9 +236,13 @@ fn push_grant_values(out: &mut Script, grant: Grant) -> Result<(), AllocError>
             out.number(u64::from(hours))?;
             out.null()
         }
-        Grant::Until(day) => {
+        Grant::Until(day) | Grant::Reset(day) => {
             push_nulls(out)?;
             out.day(day)
+        }
+        Grant::ResetAt(at) => {
+            push_nulls(out)?;
+            out.day(at.day())
         }
     }
 }

@@ -2,13 +2,13 @@
 
 ghost use Rattle.std.specs.Prelude.{◌≡◌};
 ghost use Rattle.csv.specs.Records.{fields_of};
-ghost use Rattle.row_forms.specs.Forms.{calendar_row, cancel_row, compute_row, extend_row, file_row, holiday_row, inaccessible_row, motion_row, open_row, read_as, set_length, set_row, set_to, start_row, work_as};
+ghost use Rattle.row_forms.specs.Forms.{calendar_row, cancel_row, compute_row, extend_row, file_row, holiday_row, inaccessible_row, motion_row, open_row, read_as, reset_row, set_length, set_row, set_to, start_row, work_as};
 ghost use Rattle.row_forms.specs.CourtNames.{names_of};
 
 use crate::columns::{column, day_in, number_in};
 use crate::fault::RowCause;
 use crate::fields::choices::{is_so, list_of, means_of};
-use crate::fields::grants::{grant_of, need_of};
+use crate::fields::grants::{grant_of, need_of, order_dated, reset_to};
 use crate::fields::hearings::judge_named;
 use crate::fields::period::act_of;
 use crate::fields::times::{ending_minute, minute_or_midnight};
@@ -61,6 +61,7 @@ fn read_as(court: &Court, form: Form, fields: &StringRecord) -> Result<Work, Row
         Form::Sheet => Ok(Work::Query(Query::Sheet(number_in(fields, 3)?))),
         Form::Calendar => calendar_row(court, fields),
         Form::Set => set_row(fields),
+        Form::Reset => reset_row(fields),
     }
 }
 
@@ -220,4 +221,21 @@ fn set_to(length: Length, act: Act) -> Period
         served: false,
         mark: Mark::Plain,
     })
+}
+
+// Another end that an order sets for a deadline.
+fn reset_row(fields: &StringRecord) -> Result<Work, RowCause>
+    ensures { result ≡ reset_row (fields_of fields.now) }
+{
+    let case = number_in(fields, 3)?;
+    let deadline = number_in(fields, 4)?;
+    let day = day_in(fields, 5)?;
+    let minute = minute_or_midnight(column(fields, 6)).ok_or(RowCause::BadField(6))?;
+    let dated = day_in(fields, 7)?;
+    let grant = reset_to(column(fields, 6), Event::new(day, minute));
+    Ok(Work::Command(Command::Extend {
+        case,
+        deadline,
+        request: order_dated(dated, grant),
+    }))
 }

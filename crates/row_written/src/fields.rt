@@ -252,7 +252,9 @@ fn filled_said(
         Column::Deadline => deadline_said(alloc, text),
         Column::Motion => motion_said(alloc, text),
         Column::Case => case_said(alloc, text),
-        Column::Date | Column::SecondOrNone | Column::Notice => day_said(alloc, order, text),
+        Column::Date | Column::SecondOrNone | Column::Notice | Column::Dated => {
+            day_said(alloc, order, text)
+        }
         Column::Time | Column::Start | Column::TimeOrNone | Column::From => {
             minute_said(alloc, text)
         }

@@ -1,5 +1,5 @@
 -- What is shown of a deadline.
-use Rattle.std.specs.Prelude.{◌≡◌, ◌-◌, ◌*◌, length, slice_get, Bool, true, false, not, List, [], ◌∷◌, option_map, Option, Some, None, if◌then◌else◌}
+use Rattle.std.specs.Prelude.{◌≡◌, ℤ, ◌-◌, ◌*◌, length, slice_get, Bool, true, false, not, List, [], ◌∷◌, option_map, Option, Some, None, if◌then◌else◌}
 use Rattle.std.specs.Option.{option_and_then, option_map_or}
 use Rattle.court_clock.specs.declared.direction.Direction.{Direction}
 use Rattle.court_clock.specs.declared.direction.Direction.TheVariants.{After}
@@ -13,9 +13,11 @@ use Rattle.rule6.specs.Words.{extended_day, extended_end}
 use Rattle.rule_periods.specs.declared.expiry.Expiry.{Expiry}
 use Rattle.rule_periods.specs.declared.expiry.Expiry.TheVariants.{OnDay, AtInstant}
 use Rattle.rule_periods.specs.declared.grant.Grant.{Grant}
+use Rattle.rule_periods.specs.declared.grant.Grant.TheVariants.{Reset, ResetAt}
 use Rattle.rule_periods.specs.declared.period.Period.{Period}
-use Rattle.rule_periods.specs.Deadline.{DeadlineRowView}
+use Rattle.rule_periods.specs.Deadline.{DeadlineRowView, with_grant}
 use Rattle.rule_periods.specs.Due.{act_due}
+use Rattle.rule_periods.specs.Event.{EventView}
 use Rattle.rule_periods.specs.Extended.{extended_of}
 use Rattle.rule_periods.specs.Grant.{is_certain}
 use Rattle.rule_periods.specs.Period.{direction_of, is_in_hours, is_set}
@@ -66,3 +68,9 @@ set_end clock row =
 -- clerk's office was inaccessible.
 abbrev pub SetEndsStay : Type 0
 SetEndsStay = (c : DaysView) (clock : ClockView) (row : DeadlineRowView) → is_set row.period ≡ true → row.grants ≡ [] → shown_of c clock row ≡ set_end clock row
+
+-- So does the end that an order sets in place of another: a day where the period ends with a day, and a minute of one where it ends
+-- at an instant.
+pub record ResetEndsStay : Type 0 where
+  pub on_day : (c : DaysView) (clock : ClockView) (row : DeadlineRowView) (day : ℤ) → is_in_hours row.period ≡ false → shown_of c clock (with_grant row (Reset day)) ≡ shown.Last day (act_due row)
+  pub at_time : (c : DaysView) (clock : ClockView) (row : DeadlineRowView) (at : EventView) → is_in_hours row.period ≡ true → shown_of c clock (with_grant row (ResetAt at)) ≡ shown.Until (instant_of clock.zone at.day (60 * at.minute))

@@ -60,6 +60,8 @@ pub enum Column {
     Notice,
     /// What has to be done in time.
     Act,
+    /// The day of an order.
+    Dated,
 }
 
 /// The column of that number, counted from 0.
@@ -97,6 +99,7 @@ pub fn name_of(column: Column) -> &'static str
         Column::Slots => "slots",
         Column::Notice => "notice",
         Column::Act => "act",
+        Column::Dated => "dated",
     }
 }
 
@@ -132,6 +135,7 @@ pub fn mark_of(word: &str, column: Column) -> &str
         Column::Slots => "SLOTS",
         Column::Notice => "NOTICE",
         Column::Act => "ACT",
+        Column::Dated => "DATED",
     }
 }
 
