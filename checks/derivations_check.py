@@ -402,7 +402,7 @@ def an_input(chance):
     rows += ["1,inaccessible,{},09:00,12:00".format(row.split(",")[6]) for row in rows
              if row.startswith("1,book,") and chance.random() < 0.2]
     lines = [row.encode() + b"\n" for row in rows]
-    # Deadlines that orders set, in some: such rows are entered into a folder
+    # Deadlines and other ends that orders set, in some: such rows are entered into a folder
     if chance.random() < 0.3:
         lines = set_rows(chance, lines, [1], faulty=False)
     return "\n".join(court).encode() + b"\n%%\n" + b"".join(lines)

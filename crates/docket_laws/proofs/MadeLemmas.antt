@@ -101,7 +101,7 @@ pub record CanExtend (row : DeadlineRowView) (request : Request) : Type 0 where
   pub fits : grant_fits (is_in_hours row.period) request.grant ≡ true
 
 -- so has what an order sets
-order_ranged : (grant : Grant) → is_order grant ≡ true → is_grant_length grant ≡ true
+order_ranged : (g : Grant) → is_order g ≡ true → is_grant_length g ≡ true
 order_ranged (grant.ByDays n) h = cc h
 order_ranged (grant.ByHours n) h = cc h
 order_ranged (grant.Until day) h = cc h

@@ -3,7 +3,7 @@
 ghost use Rattle.std.specs.Prelude.{◌≡◌, ◌++◌, OnOk, None, codes, option_copied, string_bytes};
 ghost use Rattle.reason_texts.specs.Words.{note_line};
 ghost use Rattle.reason_refusals.specs.Hearings.{hours_text, lost_line, taken_line};
-ghost use Rattle.reason_refusals.specs.Lines.{never_words, refusal_lines, unit_words};
+ghost use Rattle.reason_refusals.specs.Lines.{is_ordered, kept_unit_words, never_words, refusal_lines};
 
 use crate::asked::{request_asked, setting_asked};
 use crate::deadlines::{push_late, push_not_longer};
@@ -39,7 +39,7 @@ pub fn push_refusal(
         Refusal::NotExtendable => push_note(
             text,
             None,
-            never_words(request_asked(command)),
+            never_words(is_ordered(request_asked(command))),
             "6(b)(2)",
         ),
         Refusal::NoGoodCause => push_note(
@@ -74,7 +74,12 @@ pub fn push_refusal(
             row,
             request_asked(command),
         ),
-        Refusal::WrongGrant => push_note(text, None, unit_words(request_asked(command)), "ours"),
+        Refusal::WrongGrant => push_note(
+            text,
+            None,
+            kept_unit_words(is_ordered(request_asked(command))),
+            "ours",
+        ),
         Refusal::NotACourtDay => push_closed(alloc, text, days, setting_asked(command)),
         Refusal::OutsideHours => push_open(alloc, text, clock),
         Refusal::ShortNotice(latest) => push_short(
@@ -92,23 +97,35 @@ pub fn push_refusal(
     }
 }
 
-/// Why a time isn't extended, or isn't reset by an order to a later end.
-fn never_words(request: Option<Request>) -> &'static str
-    ensures { result.now ≡ never_words request }
+/// Whether an order sets what a command asks for.
+fn is_ordered(request: Option<Request>) -> bool
+    ensures { result ≡ is_ordered request }
 {
     match request {
-        Some(request) if request.grant.is_order() => "this time isn't reset to a later end",
-        _ => "this time must not be extended",
+        Some(request) => request.grant.is_order(),
+        None => false,
+    }
+}
+
+/// Why a time isn't extended, or isn't reset by an order to a later end.
+fn never_words(order: bool) -> &'static str
+    ensures { result.now ≡ never_words order }
+{
+    if order {
+        "this time isn't reset to a later end"
+    } else {
+        "this time must not be extended"
     }
 }
 
 /// That a period keeps its unit.
-fn unit_words(request: Option<Request>) -> &'static str
-    ensures { result.now ≡ unit_words request }
+fn kept_unit_words(order: bool) -> &'static str
+    ensures { result.now ≡ kept_unit_words order }
 {
-    match request {
-        Some(request) if request.grant.is_order() => "a day is reset to a day, an hour to an hour",
-        _ => "hours are extended by hours, days by days",
+    if order {
+        "a day is reset to a day, an hour to an hour"
+    } else {
+        "hours are extended by hours, days by days"
     }
 }
 

@@ -26,12 +26,12 @@ looked_by AccessibleHour direction = codes "6(a)(3)(B)"
 looked_by NoDay direction = by_order
 
 -- by which the time ends at an instant: no hours are counted up to a time that an order sets
-abbrev pub ended_by : Search → List ℕ
-ended_by LastDay = codes "6(a)(2)"
-ended_by SameTime = codes "6(a)(2)"
-ended_by AccessibleDay = codes "6(a)(2)"
-ended_by AccessibleHour = codes "6(a)(2)"
-ended_by NoDay = by_order
+abbrev pub instant_section : Search → List ℕ
+instant_section LastDay = codes "6(a)(2)"
+instant_section SameTime = codes "6(a)(2)"
+instant_section AccessibleDay = codes "6(a)(2)"
+instant_section AccessibleHour = codes "6(a)(2)"
+instant_section NoDay = by_order
 
 -- by which time is extended
 abbrev pub extended_by : (summons : Bool) → List ℕ
@@ -63,7 +63,7 @@ section_of course (reason.Continued day second) = codes "6(a)(2)(C)"
 section_of course (reason.Inaccessible outage) = codes "6(a)(3)(A)"
 section_of course (reason.LastHour outage day second) = codes "6(a)(3)(B)"
 section_of course (reason.UntilClosing day minute) = codes "6(a)(4)"
-section_of course (reason.UntilInstant instant) = ended_by course.search
+section_of course (reason.UntilInstant instant) = instant_section course.search
 section_of course (reason.UntilMidnight day) = codes "ours"
 section_of course reason.NotCovered = codes "ours"
 section_of course reason.Beyond = codes "ours"

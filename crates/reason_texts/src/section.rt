@@ -1,7 +1,7 @@
 //! The section of the Federal Rules of Civil Procedure by which a reason goes.
 
 ghost use Rattle.std.specs.Prelude.{◌≡◌, ◌++◌, OnOk, string_bytes};
-ghost use Rattle.reason_texts.specs.Section.{ended_by, extended_by, granted_by, holiday_section, looked_by, section_of, section_text};
+ghost use Rattle.reason_texts.specs.Section.{instant_section, extended_by, granted_by, holiday_section, looked_by, section_of, section_text};
 
 use crate::course::{Course, Search};
 use court_clock::Direction;
@@ -34,7 +34,7 @@ fn section_of(course: &Course, reason: &Reason) -> &'static str
         Reason::Inaccessible(_) => "6(a)(3)(A)",
         Reason::LastHour(_, _, _) => "6(a)(3)(B)",
         Reason::UntilClosing(_, _) => "6(a)(4)",
-        Reason::UntilInstant(_) => ended_by(course.search),
+        Reason::UntilInstant(_) => instant_section(course.search),
         Reason::UntilMidnight(_) | Reason::NotCovered | Reason::Beyond => "ours",
     }
 }
@@ -59,8 +59,8 @@ fn looked_by(course: &Course) -> &'static str
 }
 
 /// The section by which the time ends at an instant. No hours are counted up to a time that an order sets.
-fn ended_by(search: Search) -> &'static str
-    ensures { result.now ≡ ended_by search }
+fn instant_section(search: Search) -> &'static str
+    ensures { result.now ≡ instant_section search }
 {
     match search {
         Search::LastDay | Search::SameTime | Search::AccessibleDay | Search::AccessibleHour =>

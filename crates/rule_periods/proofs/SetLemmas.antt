@@ -23,7 +23,7 @@ use Rattle.rule_periods.specs.Due.{act_due}
 use Rattle.rule_periods.specs.Event.{EventView}
 use Rattle.rule_periods.specs.Extended.{extended_of, granted_if_it_fits}
 use Rattle.rule_periods.specs.Period.{is_in_hours, is_set, is_set_length}
-use Rattle.rule_periods.specs.Showing.{ResetEndsStay, SetEndsStay, set_end, shown_after, shown_end, shown_of}
+use Rattle.rule_periods.specs.Showing.{ResetEndsStay, SetEndsStay, end_as_set, shown_after, shown_end, shown_of}
 use Rattle.rule_periods.proofs.DeadlineLemmas.{shown_of-push}
 
 abbrev row_of : Period → EventView → Option ℤ → Option ServiceKind → List Grant → Option Filing → DeadlineRowView
@@ -34,7 +34,7 @@ abbrev entered_of : Length → Direction → Act → (served : Bool) → Mark �
 entered_of length direction act served mark =
     period.Entered (record { length = length; direction = direction; act = act; served = served; mark = mark })
 
-by_length : (c : DaysView) (clock : ClockView) (length : Length) (direction : Direction) (act : Act) (served : Bool) (mark : Mark) (event : EventView) (second : Option ℤ) (service : Option ServiceKind) (filed : Option Filing) → is_set_length length ≡ true → shown_of c clock (row_of (entered_of length direction act served mark) event second service [] filed) ≡ set_end clock (row_of (entered_of length direction act served mark) event second service [] filed)
+by_length : (c : DaysView) (clock : ClockView) (length : Length) (direction : Direction) (act : Act) (served : Bool) (mark : Mark) (event : EventView) (second : Option ℤ) (service : Option ServiceKind) (filed : Option Filing) → is_set_length length ≡ true → shown_of c clock (row_of (entered_of length direction act served mark) event second service [] filed) ≡ end_as_set clock (row_of (entered_of length direction act served mark) event second service [] filed)
 unfolding shown_of shown_after extended_of base_of_period end_of_length
 by_length c clock (Days n) direction act served mark event second service filed set = cc set
 by_length c clock (Hours h) direction act served mark event second service filed set = cc set
@@ -43,12 +43,12 @@ by_length c clock ToDay direction ByService served mark event second service fil
 by_length c clock ToTime direction ByFiling served mark event second service filed set = refl
 by_length c clock ToTime direction ByService served mark event second service filed set = refl
 
-by_period : (c : DaysView) (clock : ClockView) (p : Period) (event : EventView) (second : Option ℤ) (service : Option ServiceKind) (filed : Option Filing) → is_set p ≡ true → shown_of c clock (row_of p event second service [] filed) ≡ set_end clock (row_of p event second service [] filed)
+by_period : (c : DaysView) (clock : ClockView) (p : Period) (event : EventView) (second : Option ℤ) (service : Option ServiceKind) (filed : Option Filing) → is_set p ≡ true → shown_of c clock (row_of p event second service [] filed) ≡ end_as_set clock (row_of p event second service [] filed)
 by_period c clock (period.Rule rule) event second service filed set = cc set
 by_period c clock (period.Entered e) event second service filed set =
     by_length c clock e.length e.direction e.act e.served e.mark event second service filed set
 
-by_grants : (c : DaysView) (clock : ClockView) (p : Period) (event : EventView) (second : Option ℤ) (service : Option ServiceKind) (grants : List Grant) (filed : Option Filing) → is_set p ≡ true → grants ≡ [] → shown_of c clock (row_of p event second service grants filed) ≡ set_end clock (row_of p event second service grants filed)
+by_grants : (c : DaysView) (clock : ClockView) (p : Period) (event : EventView) (second : Option ℤ) (service : Option ServiceKind) (grants : List Grant) (filed : Option Filing) → is_set p ≡ true → grants ≡ [] → shown_of c clock (row_of p event second service grants filed) ≡ end_as_set clock (row_of p event second service grants filed)
 by_grants c clock p event second service [] filed set none = by_period c clock p event second service filed set
 by_grants c clock p event second service (g ∷ grants) filed set none = cc none
 

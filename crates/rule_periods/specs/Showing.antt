@@ -60,14 +60,14 @@ shown_of c clock row =
     shown_after c clock (act_due row) (certain_by row.period row.grants) (access_direction (direction_of row.period) row.grants) (extended_of c clock row)
 
 -- the end that an order set: a day, or that minute of it by the court's clock
-abbrev pub set_end : ClockView → DeadlineRowView → Shown
-set_end clock row =
+abbrev pub end_as_set : ClockView → DeadlineRowView → Shown
+end_as_set clock row =
     if is_in_hours row.period then shown.Until (instant_of clock.zone row.event.day (60 * row.event.minute)) else shown.Last row.event.day (act_due row)
 
 -- A deadline that an order set, and that wasn't extended, ends where the order set it: whatever days are open, and whenever the
 -- clerk's office was inaccessible.
 abbrev pub SetEndsStay : Type 0
-SetEndsStay = (c : DaysView) (clock : ClockView) (row : DeadlineRowView) → is_set row.period ≡ true → row.grants ≡ [] → shown_of c clock row ≡ set_end clock row
+SetEndsStay = (c : DaysView) (clock : ClockView) (row : DeadlineRowView) → is_set row.period ≡ true → row.grants ≡ [] → shown_of c clock row ≡ end_as_set clock row
 
 -- So does the end that an order sets in place of another: a day where the period ends with a day, and a minute of one where it ends
 -- at an instant.

@@ -14,7 +14,7 @@ unfoldable pub use Rattle.rule_periods.specs.Base.{end_of_rule, end_of_length, b
 pub use Rattle.rule_periods.specs.Due.{runs_from, act_due, extension_due}
 pub use Rattle.rule_periods.specs.Extended.{by_days, by_hours, granted, granted_if_it_fits}
 unfoldable pub use Rattle.rule_periods.specs.Extended.{extended_of}
-pub use Rattle.rule_periods.specs.Showing.{certain_by, access_direction, accessed, is_moved_by_access, shown_end, set_end, SetEndsStay, ResetEndsStay}
+pub use Rattle.rule_periods.specs.Showing.{certain_by, access_direction, accessed, is_moved_by_access, shown_end, end_as_set, SetEndsStay, ResetEndsStay}
 unfoldable pub use Rattle.rule_periods.specs.Showing.{shown_after, shown_of}
 pub use Rattle.rule_periods.specs.Extension.{is_covered_grant, is_beyond, is_never, asks_findings, is_asked_in_time, is_later, is_no_later, extension_checks, reset_checks}
 unfoldable pub use Rattle.rule_periods.specs.Extension.{extension_refusal, request_refusal, reset_refusal}

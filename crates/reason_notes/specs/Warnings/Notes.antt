@@ -116,14 +116,14 @@ deadline_notes c clock filed today row shown =
     start_notes c clock filed today row shown ++ end_notes clock row shown ++ act_notes row
 
 -- that an extension was asked for, or an order made, when the end that it gives was past
-abbrev pub late_words : Grant → List ℕ
-late_words grant = if is_order grant then codes "the order is dated after the end that it sets" else codes "asked for after the end that it gives"
+abbrev pub dated_late_words : Grant → List ℕ
+dated_late_words grant = if is_order grant then codes "the order is dated after the end that it sets" else codes "asked for after the end that it gives"
 
 -- the notes on an extension, or on an order that sets another end: the end that it gave was past when it was asked for or made, and
 -- those on that end
 abbrev pub asked_late : ClockView → Shown → Request → List ℕ
 asked_late clock shown request =
-    if is_asked_in_time clock shown request.asked then [] else note (Some request.asked.day) (late_words request.grant)
+    if is_asked_in_time clock shown request.asked then [] else note (Some request.asked.day) (dated_late_words request.grant)
 
 unfoldable pub extension_notes : ClockView → DeadlineRowView → Shown → Request → List ℕ
 extension_notes clock row shown request = asked_late clock shown request ++ end_notes clock row shown

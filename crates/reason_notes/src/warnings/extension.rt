@@ -2,7 +2,7 @@
 
 ghost use Rattle.std.specs.Prelude.{◌≡◌, ◌++◌, OnOk, string_bytes};
 ghost use Rattle.rule_periods.specs.Words.{EventView, is_asked_in_time};
-ghost use Rattle.reason_notes.specs.Warnings.Notes.{asked_late, extension_notes, late_words};
+ghost use Rattle.reason_notes.specs.Warnings.Notes.{asked_late, extension_notes, dated_late_words};
 
 use crate::warnings::end::push_end_notes;
 use court_clock::Clock;
@@ -42,14 +42,14 @@ fn push_asked_late(
     push_note(
         text,
         Some(request.asked.day()),
-        late_words(request.grant),
+        dated_late_words(request.grant),
         "note",
     )
 }
 
 /// That an extension was asked for, or an order made, when the end that it gives was past.
-fn late_words(grant: Grant) -> &'static str
-    ensures { result.now ≡ late_words grant }
+fn dated_late_words(grant: Grant) -> &'static str
+    ensures { result.now ≡ dated_late_words grant }
 {
     if grant.is_order() {
         "the order is dated after the end that it sets"
