@@ -24,7 +24,8 @@ use Rattle.deadline_reasons.specs.Row.{length_of, event_day, adds_three, needs_a
 use Rattle.deadline_reasons.specs.Standing.{ToCome, Aim, LastDay, Hour, AccessibleDay, AccessibleHour, Standing, Unstarted, Counting, Looking, Runs, CountingHours, HoursEnd, RunsUntil, Moved, MovedUntil, Nowhere, Ended, grants_behind}
 
 -- Days are counted from the day of the event, which is excluded (Fed. R. Civ. P. 6(a)(1)(A)); hours from its instant,
--- at once (6(a)(2)(A)). Up to a date certain, or a time of it, which an order sets, nothing is counted (2009 Note to Fed. R. Civ. P. 6(a)).
+-- at once (6(a)(2)(A)). Up to a date certain, or a time of it, which an order sets, nothing is counted (2009 Note to
+-- Fed. R. Civ. P. 6(a)).
 abbrev pub Begins : ClockView → DeadlineRowView → Length → Reason → Standing → Type 0
 Begins clock row (Days n) (reason.Excluded day) next =
     (day ≡ event_day row row.period) × (next ≡ Counting day n (direction_of row.period) (record { three = adds_three row row.period; grants = row.grants }))
@@ -71,8 +72,8 @@ Closes clock act.Filing last (reason.UntilClosing day minute) next =
 Closes clock a last r next = ⊥
 
 -- From a last day first three days are counted where the service adds them (6(d)), then each extension in turn (6(b),
--- 4(m)), or the day that an order sets in place of the end so far. Then, for filing, an outage on the last day moves the time (6(a)(3)(A)); of several outages the first is given.
--- Without one the time ends.
+-- 4(m)); an order may set another day in place of the one so far. Then, for filing, an outage on the last day moves the
+-- time (6(a)(3)(A)); of several outages the first is given. Without one the time ends.
 abbrev pub GoesOn : DaysView → ClockView → DeadlineRowView → ℤ → Bool → List Grant → Reason → Standing → Type 0
 GoesOn c clock row last true grants (reason.ThreeAdded kind) next =
     (row.service ≡ Some kind) × (next ≡ Counting last 3 After (record { three = false; grants = grants }))
@@ -109,8 +110,9 @@ EndsHours c clock end direction grants (reason.Continued day second) next =
 EndsHours c clock end direction grants reason.NotCovered next = (civil_of clock.zone end ≡ None) × (next ≡ Nowhere grants)
 EndsHours c clock end direction grants r next = ⊥
 
--- From an instant each extension goes on in turn (6(b)), or an order sets another. Then, for filing, an outage in the last hour moves the time
--- (6(a)(3)(B)); of several outages the first is given. Without one the time ends.
+-- From an instant each extension goes on in turn (6(b)); an order may set another instant in its place. Then, for filing,
+-- an outage in the last hour moves the time (6(a)(3)(B)); of several outages the first is given. Without one the time
+-- ends.
 abbrev pub GoesOnUntil : DaysView → ClockView → DeadlineRowView → ℤ → List Grant → Reason → Standing → Type 0
 GoesOnUntil c clock row end (ByHours h ∷ grants) (reason.Extended grant) next =
     (grant ≡ ByHours h) × (is_in_hours row.period ≡ true) × (next ≡ CountingHours end h After grants)

@@ -1,5 +1,5 @@
 -- What an order set is shown as it was set.
-use Rattle.std.proofs.Common.{◌≡◌, ◌∙◌, ◌*◌, ℤ, Bool, true, false, List, [], ◌∷◌, Option, Some, ap, refl}
+use Rattle.std.proofs.Common.{◌≡◌, ◌∙◌, ◌*◌, ℤ, Bool, true, List, [], ◌∷◌, Option, Some, ap, refl}
 use Rattle.court_clock.specs.declared.direction.Direction.{Direction}
 use Rattle.court_clock.specs.declared.direction.Direction.TheVariants.{After}
 use Rattle.court_clock.specs.Words.{ClockView, instant_of}
@@ -18,11 +18,11 @@ use Rattle.rule_periods.specs.declared.period.Length.TheVariants.{Days, Hours, T
 use Rattle.rule_periods.specs.declared.period.Period.{Period}
 use Rattle.rule_periods.specs.declared.period.Period.TheVariants as period
 use Rattle.rule_periods.specs.Base.{base_of_period, end_of_length}
-use Rattle.rule_periods.specs.Deadline.{DeadlineRowView, with_grant}
+use Rattle.rule_periods.specs.Deadline.{DeadlineRowView}
 use Rattle.rule_periods.specs.Due.{act_due}
 use Rattle.rule_periods.specs.Event.{EventView}
 use Rattle.rule_periods.specs.Extended.{extended_of, granted_if_it_fits}
-use Rattle.rule_periods.specs.Period.{is_in_hours, is_set, is_set_length}
+use Rattle.rule_periods.specs.Period.{is_set, is_set_length}
 use Rattle.rule_periods.specs.Showing.{ResetEndsStay, SetEndsStay, end_as_set, shown_after, shown_end, shown_of}
 use Rattle.rule_periods.proofs.DeadlineLemmas.{shown_of-push}
 
