@@ -41,7 +41,7 @@ DIFFERS, FAULT = 7, 3
 WHY = ["--reason", "entered twice"]
 CASES = (1, 2, 3)
 # What a row names by its number.
-NAMED = {"file": "deadline", "extend": "deadline", "book": "motion", "move": "motion", "cancel": "motion"}
+NAMED = {"file": "deadline", "extend": "deadline", "reset": "deadline", "book": "motion", "move": "motion", "cancel": "motion"}
 # What of an event says when it was written, and which it is.
 STAMPS = ("DTSTAMP", "LAST-MODIFIED", "SEQUENCE", "UID")
 
@@ -56,9 +56,10 @@ def drawn_row(draw):
         "1,open,{},{}".format(case, day),
         "1,start,{},{},{},,,".format(case, draw.choice(["4m", "12a1Ai", "59b", "59e"]), day),
         "1,start,{},{},{},,,".format(case, draw.choice(["4m", "12a1Ai", "59b", "59e"]), day),
-        "1,set,{},{},,{}".format(case, day, draw.choice(["filing", "service"])),
+        "1,set,{},{},{},{}".format(case, day, draw.choice(["", "09:30"]), draw.choice(["filing", "service"])),
         "1,file,{},{},{},10:00,electronic".format(case, number, day),
         "1,extend,{},{},+7d,{},09:00,yes,yes,yes".format(case, number, day),
+        "1,reset,{},{},{},{},{}".format(case, number, day, draw.choice(["", "", "09:30"]), day),
         "1,motion,{},{},{}".format(case, day, draw.choice(["14", "7", "exparte"])),
         "1,motion,{},{},{}".format(case, day, draw.choice(["14", "7", "exparte"])),
         "1,{},{},{},Ames,R1,{},{:02}:00,1,{}".format(draw.choice(["book", "move"]), case, number, day, draw.randint(8, 16), "2025-03-03"),

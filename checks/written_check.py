@@ -60,7 +60,8 @@ FORMS = {
     "compute": "clerk command period date time? second? kind?",
     "sheet": "clerk command case",
     "calendar": "clerk command judge. date",
-    "set": "clerk command case date time! act",
+    "set": "clerk command case date time? act",
+    "reset": "clerk command case deadline date time? dated",
 }
 NAMES = sorted({column.strip("?!.") for form in FORMS.values() for column in form.split()})
 
@@ -90,14 +91,14 @@ def drawn(draw, column, clear):
         "clerk": lambda: str(draw.randint(1, 64)), "case": lambda: a_case(draw),
         "deadline": lambda: draw.choice(sorted(RULES)) if draw.random() < 0.3 else str(draw.randint(1, 99)),
         "motion": lambda: "last" if draw.random() < 0.3 else str(draw.randint(1, 99)),
-        "period": lambda: draw.choice(sorted(RULES) + ENTERED), "date": lambda: a_date(draw, clear), "notice": lambda: a_date(draw, clear),
+        "period": lambda: draw.choice(sorted(RULES) + ENTERED), "date": lambda: a_date(draw, clear), "notice": lambda: a_date(draw, clear), "dated": lambda: a_date(draw, clear),
         "second?": lambda: a_date(draw, clear), "time": lambda: time, "time?": lambda: time, "from": lambda: time,
         "to": lambda: draw.choice([time, "24:00"]), "kind?": lambda: draw.choice("ABCDEF"), "means": lambda: draw.choice(["electronic", "paper"]),
         "grant": lambda: draw.choice(["+14d", "+24h", a_date(draw, clear)]), "motion!": lambda: draw.choice(["yes", "no"]),
         "cause!": lambda: draw.choice(["yes", "no"]), "neglect!": lambda: draw.choice(["yes", "no"]),
         "need": lambda: draw.choice(["14", "7", "exparte"]), "judge": lambda: "+".join(draw.sample(JUDGES, draw.randint(1, 3))),
         "judge.": lambda: draw.choice(JUDGES), "room": lambda: draw.choice(ROOMS), "slots": lambda: draw.choice(["2", "3q", "1"]),
-        "list": lambda: draw.choice(["federal", "state"]), "time!": lambda: "", "act": lambda: draw.choice(["filing", "service"]),
+        "list": lambda: draw.choice(["federal", "state"]), "act": lambda: draw.choice(["filing", "service"]),
     }[column]()
 
 
@@ -140,7 +141,7 @@ def loosened(draw, style, column, text):
     """A field as people write it."""
     if not text:
         return text
-    if column in ("date", "notice", "second?") or column == "grant" and not text.startswith("+"):
+    if column in ("date", "notice", "dated", "second?") or column == "grant" and not text.startswith("+"):
         return date_in(style, draw, text)
     if column in ("time", "time?", "from", "to"):
         return time_in(draw, text)

@@ -55,8 +55,8 @@ def answer_lines(a):
         yield "deadline {} {}".format(a["number"], shown(a))
     elif kind == "filed":
         yield "filed timely" if a["timely"] else "filed late"
-    elif kind == "extended":
-        yield "extended " + shown(a)
+    elif kind in ("extended", "reset"):
+        yield kind + " " + shown(a)
     elif kind == "motion":
         yield "motion {}".format(a["number"])
     elif kind == "refused":

@@ -10,26 +10,33 @@ use Rattle.row_forms.specs.declared.fault.RowCause.{RowCause}
 use Rattle.row_forms.specs.declared.fault.RowCause.TheVariants.{BadClerk, NotText, TooManyRows, WrongCount}
 use Rattle.row_forms.specs.declared.forms.periods.Measured.{Measured}
 use Rattle.row_forms.specs.declared.forms.table.Form.{Form}
-use Rattle.row_forms.specs.declared.forms.table.Form.TheVariants.{Compute, Set, Start}
+use Rattle.row_forms.specs.declared.forms.table.Form.TheVariants.{Compute, Extend, Reset, Set, Start}
 use Rattle.row_forms.specs.declared.row.Row.{Row}
 use Rattle.row_forms.specs.declared.row.Work.{Work}
 use Rattle.row_forms.specs.declared.row.Work.TheVariants.{Query}
 use Rattle.row_forms.specs.Columns.{◌>>=◌, column}
 use Rattle.row_forms.specs.CourtNames.{CourtNames}
-use Rattle.row_forms.specs.Forms.{compute_row, office_work_of, read_as, start_row, work_as, work_of}
+use Rattle.row_forms.specs.Forms.{compute_row, extend_row, office_work_of, read_as, start_row, work_as, work_of}
 use Rattle.row_forms.specs.Forms.Periods.{measured_from}
 use Rattle.row_forms.specs.Forms.Table.{columns_of_form, command_word, form_of, is_word_of, office_form_of, office_forms}
 use Rattle.row_forms.specs.Office.{OfficeRowsAreReadAlike, RowsAreOfficeWork, is_office_work}
 use Rattle.row_forms.specs.Rows.{clerk_of, in_row, most_rows, office_row_of, row_asking, row_of, rows_read, rows_read_from}
-use Rattle.row_forms.proofs.FormLemmas.{at_desk, named_in, start_is}
+use Rattle.row_forms.proofs.FormLemmas.{at_desk, extend_is, named_in, start_is}
 use Rattle.row_forms.proofs.PeriodLemmas.{measured_counted}
 
--- no word of clerk_office names the form of the desk
+-- no word of clerk_office names a form of the desk's own
 never_set : (word : List ℕ) → office_form_of word ≡ Some Set → ⊥
 unfolding office_form_of is_word_of
 never_set word h =
     let same : command_word Set ≡ word = named_in office_forms word Set h in
     let found : None ≡ Some Set = subst (λ (w : List ℕ). office_form_of w ≡ Some Set) (sym same) h in
+    cc found
+
+never_reset : (word : List ℕ) → office_form_of word ≡ Some Reset → ⊥
+unfolding office_form_of is_word_of
+never_reset word h =
+    let same : command_word Reset ≡ word = named_in office_forms word Reset h in
+    let found : None ≡ Some Reset = subst (λ (w : List ℕ). office_form_of w ≡ Some Reset) (sym same) h in
     cc found
 
 -- what is read, if anything is, is work of clerk_office
@@ -58,14 +65,17 @@ compute_is fields work h = by (measured_from fields 3) refl h
         let office : is_office_work (Query (query.Compute x.period x.event x.second x.service)) ≡ true = rw plain refl in
         rw (← is) office
 
--- of each form but that of the desk: the last line is checked for every other form
-form_is_office : (names : CourtNames) (form : Form) (fields : List (List ℕ)) → (form ≡ Set → ⊥) → IsOffice (read_as names form fields)
-form_is_office names Set fields not_set = absurd (not_set refl)
-form_is_office names Start fields not_set =
+-- of each form but those of the desk: the last line is checked for every other form
+form_is_office : (names : CourtNames) (form : Form) (fields : List (List ℕ)) → (form ≡ Set → ⊥) → (form ≡ Reset → ⊥) → IsOffice (read_as names form fields)
+form_is_office names Set fields not_set not_reset = absurd (not_set refl)
+form_is_office names Reset fields not_set not_reset = absurd (not_reset refl)
+form_is_office names Extend fields not_set not_reset =
+    counted (not (length fields == length (columns_of_form Extend))) (extend_row fields) (record { office = λ work h. (extend_is fields work h).1 })
+form_is_office names Start fields not_set not_reset =
     counted (not (length fields == length (columns_of_form Start))) (start_row fields) (record { office = λ work h. (start_is fields work h).1 })
-form_is_office names Compute fields not_set =
+form_is_office names Compute fields not_set not_reset =
     counted (not (length fields == length (columns_of_form Compute))) (compute_row fields) (record { office = λ work h. compute_is fields work h })
-form_is_office names other fields not_set = search (rules, counted, after, done) depth 12
+form_is_office names other fields not_set not_reset = search (rules, counted, after, done) depth 12
 
 -- what a row that was read asks for
 row_asks : (clerks : ℕ) (asked : Result Work RowCause) (fields : List (List ℕ)) (row : Row) → row_asking clerks asked fields ≡ Ok row → asked ≡ Ok row.work
@@ -94,7 +104,7 @@ office_rows_are_read_alike_lem clerks names fields row h =
     let (form, named, reads) = work_named names (office_form_of word) fields row.work (row_asks clerks (work_as names (office_form_of word) fields) fields row h) in
     let same : form_of word ≡ office_form_of word = at_desk word form named ∙ sym named in (
       ap (λ (found : Option Form). row_asking clerks (work_as names found fields) fields) same ∙ h,
-      (form_is_office names form fields (λ is. never_set word (named ∙ ap Some is))).office row.work reads,
+      (form_is_office names form fields (λ is. never_set word (named ∙ ap Some is)) (λ is. never_reset word (named ∙ ap Some is))).office row.work reads,
     )
 
 -- the rows of records

@@ -232,7 +232,7 @@ fn may_be_empty(column: Column) -> bool
 {
     matches!(
         column,
-        Column::TimeOrNone | Column::SecondOrNone | Column::ServiceOrNone | Column::SetTime
+        Column::TimeOrNone | Column::SecondOrNone | Column::ServiceOrNone
     )
 }
 
@@ -252,7 +252,9 @@ fn filled_said(
         Column::Deadline => deadline_said(alloc, text),
         Column::Motion => motion_said(alloc, text),
         Column::Case => case_said(alloc, text),
-        Column::Date | Column::SecondOrNone | Column::Notice => day_said(alloc, order, text),
+        Column::Date | Column::SecondOrNone | Column::Notice | Column::Dated => {
+            day_said(alloc, order, text)
+        }
         Column::Time | Column::Start | Column::TimeOrNone | Column::From => {
             minute_said(alloc, text)
         }
@@ -271,8 +273,6 @@ fn filled_said(
         Column::Judges => panel_said(alloc, court, text),
         Column::Room => name_said(alloc, court, Named::Rooms, text),
         Column::Slots => slots_said(alloc, text),
-        // An order sets a day as a whole.
-        Column::SetTime => Ok(Said::Unknown),
     }
 }
 

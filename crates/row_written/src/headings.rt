@@ -73,6 +73,7 @@ pub fn heading_said(word: &str) -> Option<&'static str>
         "slots" => Some("slots"),
         "notice" | "noticeserved" => Some("notice"),
         "act" => Some("act"),
+        "dated" | "orderdated" | "orderdate" | "dateoforder" => Some("dated"),
         "note" | "notes" | "remarks" | "comment" | "comments" => Some("note"),
         _ => None,
     }

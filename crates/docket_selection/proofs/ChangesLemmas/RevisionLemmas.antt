@@ -11,8 +11,10 @@ use Rattle.docket_rows.specs.declared.answer.Answer.TheVariants as answer
 use Rattle.docket_rows.specs.declared.command.Command.{Command}
 use Rattle.docket_rows.specs.declared.command.Command.TheVariants.{OpenCase, Start, FileAct, Extend, Motion, Book, MoveHearing, Cancel, Holiday, Inaccessible}
 use Rattle.docket_rows.specs.declared.refusal.Refusal.{Refusal}
-use Rattle.docket_rows.specs.Words.{AreSound, CourtSetup, DocketedDeadline, Rows, answer_if_made, answered, is_deadline_in, next_deadline, opening_rows, parts_of, refusal, rows_after, rows_from, started, step, with_deadline}
-use Rattle.rule_periods.specs.Words.{DeadlineRowView}
+use Rattle.docket_rows.specs.Words.{AreSound, CourtSetup, DocketedDeadline, Rows, answer_if_made, answered, ended_answer, is_deadline_in, next_deadline, opening_rows, parts_of, refusal, rows_after, rows_from, started, step, with_deadline}
+use Rattle.rule6.specs.declared.timeliness.Shown.{Shown}
+use Rattle.rule_periods.specs.declared.grant.Request.{Request}
+use Rattle.rule_periods.specs.Words.{DeadlineRowView, is_order}
 use Rattle.docket_laws.specs.Words.{docket_after}
 use Rattle.docket_laws.proofs.CallerLemmas.{can_book, can_move, count_of, sound_docket}
 use Rattle.docket_selection.specs.declared.changes.change.Change.{Change}
@@ -48,6 +50,7 @@ module _ (Holds : ℕ → Type 0) (row : ℕ) (command : Command) (holds : Holds
   made_at (answer.Started number shown) = asked_at (change_asked command)
   made_at (answer.Filed timely) = asked_at (change_asked command)
   made_at (answer.Extended shown) = asked_at (change_asked command)
+  made_at (answer.Reset shown) = asked_at (change_asked command)
   made_at (answer.MotionEntered number) = asked_at (change_asked command)
   made_at answer.Booked = asked_at (change_asked command)
   made_at answer.Moved = asked_at (change_asked command)
@@ -104,6 +107,11 @@ touches case change = changes_days change || changes_case case change
 abbrev made_touches : (case : ℕ) → Option RowChange → Bool
 made_touches case made = option_map_or (λ (c : RowChange). touches case c.change) made false
 
+-- whichever way a time is extended, it touches its own case
+extension_touches : (case row of deadline : ℕ) (request : Request) (order : Bool) (end : Shown) → made_touches case (change_made row (Extend of deadline request) (ended_answer order end)) ≡ false → (of == case) ≡ false
+extension_touches case row of deadline request true end other = other
+extension_touches case row of deadline request false end other = other
+
 made_keeps : (setup : CourtSetup) (rows : Rows) (case row : ℕ) → AreSound setup rows → (command : Command) → refusal setup (parts_of rows) command ≡ None → made_touches case (change_made row command (answer_if_made setup (parts_of rows) command)) ≡ false → KeepsEvents case rows (rows_after rows command)
 made_keeps setup rows case row sound (OpenCase of filed) free other = record { days = refl; deadlines = refl; hearings = λ motion. refl }
 made_keeps setup rows case row sound (Start of period event second service) free other = record {
@@ -118,7 +126,7 @@ made_keeps setup rows case row sound (FileAct of deadline filing) free other = r
 }
 made_keeps setup rows case row sound (Extend of deadline request) free other = record {
   days = refl;
-  deadlines = other_deadline case of deadline _ other rows.deadlines;
+  deadlines = other_deadline case of deadline _ (extension_touches case row of deadline request (is_order request.grant) _ other) rows.deadlines;
   hearings = λ motion. refl;
 }
 made_keeps setup rows case row sound (Motion of served need) free other = record { days = refl; deadlines = refl; hearings = λ motion. refl }

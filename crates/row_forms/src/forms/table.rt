@@ -5,9 +5,9 @@ ghost use Rattle.std.specs.Prelude.{◌≡◌, find, map, option_map};
 ghost use Rattle.row_forms.specs.Forms.Table.{columns_of, columns_of_form, command_word, commands_listed, form_of, forms, is_word_of, office_form_of};
 
 use crate::headings::Column::{
-    self, Act, ByMotion, Case, Cause, Clerk, Command, Date, Deadline, From, Grant, Holidays, Judge,
-    Judges, Means, Motion, Need, Neglect, Notice, Period, Room, SecondOrNone, ServiceOrNone,
-    SetTime, Slots, Start, Time, TimeOrNone, To,
+    self, Act, ByMotion, Case, Cause, Clerk, Command, Date, Dated, Deadline, From, Grant, Holidays,
+    Judge, Judges, Means, Motion, Need, Neglect, Notice, Period, Room, SecondOrNone, ServiceOrNone,
+    Slots, Start, Time, TimeOrNone, To,
 };
 
 /// The form of a row: which command or query it asks for.
@@ -39,8 +39,10 @@ pub enum Form {
     Sheet,
     /// Asks for a judge's day.
     Calendar,
-    /// Starts a deadline on a day that an order sets. It is of the desk alone.
+    /// Starts a deadline on a day, or at a time of it, that an order sets. It is of the desk alone.
     Set,
+    /// Sets another end for a deadline, by an order. It is of the desk alone.
+    Reset,
 }
 
 /// The forms of the rows of clerk_office.
@@ -61,7 +63,7 @@ pub const OFFICE_FORMS: [Form; 13] = [
 ];
 
 /// The forms of the rows of the desk.
-pub const FORMS: [Form; 14] = [
+pub const FORMS: [Form; 15] = [
     Form::Open,
     Form::Start,
     Form::File,
@@ -76,10 +78,11 @@ pub const FORMS: [Form; 14] = [
     Form::Sheet,
     Form::Calendar,
     Form::Set,
+    Form::Reset,
 ];
 
 /// The command words, in the order of the forms.
-pub const COMMANDS: [&str; 14] = [
+pub const COMMANDS: [&str; 15] = [
     "open",
     "start",
     "file",
@@ -94,6 +97,7 @@ pub const COMMANDS: [&str; 14] = [
     "sheet",
     "calendar",
     "set",
+    "reset",
 ];
 
 /// The columns of a form's rows, from the first on.
@@ -134,7 +138,8 @@ pub fn columns_of_form(form: Form) -> &'static [Column]
         ],
         Form::Sheet => &[Clerk, Command, Case],
         Form::Calendar => &[Clerk, Command, Judge, Date],
-        Form::Set => &[Clerk, Command, Case, Date, SetTime, Act],
+        Form::Set => &[Clerk, Command, Case, Date, TimeOrNone, Act],
+        Form::Reset => &[Clerk, Command, Case, Deadline, Date, TimeOrNone, Dated],
     }
 }
 
@@ -157,7 +162,7 @@ pub fn commands() -> &'static [&'static str]
 pub fn commands_listed() -> &'static str
     ensures { result.now ≡ commands_listed }
 {
-    "open, start, file, extend, motion, book, move, cancel, holiday, inaccessible, compute, sheet, calendar or set"
+    "open, start, file, extend, motion, book, move, cancel, holiday, inaccessible, compute, sheet, calendar, set or reset"
 }
 
 // Whether the word is this form's.
