@@ -5,7 +5,7 @@ use Rattle.court_days.specs.Words.{CourtView}
 
 abbrev pub no_court : CourtView
 no_court = record {
-  clock = record { zone = UTC; opens = 0; closes = 0 };
+  clock = record { zone = UTC; opens = 0; closes = 0; efiling_until = None };
   days = record { from = pos 0; to = pos 0; federal = []; state = []; outages = [] };
   judges = [];
   rooms = [];
