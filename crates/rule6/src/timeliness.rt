@@ -1,7 +1,7 @@
 //! Whether an act was done in time.
 
 ghost use Rattle.std.specs.Prelude.{◌≡◌, ◌<◌, IfSome};
-ghost use Rattle.rule6.specs.Timeliness.{day_end, is_within_the_day, is_in_time};
+ghost use Rattle.rule6.specs.Timeliness.{day_end, is_by, is_within_the_day, is_in_time};
 
 use court_clock::{Clock, Day, Instant};
 
@@ -76,8 +76,15 @@ pub fn is_timely(clock: &Clock, shown: &Shown, filing: Filing) -> bool
 fn is_within_the_day(clock: &Clock, act: Act, filing: Filing) -> bool
     ensures { result ≡ is_within_the_day clock.now act filing.means filing.minute }
 {
-    match day_end(clock, act, filing.means) {
-        Some(end) => filing.minute <= end,
+    is_by(day_end(clock, act, filing.means), filing.minute)
+}
+
+/// Whether a minute of a day is in time where the day ends at this one, or at midnight if there is none.
+fn is_by(end: Option<u16>, minute: u16) -> bool
+    ensures { result ≡ is_by end minute }
+{
+    match end {
+        Some(end) => minute <= end,
         None => true,
     }
 }
