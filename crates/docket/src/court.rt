@@ -160,6 +160,7 @@ pub fn write_file<W: Write, E: Write>(
     let own = CourtOwn {
         opens: writing.opens,
         closes: writing.closes,
+        efiling_until: writing.efiling_until,
         judges,
         rooms,
     };

@@ -20,9 +20,9 @@ without document lacks =
     ∙ none_more (court_of document)
 
 -- the minute and the rest of a document
-parts : (document : Members) (file : CourtFile) → desk_court_of document ≡ Ok file → (minute : Option ℕ) × (office : CourtFile) × (court_of document ≡ Ok office) × (file ≡ with_minute minute office)
+pub desk_parts : (document : Members) (file : CourtFile) → desk_court_of document ≡ Ok file → (minute : Option ℕ) × (office : CourtFile) × (court_of document ≡ Ok office) × (file ≡ with_minute minute office)
 unfolding desk_court_of
-parts document file e =
+desk_parts document file e =
     let office = steps (court_of document) _ file e in
     let minute = steps (minute_if_there key.EfilingUntil document) _ file office.2 in
     let same : with_minute minute.0 office.0 ≡ file = cc minute.2 in
@@ -32,7 +32,7 @@ parts_of_bytes : (bytes : List ℕ) (file : CourtFile) → desk_court_in bytes �
 unfolding desk_court_in court_in
 parts_of_bytes bytes file e =
     let document = steps (ok_or (toml_of bytes) NotToml) desk_court_of file e in
-    let part = parts document.0 file document.2 in
+    let part = desk_parts document.0 file document.2 in
     (part.0, part.1, ap (λ (read : Result Members CourtFault). read >>= court_of) document.1 ∙ part.2, part.3)
 
 office_to_midnight : (document : Members) (file : CourtFile) → court_of document ≡ Ok file → file.efiling_until ≡ None
