@@ -72,6 +72,8 @@ def own_file(place):
     assert "The hours are an example, and the names of judges are invented" in rooms
     opens = place.written("hawaii", "--opens", "07:45").output.decode()
     assert tomllib.loads(opens)["opens"] == "07:45" and "The hours are an example, and" in opens
+    until = place.written("hawaii", "--efiling-until", "18:00").output.decode()
+    assert tomllib.loads(until) == {**tomllib.loads(plain), "efiling_until": "18:00"} and "Rule 6(a)(4)(A)" in until, until
     no_names = place.written("hawaii", "--judges", place.put("none.txt", "\n \n")).output.decode()
     assert tomllib.loads(no_names)["judges"] == []
 
@@ -85,7 +87,8 @@ def refused_names(place):
         assert ended.status == COURT and not ended.output, (data, ended)
         errors = ended.errors.decode()
         assert errors.startswith("names.txt:{}: {}".format(line, "'{}': ".format(said) if said else "")), errors
-    for words in (("--opens", "8:30"), ("--closes", "24:00"), ("--opens", "17:00"), ("--closes", "08:30"), ("--opens", "12:00", "--closes", "11:59")):
+    for words in (("--opens", "8:30"), ("--closes", "24:00"), ("--opens", "17:00"), ("--closes", "08:30"), ("--opens", "12:00", "--closes", "11:59"),
+                  ("--efiling-until", "24:00"), ("--efiling-until", "6pm")):
         ended = place.written("hawaii", *words)
         assert ended.status == WORDS and ended.errors.startswith(b"error: ") and not ended.output, (words, ended)
     assert place.written("hawaii", "--judges", "nowhere.txt").status == STREAM
@@ -95,6 +98,7 @@ def changed(text):
     """The ways in which a court changes its file by hand: a name, and the text."""
     yield "as it is written", text
     yield "names and hours", text.replace('"Ames", "Brandt", "Calloway"', '"Kahale"').replace("17:00", "16:30")
+    yield "a time to which e-filing runs", text.replace('closes = "17:00"\n', 'closes = "17:00"\nefiling_until = "18:00"\n')
     yield "a comment after all", text + "# the end"
     yield "no end of the last line", text.rstrip("\n")
     yield "line ends of Windows", text.replace("\n", "\r\n")
