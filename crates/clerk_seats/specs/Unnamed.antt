@@ -1,5 +1,5 @@
 -- What a ledger names that no office has opened.
-use Rattle.std.specs.Prelude.{[], pos}
+use Rattle.std.specs.Prelude.{[], pos, None}
 use Rattle.jiff_tz.specs.declared.timezone.TimeZone.TheVariants.{UTC}
 use Rattle.logbook.specs.Pages.{Book}
 use Rattle.docket_rows.specs.Words.{CourtSetup}

@@ -11,7 +11,9 @@ use crate::court::reading::dates_at;
 use crate::days::Days;
 use crate::days::holidays::Holidays;
 use court_clock::{Clock, Day, zone_from_text};
-use court_file_text::{CourtFault, Key, Names, date_at, minute_at, minute_if_there, names_at, text_at};
+use court_file_text::{
+    CourtFault, Key, Names, date_at, minute_at, minute_if_there, names_at, text_at,
+};
 use jiff::tz::TimeZone;
 use std::alloc::Global;
 use std::marker::Model;

@@ -1,5 +1,5 @@
 -- The court that a type names where no run has picked one.
-use Rattle.std.specs.Prelude.{[], pos}
+use Rattle.std.specs.Prelude.{[], pos, None}
 use Rattle.jiff_tz.specs.declared.timezone.TimeZone.TheVariants.{UTC}
 use Rattle.court_days.specs.Words.{CourtView}
 
