@@ -79,8 +79,8 @@ abbrev pub outage_text : OutageView → List ℕ
 outage_text outage = minute_time outage.from ++ codes " to " ++ minute_time outage.to
 
 -- `17:00, e-filing to midnight`: the first time is when the clerk's office is scheduled to close
-abbrev pub closing_text : (closes : ℕ) → (until : Option ℕ) → List ℕ
-closing_text closes until = minute_time closes ++ codes ", e-filing to " ++ day_end_time until
+abbrev pub end_times : (closes : ℕ) → (until : Option ℕ) → List ℕ
+end_times closes until = minute_time closes ++ codes ", e-filing to " ++ day_end_time until
 
 -- the words that a reason begins with
 abbrev pub first_words : Reason → List ℕ
@@ -117,7 +117,7 @@ detail_text clock names direction (reason.HoursCounted h instant forward) = hour
 detail_text clock names direction (reason.SameTime day instant) = time_of_civil (civil_of clock.zone instant)
 detail_text clock names direction (reason.Inaccessible outage) = outage_text outage
 detail_text clock names direction (reason.LastHour outage day second) = outage_text outage
-detail_text clock names direction (reason.UntilClosing day closes until) = closing_text closes until
+detail_text clock names direction (reason.UntilClosing day closes until) = end_times closes until
 detail_text clock names direction (reason.UntilInstant instant) = time_of_civil (civil_of clock.zone instant)
 detail_text clock names direction r = []
 

@@ -1,7 +1,7 @@
 //! What happened, in words.
 
 ghost use Rattle.std.specs.Prelude.{◌≡◌, ◌++◌, OnOk, codes, option_copied, string_bytes};
-ghost use Rattle.reason_texts.specs.What.{cause_shown, cause_text, cause_unnamed, change_text, change_words, closing_text, days_or_hours, detail_text, first_words, grant_text, hours_text, kind_text, last_words, name_of_cause, outage_text, what_text};
+ghost use Rattle.reason_texts.specs.What.{cause_shown, cause_text, cause_unnamed, change_text, change_words, end_times, days_or_hours, detail_text, first_words, grant_text, hours_text, kind_text, last_words, name_of_cause, outage_text, what_text};
 
 use crate::names::{HolidayName, name_on, push_legal};
 use crate::times::{push_day_end, push_minute, push_time_at};
@@ -78,7 +78,7 @@ fn push_detail(
             text, clock, direction, h, instant, forward,
         ),
         Reason::Inaccessible(outage) | Reason::LastHour(outage, _, _) => push_outage(text, outage),
-        Reason::UntilClosing(_, closes, until) => push_closing(text, closes, until),
+        Reason::UntilClosing(_, closes, until) => push_end_times(text, closes, until),
         _ => Ok(()),
     }
 }
@@ -145,8 +145,8 @@ fn push_outage(text: &mut String, outage: Outage) -> Result<(), AllocError>
 }
 
 /// Adds when the last day ends for filing on paper, and for electronic filing.
-fn push_closing(text: &mut String, closes: u16, until: Option<u16>) -> Result<(), AllocError>
-    ensures { OnOk result (string_bytes text.new ≡ string_bytes text.old ++ closing_text closes until) }
+fn push_end_times(text: &mut String, closes: u16, until: Option<u16>) -> Result<(), AllocError>
+    ensures { OnOk result (string_bytes text.new ≡ string_bytes text.old ++ end_times closes until) }
 {
     push_minute(text, closes)?;
     text.push_str(", e-filing to ")?;
