@@ -1,6 +1,6 @@
 //! The lines of an act.
 
-ghost use Rattle.std.specs.Prelude.{◌≡◌, ◌<◌, ◌++◌, OnOk, codes, option_copied, string_bytes};
+ghost use Rattle.std.specs.Prelude.{◌≡◌, ◌<◌, ◌++◌, OnOk, option_copied, string_bytes};
 ghost use Rattle.std.specs.Fmt.{decimal};
 ghost use Rattle.reason_texts.specs.Words.{day_end_time};
 ghost use Rattle.reason_notes.specs.Margins.Lines.{act_lines, after_words, days_text, detail_text, done_text, early_line, end_by, event_after, event_of, first_words, last_words, margin_lines, margin_section, margin_text, means_text, recorded_lines, seconds_text};
