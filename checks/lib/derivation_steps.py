@@ -231,7 +231,8 @@ def for_access(calendar, deadline, day, section, end):
 def closes(last):
     def place(calendar, deadline, line):
         if deadline.act == "filing":
-            what = "last day, to {}, e-filing to midnight".format(minute_text(calendar.clock.closes))
+            until = calendar.clock.efiling_until
+            what = "last day, to {}, e-filing to {}".format(minute_text(calendar.clock.closes), "midnight" if until is None else minute_text(until))
             expect(line == Line(last, what, "6(a)(4)"), "the last day ends when the office closes")
         else:
             expect(line == Line(last, "last day, to midnight", "ours"), "the last day ends at midnight")

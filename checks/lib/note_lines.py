@@ -9,7 +9,7 @@ from lib.period_words import right_from
 from reference.civil import civil, day_of_text, day_text, instant_at, minute_text, weekday
 from reference.docket import DATES, DEADLINES, GRANTS, MOTIONS, OUTAGES, STEPS, deadline_of, hearing_of, motion_of, opening, step
 from reference.periods import granted, is_in_range, is_order, is_set, shown
-from reference.rule6 import AFTER, BEFORE, BEYOND, ELECTRONIC, FILING, PAPER, Filing, is_timely, permitted
+from reference.rule6 import AFTER, BEFORE, BEYOND, ELECTRONIC, FILING, PAPER, Filing, day_end, is_timely, permitted
 
 
 def notes(court, rows, work, answer):
@@ -96,12 +96,11 @@ def margin(court, row, end, done):
         days = "{} day{}".format(abs(end.end - done.day), "" if abs(end.end - done.day) == 1 else "s")
         early = done.day < end.end
         return "timely, " + days + " before this last day" if early else "late, " + days + " after this last day"
-    closes = court.clock.closes
-    if not files(row) or done.means != PAPER:
-        return "timely, on the last day, which ends at midnight"
-    if done.minute <= closes:
-        return "timely, on the last day, which ends at " + minute_text(closes)
-    return "late, {} min after closing at {}".format(done.minute - closes, minute_text(closes))
+    ends = day_end(court.clock, row.period.act, done.means)
+    if ends is None or done.minute <= ends:
+        return "timely, on the last day, which ends at " + ("midnight" if ends is None else minute_text(ends))
+    what = "closing" if done.means == PAPER else "e-filing ended"
+    return "late, {} min after {} at {}".format(done.minute - ends, what, minute_text(ends))
 
 
 # How far an end lies from a day, and what a reader is warned of

@@ -140,7 +140,7 @@ module _ (c : DaysView) (clock : ClockView) (row : DeadlineRowView) where
   -- the last day
   pub closes_keeps : (a : Act) (last : ℤ) (r : Reason) (next : Standing) → Closes clock a last r next → answer_from c clock row next ≡ shown_end a (Some (OnDay last))
   closes_keeps act.Service last (reason.UntilMidnight day) next h = ap (answer_from c clock row) h.1
-  closes_keeps act.Filing last (reason.UntilClosing day minute) next h = ap (answer_from c clock row) h.2
+  closes_keeps act.Filing last (reason.UntilClosing day closes until) next h = ap (answer_from c clock row) h.3
   closes_keeps a last r next h = absurd h
 
   pub passes : (test : OutageView → Bool) (outage : OutageView) → Contains c.outages outage → test outage ≡ true → list_any test c.outages ≡ true

@@ -93,11 +93,11 @@ module _ (c : DaysView) (clock : ClockView) (row : DeadlineRowView) where
 
   abbrev closes : Act → ℤ → Reason × Standing
   closes act.Service last = (reason.UntilMidnight last, Ended (shown.Last last act.Service))
-  closes act.Filing last = (reason.UntilClosing last clock.closes, Ended (shown.Last last act.Filing))
+  closes act.Filing last = (reason.UntilClosing last clock.closes clock.efiling_until, Ended (shown.Last last act.Filing))
 
   closes_one : (a : Act) (last : ℤ) (r : Reason) (next : Standing) → Closes clock a last r next → closes a last ≡ (r, next)
   closes_one act.Service last (reason.UntilMidnight day) next h = rw (h.1, h.0) refl
-  closes_one act.Filing last (reason.UntilClosing day minute) next h = rw (h.2, h.1, h.0) refl
+  closes_one act.Filing last (reason.UntilClosing day minute until) next h = rw (h.3, h.2, h.1, h.0) refl
   closes_one a last r next h = absurd h
 
   abbrev extends_day : ℤ → Grant → List Grant → Option (Reason × Standing)

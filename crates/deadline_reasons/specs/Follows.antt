@@ -63,12 +63,12 @@ Looks c clock d look aim (reason.PassedOver day cause) next =
 Looks c clock d look aim reason.NotCovered next = (is_covered c d ≡ false) × (next ≡ Nowhere (grants_behind aim))
 Looks c clock d look aim r next = (is_open c look.holidays look.accessible d ≡ true) × Finds clock d aim r next
 
--- The last day ends at midnight for service. For filing it ends at midnight by electronic means, and by others when
--- the clerk's office is scheduled to close (6(a)(4)).
+-- The last day ends at midnight for service. For filing it ends by electronic means at midnight, or at the minute that a local rule
+-- sets, and by others when the clerk's office is scheduled to close (6(a)(4)).
 abbrev pub Closes : ClockView → Act → ℤ → Reason → Standing → Type 0
 Closes clock act.Service last (reason.UntilMidnight day) next = (day ≡ last) × (next ≡ Ended (shown.Last last act.Service))
-Closes clock act.Filing last (reason.UntilClosing day minute) next =
-    (day ≡ last) × (minute ≡ clock.closes) × (next ≡ Ended (shown.Last last act.Filing))
+Closes clock act.Filing last (reason.UntilClosing day closes until) next =
+    (day ≡ last) × (closes ≡ clock.closes) × (until ≡ clock.efiling_until) × (next ≡ Ended (shown.Last last act.Filing))
 Closes clock a last r next = ⊥
 
 -- From a last day first three days are counted where the service adds them (6(d)), then each extension in turn (6(b),

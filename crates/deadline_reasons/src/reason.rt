@@ -72,9 +72,9 @@ pub enum Reason {
     LastHour(Outage, Day, u32),
     /// The last day, which ends at midnight: the act is service, about which 6(a)(4) says nothing.
     UntilMidnight(Day),
-    /// The last day, which ends at midnight for electronic filing, and for other filing at the minute, counted from
-    /// midnight, at which the clerk's office is scheduled to close (6(a)(4)).
-    UntilClosing(Day, u16),
+    /// The last day, which ends for filing on paper at the first minute, counted from midnight, at which the clerk's office is
+    /// scheduled to close, and for electronic filing at the second one, or at midnight where there is none (6(a)(4)).
+    UntilClosing(Day, u16, Option<u16>),
     /// The instant at which the time ends.
     UntilInstant(Instant),
     /// The day that is to be looked at isn't covered by the court's file.

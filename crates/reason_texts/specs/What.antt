@@ -15,7 +15,7 @@ use Rattle.deadline_reasons.specs.declared.reason.Cause.TheVariants as cause
 use Rattle.deadline_reasons.specs.declared.reason.Reason.{Reason}
 use Rattle.deadline_reasons.specs.declared.reason.Reason.TheVariants as reason
 use Rattle.reason_texts.specs.Names.{NamedDay, legal_text, name_on}
-use Rattle.reason_texts.specs.Times.{minute_time, time_of_civil}
+use Rattle.reason_texts.specs.Times.{day_end_time, minute_time, time_of_civil}
 
 abbrev pub cause_text : Cause → List ℕ
 cause_text cause.Saturday = codes "Saturday"
@@ -88,6 +88,10 @@ hours_text clock direction hours end forward =
 abbrev pub outage_text : OutageView → List ℕ
 outage_text outage = minute_time outage.from ++ codes " to " ++ minute_time outage.to
 
+-- `17:00, e-filing to midnight`: the first time is when the clerk's office is scheduled to close
+abbrev pub end_times : (closes : ℕ) → (until : Option ℕ) → List ℕ
+end_times closes until = minute_time closes ++ codes ", e-filing to " ++ day_end_time until
+
 -- the words that a reason begins with
 abbrev pub first_words : Reason → List ℕ
 first_words (reason.Excluded day) = codes "day of the event, excluded"
@@ -107,7 +111,7 @@ first_words (reason.SameTime day instant) = codes "the same time, "
 first_words (reason.Inaccessible outage) = codes "clerk's office inaccessible "
 first_words (reason.LastHour outage day second) = codes "clerk's office inaccessible "
 first_words (reason.UntilMidnight day) = codes "last day, to midnight"
-first_words (reason.UntilClosing day minute) = codes "last day, to "
+first_words (reason.UntilClosing day closes until) = codes "last day, to "
 first_words (reason.UntilInstant instant) = codes "the time ends at "
 first_words reason.NotCovered = codes "a day that is needed isn't covered"
 first_words reason.Beyond = codes "beyond the days covered"
@@ -125,7 +129,7 @@ detail_text clock names direction (reason.HoursCounted h instant forward) = hour
 detail_text clock names direction (reason.SameTime day instant) = time_of_civil (civil_of clock.zone instant)
 detail_text clock names direction (reason.Inaccessible outage) = outage_text outage
 detail_text clock names direction (reason.LastHour outage day second) = outage_text outage
-detail_text clock names direction (reason.UntilClosing day minute) = minute_time minute
+detail_text clock names direction (reason.UntilClosing day closes until) = end_times closes until
 detail_text clock names direction (reason.UntilInstant instant) = time_of_civil (civil_of clock.zone instant)
 detail_text clock names direction r = []
 
@@ -133,8 +137,6 @@ detail_text clock names direction r = []
 abbrev pub last_words : Reason → List ℕ
 last_words (reason.Counted n day) = codes ", every day counted"
 last_words (reason.PassedOver day cause) = codes ", passed over"
--- the first time is when the clerk's office is scheduled to close
-last_words (reason.UntilClosing day minute) = codes ", e-filing to midnight"
 last_words r = []
 
 -- what happened, where the days of holidays have these names and hours are counted in this direction

@@ -23,7 +23,7 @@ pub fn day_shown(clock: &Clock, reason: &Reason) -> Option<Day>
         | Reason::EndsOn(day)
         | Reason::Continued(day, _)
         | Reason::UntilMidnight(day)
-        | Reason::UntilClosing(day, _) => Some(day),
+        | Reason::UntilClosing(day, _, _) => Some(day),
         Reason::SetAt(instant)
         | Reason::HoursFrom(instant)
         | Reason::HoursCounted(_, instant, _)

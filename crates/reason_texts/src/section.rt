@@ -33,7 +33,7 @@ fn section_of(course: &Course, reason: &Reason) -> &'static str
         Reason::EndsOn(_) | Reason::Continued(_, _) => "6(a)(2)(C)",
         Reason::Inaccessible(_) => "6(a)(3)(A)",
         Reason::LastHour(_, _, _) => "6(a)(3)(B)",
-        Reason::UntilClosing(_, _) => "6(a)(4)",
+        Reason::UntilClosing(_, _, _) => "6(a)(4)",
         Reason::UntilInstant(_) => instant_section(course.search),
         Reason::UntilMidnight(_) | Reason::NotCovered | Reason::Beyond => "ours",
     }

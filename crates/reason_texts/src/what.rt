@@ -1,10 +1,10 @@
 //! What happened, in words.
 
 ghost use Rattle.std.specs.Prelude.{◌≡◌, ◌++◌, OnOk, codes, option_copied, string_bytes};
-ghost use Rattle.reason_texts.specs.What.{cause_shown, cause_text, cause_unnamed, change_text, change_words, days_or_hours, detail_text, first_words, grant_text, grant_words, hours_text, kind_text, last_words, name_of_cause, outage_text, what_text};
+ghost use Rattle.reason_texts.specs.What.{cause_shown, cause_text, cause_unnamed, change_text, change_words, days_or_hours, detail_text, end_times, first_words, grant_text, grant_words, hours_text, kind_text, last_words, name_of_cause, outage_text, what_text};
 
 use crate::names::{HolidayName, name_on, push_legal};
-use crate::times::{push_minute, push_time_at};
+use crate::times::{push_day_end, push_minute, push_time_at};
 use court_clock::{Clock, Day, Direction, Instant};
 use court_days::Outage;
 use deadline_reasons::{Cause, Reason};
@@ -51,7 +51,7 @@ fn first_words(reason: &Reason) -> &'static str
         Reason::SameTime(_, _) => "the same time, ",
         Reason::Inaccessible(_) | Reason::LastHour(_, _, _) => "clerk's office inaccessible ",
         Reason::UntilMidnight(_) => "last day, to midnight",
-        Reason::UntilClosing(_, _) => "last day, to ",
+        Reason::UntilClosing(_, _, _) => "last day, to ",
         Reason::UntilInstant(_) => "the time ends at ",
         Reason::NotCovered => "a day that is needed isn't covered",
         Reason::Beyond => "beyond the days covered",
@@ -85,7 +85,7 @@ fn push_detail(
             text, clock, direction, h, instant, forward,
         ),
         Reason::Inaccessible(outage) | Reason::LastHour(outage, _, _) => push_outage(text, outage),
-        Reason::UntilClosing(_, minute) => push_minute(text, minute),
+        Reason::UntilClosing(_, closes, until) => push_end_times(text, closes, until),
         _ => Ok(()),
     }
 }
@@ -97,7 +97,6 @@ fn last_words(reason: &Reason) -> &'static str
     match *reason {
         Reason::Counted(_, _) => ", every day counted",
         Reason::PassedOver(_, _) => ", passed over",
-        Reason::UntilClosing(_, _) => ", e-filing to midnight",
         _ => "",
     }
 }
@@ -150,6 +149,15 @@ fn push_outage(text: &mut String, outage: Outage) -> Result<(), AllocError>
     push_minute(text, outage.from())?;
     text.push_str(" to ")?;
     push_minute(text, outage.to())
+}
+
+/// Adds when the last day ends for filing on paper, and for electronic filing.
+fn push_end_times(text: &mut String, closes: u16, until: Option<u16>) -> Result<(), AllocError>
+    ensures { OnOk result (string_bytes text.new ≡ string_bytes text.old ++ end_times closes until) }
+{
+    push_minute(text, closes)?;
+    text.push_str(", e-filing to ")?;
+    push_day_end(text, until)
 }
 
 /// What is done: the time is extended, or an order sets another end.

@@ -7,8 +7,10 @@ use Rattle.court_clock.specs.Words.{ClockView, day_text}
 use Rattle.court_days.specs.Words.{CourtView}
 use Rattle.rule6.specs.declared.timeliness.Act.TheVariants.{Filing, Service}
 use Rattle.rule6.specs.declared.timeliness.Act.{Act}
+use Rattle.rule6.specs.declared.timeliness.Means.TheVariants.{Electronic}
 use Rattle.rule6.specs.declared.timeliness.Shown.{Shown}
 use Rattle.rule6.specs.declared.timeliness.Shown.TheVariants as shown
+use Rattle.rule6.specs.Words.{day_end}
 use Rattle.rule_periods.specs.declared.period.Period.{Period}
 use Rattle.rule_periods.specs.declared.period.Period.TheVariants as period
 use Rattle.rule_periods.specs.declared.rule.RulePeriod.{RulePeriod}
@@ -144,6 +146,14 @@ midnight_words = codes "The time ends with this day, at midnight"
 unfoldable pub paper_words : List ℕ
 paper_words = codes "; for filing on paper when the clerk's office closes, at "
 
+unfoldable pub minute_front : List ℕ
+minute_front = codes "The time ends on this day, at "
+
+-- a last day ends at midnight, or for an act by electronic means at the minute that a local rule sets (Fed. R. Civ. P. 6(a)(4)(A))
+abbrev pub day_words : (end : Option ℕ) → List ℕ
+day_words None = midnight_words
+day_words (Some minute) = minute_front ++ minute_time minute
+
 -- a last day ends for filing on paper when the clerk's office closes (Fed. R. Civ. P. 6(a)(4)(B))
 abbrev pub closing_words : ClockView → Act → List ℕ
 closing_words clock Filing = paper_words ++ minute_time clock.closes
@@ -160,7 +170,7 @@ lost_words = codes "It was taken off the docket"
 
 -- when the time of a deadline ends, if a row starts it
 abbrev pub end_words : ClockView → (second : ℕ) → Shown → List ℕ
-end_words clock second (shown.Last day act) = midnight_words ++ closing_words clock act
+end_words clock second (shown.Last day act) = day_words (day_end clock act Electronic) ++ closing_words clock act
 end_words clock second (shown.Until end) = until_front ++ second_time second ++ until_back
 end_words clock second shown.Beyond = lost_words
 

@@ -4,7 +4,7 @@ ghost use Rattle.std.specs.Prelude.{◌≡◌, ◌++◌, OnOk, codes};
 ghost use Rattle.reason_texts.specs.Words.{second_time};
 ghost use Rattle.content_lines.specs.Words.{property, sent, sent_line};
 ghost use Rattle.office_texts.specs.Words.{AddsText};
-ghost use Rattle.report_ics.specs.Events.{affidavits_back, affidavits_front, affidavits_words, closing_words, deadline_name, deadline_words, described, description, end_words, hearing_words, lost_words, midnight_words, name_words, notice_front, off_deadline, off_words, paper_words, place_lines, reading_front, reading_words, rule_front, rule_period_words, state_words, summary, until_back, until_front, what_words, word_lines};
+ghost use Rattle.report_ics.specs.Events.{affidavits_back, affidavits_front, affidavits_words, closing_words, day_words, deadline_name, deadline_words, described, description, end_words, hearing_words, lost_words, midnight_words, minute_front, name_words, notice_front, off_deadline, off_words, paper_words, place_lines, reading_front, reading_words, rule_front, rule_period_words, state_words, summary, until_back, until_front, what_words, word_lines};
 
 use crate::appointment::Appointment;
 use case_numbers::push_case_text;
@@ -17,7 +17,7 @@ use office_texts::{push_number, room_name};
 use reason_texts::{event_words, push_minute, push_second, rule_section, rule_words};
 use report_texts::{Labels, push_given, push_matter, push_period};
 use rule_periods::{Period, RulePeriod};
-use rule6::{Act, Shown};
+use rule6::{Act, Means, Shown, day_end};
 use std::alloc::AllocError;
 use std::fmt::Write;
 
@@ -310,7 +310,7 @@ fn push_end(value: &mut String, clock: &Clock, second: u32, shown: &Shown) -> Re
 {
     match *shown {
         Shown::Last { day: _, act } => {
-            push_midnight(value)?;
+            push_day(value, day_end(clock, act, Means::Electronic))?;
             push_closing(value, clock, act)
         }
         Shown::Until(_) => push_until(value, second),
@@ -339,6 +339,26 @@ fn push_until_back(value: &mut String) -> Result<(), AllocError>
     ensures { OnOk result (AddsText value.old value.new until_back) }
 {
     value.push_str(" on the court's clock")
+}
+
+/// Adds when a last day ends, at this minute or at midnight.
+fn push_day(value: &mut String, end: Option<u16>) -> Result<(), AllocError>
+    ensures { OnOk result (AddsText value.old value.new (day_words end)) }
+{
+    match end {
+        Some(minute) => {
+            push_minute_front(value)?;
+            push_minute(value, minute)
+        }
+        None => push_midnight(value),
+    }
+}
+
+#[tactic(auto, unfolding(crate::specs::Events::minute_front))]
+fn push_minute_front(value: &mut String) -> Result<(), AllocError>
+    ensures { OnOk result (AddsText value.old value.new minute_front) }
+{
+    value.push_str("The time ends on this day, at ")
 }
 
 #[tactic(auto, unfolding(crate::specs::Events::midnight_words))]

@@ -1,5 +1,5 @@
 -- How deep the values of a docket nest.
-use Rattle.std.proofs.Common.{◌≤◌, ◌+◌, ℕ, ℤ, List, [], ◌∷◌, ◌++◌, length, map, codes, slice_get, arith}
+use Rattle.std.proofs.Common.{◌≤◌, ◌+◌, ℕ, ℤ, List, [], ◌∷◌, ◌++◌, Option, Some, None, length, map, codes, slice_get, arith}
 use Rattle.std.specs.List.{range_with_len}
 use Rattle.std.specs.Option.{option_and_then}
 use Rattle.json.specs.Json.{Json, string, max_depth}
@@ -46,7 +46,7 @@ use Rattle.report_json.specs.Answers.{answer_fields, answered_value, case_named,
 use Rattle.report_json.specs.Bookings.{booked_fields, booking_fields, booking_value, calendar_fields, calendar_value}
 use Rattle.report_json.specs.Cases.{case_fields, name_fields}
 use Rattle.report_json.specs.Deadlines.{deadline_fields, deadline_value, docketed_fields, end_of, event_value, filed_fields, filed_value, last_day_of, outcome_fields, shown_fields, shown_value, started_fields}
-use Rattle.report_json.specs.Document.{answers_from, court_value, court_fields, document_fields, document_value}
+use Rattle.report_json.specs.Document.{answers_from, court_value, court_fields, document_fields, document_value, office_fields, until_fields}
 use Rattle.report_json.specs.Motions.{hearing_fields, hearing_value, motion_fields, motion_value, notice_days_of}
 use Rattle.report_json.specs.Names.{judges_value, name_value, names_from}
 use Rattle.report_json.specs.Periods.{code_of, day_of_grant, days_of_grant, days_of_length, entered_fields, entered_of, entered_value, extension_fields, grant_fields, grant_value, hours_of_grant, hours_of_length, order_fields, service_value}
@@ -252,9 +252,15 @@ judges_within : (court : CourtView) → depth (judges_value court) ≤ 1
 unfolding names_from
 judges_within court = array_within (name_value court.judges) 0 (λ j. nullable string 0 (λ _. flat) _) (range_with_len 0 (length court.judges))
 
+until_within : (minute : Option ℕ) → FieldsWithin 1 (until_fields minute)
+until_within (Some minute) = (omega arith, tt)
+until_within None = tt
+
 court_within : (court : CourtView) → depth (court_value court) ≤ 2
 unfolding court_value
-court_within court = object_within 1 (court_fields court) (omega arith, (omega arith, (omega arith, (omega arith, (judges_within court, tt)))))
+court_within court =
+    object_within 1 (court_fields court)
+    (append_within 1 (office_fields court) (until_fields court.clock.efiling_until) (omega arith, (omega arith, (omega arith, (omega arith, (judges_within court, tt))))) (until_within court.clock.efiling_until))
 
 calendar_within : (court : CourtView) (named : List NamedCase) (c : JudgeCalendar) → depth (calendar_value court named c) ≤ 3
 unfolding calendar_value

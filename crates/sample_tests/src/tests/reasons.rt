@@ -92,7 +92,7 @@ fn an_outage_moves_a_backward_period_forward(rt: HostRuntime) -> Result<(), Fail
             Reason::PassedOver(day(&rt, "2007-09-02"), Cause::Sunday),
             Reason::PassedOver(day(&rt, "2007-09-03"), Cause::FederalHoliday),
             Reason::RunsTo(day(&rt, "2007-09-04")),
-            Reason::UntilClosing(day(&rt, "2007-09-04"), 1020),
+            Reason::UntilClosing(day(&rt, "2007-09-04"), 1020, None),
         ],
     )
 }
@@ -134,7 +134,7 @@ fn a_saturday_that_an_order_sets_stays(rt: HostRuntime) -> Result<(), Fail> {
         entered(Length::ToDay, Direction::After),
         Event::new(set, 0),
         None,
-        &[Reason::Set(set), Reason::UntilClosing(set, 1020)],
+        &[Reason::Set(set), Reason::UntilClosing(set, 1020, None)],
     )
 }
 
