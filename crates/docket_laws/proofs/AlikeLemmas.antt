@@ -110,7 +110,7 @@ module _ (a b : CourtSetup) (same : IsSameSetup a b) where
   rows_from_alike rows (c ∷ cs) = ap (λ (s : Rows × Answer). rows_from a s.0 cs) (step_alike rows c) ∙ rows_from_alike (step b rows c).0 cs
 
   pub docket_alike : (commands : List Command) → docket_after a commands ≡ docket_after b commands
-  docket_alike commands = ap (λ days. rows_from a (record { days = days; cases = []; deadlines = []; motions = []; hearings = [] }) commands) same.days ∙ rows_from_alike (opening_rows b) commands
+  docket_alike commands = ap (λ days. rows_from a (record { days = days; cases = []; deadlines = []; motions = []; hearings = []; facts = [] }) commands) same.days ∙ rows_from_alike (opening_rows b) commands
 
   -- queries
   state_alike : (end : Shown) (filed : Option Filing) → state_of a.clock end filed ≡ state_of b.clock end filed

@@ -74,7 +74,7 @@ record_after command c = hearing_after command c
 
 -- a case, open or not, after a command about it
 abbrev pub case_after : Command → Option CaseRecordView → Option CaseRecordView
-case_after (OpenCase case filed) c = Some (record { filed = filed; deadlines = []; motions = [] })
+case_after (OpenCase case filed) c = Some (record { filed = filed; deadlines = []; motions = []; facts = [] })
 case_after command c = option_map (record_after command) c
 
 -- the case, where the command changes it

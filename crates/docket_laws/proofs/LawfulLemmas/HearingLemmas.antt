@@ -44,6 +44,7 @@ sound_without setup rows case motion s =
       hearings_of_motions = All-filter kept (λ (h : DocketedHearing). IsSome (find (is_motion h.case h.motion) rows.motions)) rows.hearings s.hearings_of_motions;
       hearing_once = AllPairs-filter (λ (a b : DocketedHearing). is_hearing a.case a.motion b ≡ false) kept rows.hearings s.hearing_once;
       hearings_settable = All-filter kept (λ (h : DocketedHearing). IsSettable setup h.hearing) rows.hearings s.hearings_settable;
+      facts_of_cases = s.facts_of_cases;
     }
 
 pub lawful_without : (setup : CourtSetup) (rows : Rows) (case motion : ℕ) → AreLawful setup rows → AreLawful setup (without_hearing case motion rows)
@@ -157,6 +158,7 @@ sound_placed setup rows s placed sound =
       hearings_of_motions = All-push (λ (x : DocketedHearing). IsSome (find (is_motion x.case x.motion) rows.motions)) (others rows s) h w.hearings_of_motions (ap is_some placed.found.found);
       hearing_once = all_pairs_push (λ (a b : DocketedHearing). is_hearing a.case a.motion b ≡ false) (others rows s) h w.hearing_once (λ k d within. is_hearing-sym s.case s.motion (get_or (others rows s) k d) h refl refl (are_others rows s k d within));
       hearings_settable = All-push (λ (x : DocketedHearing). IsSettable setup x.hearing) (others rows s) h w.hearings_settable placed.settable;
+      facts_of_cases = w.facts_of_cases;
     }
 
 -- the motion of that number is the one whose notice was looked at

@@ -40,6 +40,7 @@ sound_motion setup rows case served need s h =
       hearings_of_motions = All-weaker (λ (x : DocketedHearing). IsSome (find (is_motion x.case x.motion) rows.motions)) _ (λ x some. found_in_more (is_motion x.case x.motion) rows.motions (m ∷ []) some) rows.hearings s.hearings_of_motions;
       hearing_once = s.hearing_once;
       hearings_settable = s.hearings_settable;
+      facts_of_cases = s.facts_of_cases;
     }
 
 -- a motion is among those of its case

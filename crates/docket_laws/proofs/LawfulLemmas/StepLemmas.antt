@@ -27,6 +27,7 @@ sound_opening setup = record {
   hearings_of_motions = λ k d within. absurd (omega arith);
   hearing_once = λ i j d before within. absurd (omega arith);
   hearings_settable = λ k d within. absurd (omega arith);
+  facts_of_cases = λ k d within. absurd (omega arith);
 }
 
 pub lawful_opening : (setup : CourtSetup) → AreLawful setup (opening_rows setup)

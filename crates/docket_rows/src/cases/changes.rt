@@ -63,7 +63,7 @@ impl CaseRecord {
         set_hearing(&mut self.motions, motion, hearing);
     }
 
-    /// A copy, with deadlines and motions of its own. An error says that memory ran out.
+    /// A copy, with deadlines, motions and facts of its own. An error says that memory ran out.
     pub fn copy(&self, alloc: Global) -> Result<CaseRecord, AllocError>
         ensures { IfOk result (λ case. case ≡ self.now) }
     {
@@ -71,6 +71,7 @@ impl CaseRecord {
             filed: self.filed,
             deadlines: copy_deadlines(alloc, &self.deadlines)?,
             motions: Vec::from_slice(alloc, &self.motions)?,
+            facts: Vec::from_slice(alloc, &self.facts)?,
         })
     }
 }
