@@ -6,6 +6,7 @@ use Rattle.docket_rows.specs.declared.answer.Answer.{Answer}
 use Rattle.docket_rows.specs.declared.answer.Answer.TheVariants as answer
 use Rattle.docket_rows.specs.declared.command.Command.{Command}
 use Rattle.docket_rows.specs.declared.command.Command.TheVariants as command
+use Rattle.docket_rows.specs.declared.fact.Fact.TheVariants.{Ended, Resumed}
 use Rattle.docket_rows.specs.declared.refusal.Refusal.{Refusal}
 use Rattle.docket_rows.specs.declared.refusal.Refusal.TheVariants.{JudgeBusy, RoomBusy, HearingThatDay, NoticeLost}
 use Rattle.docket_rows.specs.declared.sheet.Sheet.{Sheet}
@@ -38,6 +39,8 @@ same_command (command.Extend case deadline request) = ap (λ n. command.Extend c
 same_command (command.Book s) = ap (λ n. command.Book (record s { motion = n })) (same_place s.case Motion s.motion)
 same_command (command.MoveHearing s) = ap (λ n. command.MoveHearing (record s { motion = n })) (same_place s.case Motion s.motion)
 same_command (command.Cancel case motion) = ap (λ n. command.Cancel case n) (same_place case Motion motion)
+same_command (command.Fact case (Ended deadline why dated)) = ap (λ n. command.Fact case (Ended n why dated)) (same_place case Deadline deadline)
+same_command (command.Fact case (Resumed deadline dated)) = ap (λ n. command.Fact case (Resumed n dated)) (same_place case Deadline deadline)
 same_command other = refl
 
 same_work : (asked : Work) → placed [] asked ≡ asked

@@ -9,9 +9,10 @@ use Rattle.court_days.specs.Words.{CourtView, DaysView}
 use Rattle.rule_periods.specs.Words.{shown_of}
 use Rattle.docket_rows.specs.declared.answer.Answer.TheVariants as answer
 use Rattle.docket_rows.specs.declared.command.Command.{Command as CommandOf}
-use Rattle.docket_rows.specs.declared.command.Command.TheVariants.{OpenCase, Start, FileAct, Extend, Motion, Book, MoveHearing, Cancel, Holiday, Inaccessible}
+use Rattle.docket_rows.specs.declared.command.Command.TheVariants.{OpenCase, Start, FileAct, Extend, Motion, Book, MoveHearing, Cancel, Holiday, Inaccessible, Fact}
 use Rattle.docket_rows.specs.declared.command.Counted.{Counted}
 use Rattle.docket_rows.specs.declared.command.Counted.TheVariants.{Deadline, Motion as CountedMotion}
+use Rattle.docket_rows.specs.declared.fact.Fact.TheVariants.{Ended, Resumed}
 use Rattle.docket_rows.specs.declared.query.Query.TheVariants as query
 use Rattle.docket_rows.specs.declared.refusal.Refusal.{Refusal as RefusalOf}
 use Rattle.docket_rows.specs.declared.refusal.Refusal.TheVariants.{NoSuchCase}
@@ -60,6 +61,7 @@ names_before court docketed before moved cases name (Command (MoveHearing s)) = 
 names_before court docketed before moved cases name (Command (Cancel case motion)) = refl
 names_before court docketed before moved cases name (Command (Holiday day list)) = refl
 names_before court docketed before moved cases name (Command (Inaccessible day from to)) = refl
+names_before court docketed before moved cases name (Command (Fact case fact)) = refl
 
 -- what is shown as it was has no line
 alike : (named : List NamedCase) (case : ℕ) (counted : Counted) (number : ℕ) (text : List ℕ) → shift_line named case counted number text text ≡ []
@@ -126,6 +128,8 @@ made_taken setup parts (MoveHearing s) = refl
 made_taken setup parts (Cancel case motion) = refl
 made_taken setup parts (Holiday day list) = refl
 made_taken setup parts (Inaccessible day from to) = refl
+made_taken setup parts (Fact case (Ended deadline why dated)) = refl
+made_taken setup parts (Fact case (Resumed deadline dated)) = refl
 
 refused_leaves : (setup : CourtSetup) (docketed : Rows) (command : CommandOf) → came_of (step setup docketed command).1 ≡ Refused → (step setup docketed command).0 ≡ docketed
 unfolding step answered

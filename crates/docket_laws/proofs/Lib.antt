@@ -6,6 +6,7 @@ pub mod PartsAfter
 pub mod PartsCalendars
 pub mod PartsCases
 pub mod PartsDeadlines
+pub mod PartsFacts
 pub mod PartsHearings
 pub mod PartsLists
 pub mod PartsMotions

@@ -13,11 +13,14 @@ use Rattle.hearing_slots.specs.declared.booking.Booking.{Booking}
 use Rattle.hearing_slots.specs.declared.need.Need.{Need}
 use Rattle.hearing_slots.specs.Words.{first_conflict, conflicts, IsFree, IsConflict, shares_slot}
 use Rattle.hearing_slots.proofs.CallerLemmas.{find-None, test_from_SharesSlot}
+use Rattle.docket_rows.specs.declared.command.Command.TheVariants as command
+use Rattle.docket_rows.specs.declared.fact.Fact.{Fact}
+use Rattle.docket_rows.specs.declared.fact.Fact.TheVariants.{Ended, Resumed}
 use Rattle.docket_rows.specs.declared.hearing.Setting.{Setting}
 use Rattle.docket_rows.specs.declared.refusal.Refusal.{Refusal}
 use Rattle.docket_rows.specs.declared.refusal.Refusal.TheVariants.{NoSuchDeadline}
 use Rattle.docket_laws.specs.Inside.CanSet.{CanSet}
-use Rattle.docket_rows.specs.Words.{CourtSetup, Parts, CaseRecordView, NumberedDeadline, most_deadlines, most_motions, refusal_of, deadlines_in, deadline_in, motions_in, hearing_in, fits_day, sits, start_deadline_refusal, start_deadline_checks, extend_refusal, extend_checks, motion_refusal, motion_checks, hearing_checks, book_checks, book_refusal, move_refusal, outage_refusal, outage_checks}
+use Rattle.docket_rows.specs.Words.{CourtSetup, Parts, CaseRecordView, NumberedDeadline, most_deadlines, most_motions, most_facts, refusal, refusal_of, deadlines_in, deadline_in, motions_in, hearing_in, facts_in, fits_day, sits, start_deadline_refusal, start_deadline_checks, extend_refusal, extend_checks, end_refusal, end_checks, resume_refusal, resume_checks, motion_refusal, motion_checks, hearing_checks, book_checks, book_refusal, move_refusal, outage_refusal, outage_checks}
 
 -- no line of the list applies
 abbrev pub NoneOf : {R : Type 0} → List (Option R) → Type 0
@@ -84,6 +87,18 @@ can_enter parts case served need h =
     let full = when-None _ _ n.1.1.1.0 in
     grind (arith, nat_tests)
 
+-- there is room for a fact that is recorded
+pub can_record : (setup : CourtSetup) (parts : Parts) (case : ℕ) (fact : Fact) → refusal setup parts (command.Fact case fact) ≡ None → length (facts_in parts case) < most_facts
+unfolding end_refusal resume_refusal
+can_record setup parts case (Ended deadline why dated) h =
+    let n = none_of (end_checks parts case deadline dated) h in
+    let full = when-None _ _ n.1.1.1.1.1.0 in
+    grind (arith, nat_tests)
+can_record setup parts case (Resumed deadline dated) h =
+    let n = none_of (resume_checks setup parts case deadline dated) h in
+    let full = when-None _ _ n.1.1.1.1.1.1.0 in
+    grind (arith, nat_tests)
+
 -- in the case that the parts show, where it is open
 pub can_start_in : (setup : CourtSetup) (parts : Parts) (case : ℕ) (period : Period) (event : EventView) (second : Option ℤ) (service : Option ServiceKind) (c : CaseRecordView) → start_deadline_refusal setup parts case period event second service ≡ None → parts.case case ≡ Some c → length c.deadlines < most_deadlines
 can_start_in setup parts case period event second service c h found =
@@ -92,6 +107,9 @@ can_start_in setup parts case period event second service c h found =
 
 pub can_enter_in : (parts : Parts) (case : ℕ) (served : ℤ) (need : Need) (c : CaseRecordView) → motion_refusal parts case served need ≡ None → parts.case case ≡ Some c → length c.motions < most_motions
 can_enter_in parts case served need c h found = rw found at (can_enter parts case served need h)
+
+pub can_record_in : (setup : CourtSetup) (parts : Parts) (case : ℕ) (fact : Fact) (c : CaseRecordView) → refusal setup parts (command.Fact case fact) ≡ None → parts.case case ≡ Some c → length c.facts < most_facts
+can_record_in setup parts case fact c h found = rw found at (can_record setup parts case fact h)
 
 -- an extension that may be granted has a length, and is of the period's kind
 pub record CanExtend (row : DeadlineRowView) (request : Request) : Type 0 where

@@ -3,7 +3,7 @@ use Rattle.std.specs.Prelude.{ℕ, List, codes}
 use Rattle.rule_periods.specs.declared.refusal.PeriodRefusal.{PeriodRefusal}
 use Rattle.rule_periods.specs.declared.refusal.PeriodRefusal.TheVariants as period
 use Rattle.docket_rows.specs.declared.refusal.Refusal.{Refusal}
-use Rattle.docket_rows.specs.declared.refusal.Refusal.TheVariants.{NoSuchCase, CaseIsOpen, NoSuchDeadline, NoSuchMotion, BadDay, BadLength, WrongService, Beyond, AlreadyMet, NotExtendable, NoGoodCause, LateWithoutMotion, LateWithoutNeglect, NotLonger, AlreadySet, NotSet, NotACourtDay, OutsideHours, ShortNotice, JudgeBusy, RoomBusy, AlreadyHoliday, HearingThatDay, NoticeLost, Full, NoSuchJudge, NoSuchRoom, WrongGrant, BadPanel}
+use Rattle.docket_rows.specs.declared.refusal.Refusal.TheVariants.{NoSuchCase, CaseIsOpen, NoSuchDeadline, NoSuchMotion, BadDay, BadLength, WrongService, Beyond, AlreadyMet, NotExtendable, NoGoodCause, LateWithoutMotion, LateWithoutNeglect, NotLonger, AlreadySet, NotSet, NotACourtDay, OutsideHours, ShortNotice, JudgeBusy, RoomBusy, AlreadyHoliday, HearingThatDay, NoticeLost, Full, NoSuchJudge, NoSuchRoom, WrongGrant, BadPanel, AlreadyEnded, NotEnded}
 
 abbrev pub refusal_number : Refusal → ℕ
 refusal_number NoSuchCase = 1
@@ -35,6 +35,8 @@ refusal_number NoSuchJudge = 26
 refusal_number NoSuchRoom = 27
 refusal_number WrongGrant = 28
 refusal_number BadPanel = 29
+refusal_number AlreadyEnded = 33
+refusal_number NotEnded = 34
 
 abbrev pub refusal_name : Refusal → List ℕ
 refusal_name NoSuchCase = codes "NoSuchCase"
@@ -66,6 +68,8 @@ refusal_name NoSuchJudge = codes "NoSuchJudge"
 refusal_name NoSuchRoom = codes "NoSuchRoom"
 refusal_name WrongGrant = codes "WrongGrant"
 refusal_name BadPanel = codes "BadPanel"
+refusal_name AlreadyEnded = codes "AlreadyEnded"
+refusal_name NotEnded = codes "NotEnded"
 
 -- what the rules of periods refuse, the docket refuses
 abbrev pub refusal_of : PeriodRefusal → Refusal

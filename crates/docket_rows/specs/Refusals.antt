@@ -15,18 +15,20 @@ use Rattle.hearing_slots.specs.declared.booking.Booking.{Booking}
 use Rattle.hearing_slots.specs.declared.need.Need.{Need}
 use Rattle.hearing_slots.specs.Words.{is_on}
 use Rattle.docket_rows.specs.declared.command.Command.{Command}
-use Rattle.docket_rows.specs.declared.command.Command.TheVariants.{OpenCase, Start, FileAct, Extend, Motion, Book, MoveHearing, Cancel, Holiday, Inaccessible}
+use Rattle.docket_rows.specs.declared.command.Command.TheVariants.{OpenCase, Start, FileAct, Extend, Motion, Book, MoveHearing, Cancel, Holiday, Inaccessible, Fact}
+use Rattle.docket_rows.specs.declared.fact.Fact.TheVariants.{Ended, Resumed}
 use Rattle.docket_rows.specs.declared.hearing.Setting.{Setting}
 use Rattle.docket_rows.specs.declared.query.Query.{Query}
 use Rattle.docket_rows.specs.declared.query.Query.TheVariants.{Sheet, JudgeDay, Compute}
 use Rattle.docket_rows.specs.declared.refusal.Refusal.{Refusal}
-use Rattle.docket_rows.specs.declared.refusal.Refusal.TheVariants.{NoSuchCase, CaseIsOpen, NoSuchDeadline, NoSuchMotion, BadDay, BadLength, Beyond, AlreadyMet, AlreadySet, NotSet, NotACourtDay, OutsideHours, ShortNotice, JudgeBusy, RoomBusy, AlreadyHoliday, HearingThatDay, NoticeLost, Full, NoSuchJudge, NoSuchRoom, BadPanel}
+use Rattle.docket_rows.specs.declared.refusal.Refusal.TheVariants.{NoSuchCase, CaseIsOpen, NoSuchDeadline, NoSuchMotion, BadDay, BadLength, Beyond, AlreadyMet, AlreadySet, NotSet, NotACourtDay, OutsideHours, ShortNotice, JudgeBusy, RoomBusy, AlreadyHoliday, HearingThatDay, NoticeLost, Full, NoSuchJudge, NoSuchRoom, BadPanel, AlreadyEnded, NotEnded}
 use Rattle.docket_rows.specs.CourtSetup.{CourtSetup}
+use Rattle.docket_rows.specs.Facts.{ending_in}
 use Rattle.docket_rows.specs.Hearings.{hearing_asked, has_judges, is_panel, fits_day, is_court_day, is_within_hours, is_need, lacks_last_service, missed_service, judge_clash, room_clash, all_booked, least, lacks_notice}
-use Rattle.docket_rows.specs.Limits.{most_deadlines, most_motions, most_grants, most_dates, most_outages}
+use Rattle.docket_rows.specs.Limits.{most_deadlines, most_motions, most_facts, most_grants, most_dates, most_outages}
 use Rattle.docket_rows.specs.Parts.{Parts}
 use Rattle.docket_rows.specs.Reasons.{refusal_of}
-use Rattle.docket_rows.specs.Seen.{has_one, is_case_number, has_case, deadlines_in, deadline_in, motions_in, motion_in, hearing_in, started, shown_now}
+use Rattle.docket_rows.specs.Seen.{has_one, is_case_number, has_case, deadlines_in, deadline_in, motions_in, motion_in, hearing_in, facts_in, started, shown_now}
 
 -- Cases
 
@@ -67,6 +69,30 @@ extend_checks setup parts case deadline request =
     ∷ when (has_one (λ row. is_some row.filed) row) AlreadyMet
     ∷ option_and_then (λ row. option_map refusal_of (extension_refusal parts.days setup.clock row request)) row
     ∷ when (has_one (λ row. nat_le most_grants (length row.grants)) row) Full
+    ∷ [])
+
+-- no act is recorded for the deadline, and it isn't ended
+abbrev pub end_checks : Parts → (case deadline : ℕ) → (dated : ℤ) → List (Option Refusal)
+end_checks parts case deadline dated =
+    let row = deadline_in parts case deadline in
+    (when (not (has_case parts case)) NoSuchCase
+    ∷ when (is_none row) NoSuchDeadline
+    ∷ when (not (is_covered parts.days dated)) BadDay
+    ∷ when (has_one (λ row. is_some row.filed) row) AlreadyMet
+    ∷ when (is_some (ending_in (facts_in parts case) deadline)) AlreadyEnded
+    ∷ when (nat_le most_facts (length (facts_in parts case))) Full
+    ∷ [])
+
+abbrev pub resume_checks : CourtSetup → Parts → (case deadline : ℕ) → (dated : ℤ) → List (Option Refusal)
+resume_checks setup parts case deadline dated =
+    let row = deadline_in parts case deadline in
+    (when (not (has_case parts case)) NoSuchCase
+    ∷ when (is_none row) NoSuchDeadline
+    ∷ when (not (is_covered parts.days dated)) BadDay
+    ∷ when (has_one (λ row. is_some row.filed) row) AlreadyMet
+    ∷ when (is_none (ending_in (facts_in parts case) deadline)) NotEnded
+    ∷ when (has_one (λ row. is_beyond (shown_now setup parts row)) row) Beyond
+    ∷ when (nat_le most_facts (length (facts_in parts case))) Full
     ∷ [])
 
 -- Motions
@@ -157,6 +183,12 @@ file_act_refusal setup parts case deadline filing = first_of (file_act_checks se
 unfoldable pub extend_refusal : CourtSetup → Parts → (case deadline : ℕ) → Request → Option Refusal
 extend_refusal setup parts case deadline request = first_of (extend_checks setup parts case deadline request)
 
+unfoldable pub end_refusal : Parts → (case deadline : ℕ) → (dated : ℤ) → Option Refusal
+end_refusal parts case deadline dated = first_of (end_checks parts case deadline dated)
+
+unfoldable pub resume_refusal : CourtSetup → Parts → (case deadline : ℕ) → (dated : ℤ) → Option Refusal
+resume_refusal setup parts case deadline dated = first_of (resume_checks setup parts case deadline dated)
+
 unfoldable pub motion_refusal : Parts → (case : ℕ) → (served : ℤ) → Need → Option Refusal
 motion_refusal parts case served need = first_of (motion_checks parts case served need)
 
@@ -186,6 +218,8 @@ refusal setup parts (MoveHearing s) = move_refusal setup parts s
 refusal setup parts (Cancel case motion) = cancel_refusal parts case motion
 refusal setup parts (Holiday day list) = holiday_refusal setup parts day list
 refusal setup parts (Inaccessible day from to) = outage_refusal parts day from to
+refusal setup parts (Fact case (Ended deadline why dated)) = end_refusal parts case deadline dated
+refusal setup parts (Fact case (Resumed deadline dated)) = resume_refusal setup parts case deadline dated
 
 -- Queries
 

@@ -1,5 +1,8 @@
 //! What is recorded of a case beside its deadlines, its motions and their hearings.
 
+ghost use Rattle.std.specs.Prelude.{◌≡◌};
+ghost use Rattle.docket_rows.specs.Facts.{ended_then, ending_in, fact_naming};
+
 use court_clock::Day;
 
 /// Why a deadline is due no more.
@@ -36,4 +39,51 @@ pub enum Fact {
         /// The day from which it is so.
         dated: Day,
     },
+}
+
+impl Fact {
+    // The same fact of the deadline of that number.
+    pub(crate) fn naming(&self, number: u32) -> Fact
+        ensures { result ≡ fact_naming self.now number }
+    {
+        match *self {
+            Fact::Ended { why, dated, .. } => Fact::Ended {
+                deadline: number,
+                why,
+                dated,
+            },
+            Fact::Resumed { dated, .. } => Fact::Resumed {
+                deadline: number,
+                dated,
+            },
+        }
+    }
+}
+
+/// Why the deadline of that number is due no more, by the facts of its case, from the first on. `None` where it wasn't
+/// ended, or was resumed.
+pub fn ending_in(facts: &[Fact], number: u32) -> Option<Ending>
+    ensures { result ≡ ending_in facts.now number }
+{
+    let mut ending = None;
+    for fact in facts {
+        ending = ended_then(number, ending, *fact);
+    }
+    ending
+}
+
+/// Why the deadline of that number was ended and not resumed, after one fact more.
+fn ended_then(number: u32, before: Option<Ending>, fact: Fact) -> Option<Ending>
+    ensures { result ≡ ended_then number before fact }
+{
+    match fact {
+        Fact::Ended { deadline, why, .. } => {
+            if deadline == number {
+                Some(why)
+            } else {
+                before
+            }
+        }
+        Fact::Resumed { deadline, .. } => { if deadline == number { None } else { before } }
+    }
 }

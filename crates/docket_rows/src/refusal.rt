@@ -69,6 +69,10 @@ pub enum Refusal {
     WrongGrant,
     /// A judge is named twice in the panel.
     BadPanel,
+    /// The deadline is ended already.
+    AlreadyEnded,
+    /// The deadline isn't ended.
+    NotEnded,
 }
 
 impl Refusal {
@@ -106,6 +110,8 @@ impl Refusal {
             Refusal::NoSuchRoom => 27,
             Refusal::WrongGrant => 28,
             Refusal::BadPanel => 29,
+            Refusal::AlreadyEnded => 33,
+            Refusal::NotEnded => 34,
         }
     }
 
@@ -143,6 +149,8 @@ impl Refusal {
             Refusal::NoSuchRoom => "NoSuchRoom",
             Refusal::WrongGrant => "WrongGrant",
             Refusal::BadPanel => "BadPanel",
+            Refusal::AlreadyEnded => "AlreadyEnded",
+            Refusal::NotEnded => "NotEnded",
         }
     }
 }

@@ -9,7 +9,7 @@ use Rattle.court_days.specs.Words.{CourtView}
 use Rattle.rule6.specs.declared.timeliness.Shown.{Shown}
 use Rattle.hearing_slots.specs.declared.booking.Booking.{Booking}
 use Rattle.docket_rows.specs.declared.answer.Answer.{Answer}
-use Rattle.docket_rows.specs.declared.answer.Answer.TheVariants.{Opened, Started, Filed, Extended, MotionEntered, Booked, Moved, Cancelled, HolidayEntered, OutageEntered, Refused}
+use Rattle.docket_rows.specs.declared.answer.Answer.TheVariants.{Opened, Started, Filed, Extended, MotionEntered, Booked, Moved, Cancelled, HolidayEntered, OutageEntered, Ended, Resumed, Refused}
 use Rattle.docket_rows.specs.declared.refusal.Refusal.{Refusal}
 use Rattle.docket_rows.specs.declared.refusal.Refusal.TheVariants.{ShortNotice, JudgeBusy, RoomBusy, HearingThatDay, NoticeLost}
 use Rattle.docket_rows.specs.declared.view.View.{View}
@@ -87,6 +87,8 @@ answer_fields zone named Moved = kind (codes "moved") ∷ []
 answer_fields zone named Cancelled = kind (codes "cancelled") ∷ []
 answer_fields zone named HolidayEntered = kind (codes "holiday") ∷ []
 answer_fields zone named OutageEntered = kind (codes "outage") ∷ []
+answer_fields zone named Ended = kind (codes "ended") ∷ []
+answer_fields zone named (Resumed end) = kind (codes "resumed") ∷ shown_fields zone end
 answer_fields zone named (Refused refusal) = refused_fields named refusal
 
 -- what a query shows

@@ -120,6 +120,11 @@ fn push_answer(
         Answer::Cancelled => push_kind(out, "cancelled"),
         Answer::HolidayEntered => push_kind(out, "holiday"),
         Answer::OutageEntered => push_kind(out, "outage"),
+        Answer::Ended => push_kind(out, "ended"),
+        Answer::Resumed(shown) => {
+            push_kind(out, "resumed")?;
+            shown.write_fields(out, court, labels)
+        }
         Answer::Refused(refusal) => push_refused(out, court, labels, refusal),
     }
 }

@@ -176,6 +176,8 @@ form_asking (Command (command.MoveHearing setting)) = Move
 form_asking (Command (command.Cancel case motion)) = Cancel
 form_asking (Command (command.Holiday day list)) = Holiday
 form_asking (Command (command.Inaccessible day from to)) = Inaccessible
+-- no form of rows asks for it yet
+form_asking (Command (command.Fact case fact)) = Set
 form_asking (Query (query.Compute period event second service)) = Compute
 form_asking (Query (query.Sheet case)) = Sheet
 form_asking (Query (query.JudgeDay judge day)) = Calendar
