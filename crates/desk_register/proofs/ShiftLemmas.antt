@@ -12,6 +12,7 @@ use Rattle.docket_rows.specs.declared.command.Command.{Command as CommandOf}
 use Rattle.docket_rows.specs.declared.command.Command.TheVariants.{OpenCase, Start, FileAct, Extend, Motion, Book, MoveHearing, Cancel, Holiday, Inaccessible, Fact}
 use Rattle.docket_rows.specs.declared.command.Counted.{Counted}
 use Rattle.docket_rows.specs.declared.command.Counted.TheVariants.{Deadline, Motion as CountedMotion}
+use Rattle.docket_rows.specs.declared.fact.Fact.{Fact as FactOf}
 use Rattle.docket_rows.specs.declared.fact.Fact.TheVariants.{Ended, Resumed}
 use Rattle.docket_rows.specs.declared.query.Query.TheVariants as query
 use Rattle.docket_rows.specs.declared.refusal.Refusal.{Refusal as RefusalOf}
@@ -68,13 +69,13 @@ alike : (named : List NamedCase) (case : ℕ) (counted : Counted) (number : ℕ)
 alike named case counted number text = rw ((bytes_eq-Decides text text).1 refl) refl
 
 -- where the days are those before, the deadlines of a case have no line
-unmoved : (court : CourtView) (parts : Parts) (named : List NamedCase) (case : ℕ) (numbers : ℕ → ℕ) (ds : List NumberedDeadline)
-    → flat_map (deadline_shift court parts.days named case) (map (λ (d : SheetDeadline). record d { number = numbers d.number }) (map (sheet_deadline (setup_of court) parts) ds)) ≡ []
-unmoved court parts named case numbers [] = refl
-unmoved court parts named case numbers (d ∷ ds) =
-    ap (λ (l : List ℕ). l ++ flat_map (deadline_shift court parts.days named case) (map (λ (s : SheetDeadline). record s { number = numbers s.number }) (map (sheet_deadline (setup_of court) parts) ds)))
+unmoved : (court : CourtView) (parts : Parts) (facts : List FactOf) (named : List NamedCase) (case : ℕ) (numbers : ℕ → ℕ) (ds : List NumberedDeadline)
+    → flat_map (deadline_shift court parts.days named case) (map (λ (d : SheetDeadline). record d { number = numbers d.number }) (map (sheet_deadline (setup_of court) parts facts) ds)) ≡ []
+unmoved court parts facts named case numbers [] = refl
+unmoved court parts facts named case numbers (d ∷ ds) =
+    ap (λ (l : List ℕ). l ++ flat_map (deadline_shift court parts.days named case) (map (λ (s : SheetDeadline). record s { number = numbers s.number }) (map (sheet_deadline (setup_of court) parts facts) ds)))
     (alike named case Deadline (numbers d.number) (shown_text court.clock (shown_of parts.days court.clock d.row)))
-    ∙ unmoved court parts named case numbers ds
+    ∙ unmoved court parts facts named case numbers ds
 
 -- nor have its hearings
 same_hearing : (court : CourtView) (days : DaysView) (named : List NamedCase) (case number : ℕ) (h : Option Hearing) → hearing_shift court days named case number (option_map (sheet_hearing days) h) ≡ []
@@ -94,7 +95,7 @@ unmoved_sheet : (court : CourtView) (parts : Parts) (moved : List Moved) (named 
     → sheet_shifts court parts.days named (numbered_view moved (view.Sheet (sheet_of (setup_of court) parts case c))) ≡ []
 unmoved_sheet court parts moved named case c =
     ap (λ (l : List ℕ). l ++ flat_map (motion_shift court parts.days named case) (map (λ (m : SheetMotion). record m { number = number_in moved case CountedMotion m.number }) (map (sheet_motion parts.days) c.motions)))
-    (unmoved court parts named case (number_in moved case Deadline) c.deadlines)
+    (unmoved court parts c.facts named case (number_in moved case Deadline) c.deadlines)
     ∙ same_hearings court parts.days named case (number_in moved case CountedMotion) c.motions
 
 unmoved_view : (court : CourtView) (parts : Parts) (moved : List Moved) (named : List NamedCase) (case : ℕ) (refused : Option RefusalOf) (there : Option CaseRecordView)

@@ -16,6 +16,7 @@ use Rattle.docket_rows.specs.declared.answer.Answer.{Answer}
 use Rattle.docket_rows.specs.declared.answer.Answer.TheVariants as answer
 use Rattle.docket_rows.specs.declared.command.Command.{Command}
 use Rattle.docket_rows.specs.declared.command.Command.TheVariants.{Start, FileAct, Extend, Book, MoveHearing, Holiday, Fact}
+use Rattle.docket_rows.specs.declared.fact.Fact.{Fact as FactOf}
 use Rattle.docket_rows.specs.declared.fact.Fact.TheVariants.{Ended, Resumed}
 use Rattle.docket_rows.specs.declared.hearing.Setting.{Setting}
 use Rattle.docket_rows.specs.declared.query.Query.{Query}
@@ -130,11 +131,11 @@ module _ (a b : CourtSetup) (same : IsSameSetup a b) where
   state_alike end None = refl
   state_alike end (Some filing) = rw (in_time_alike a.clock b.clock same.clock end filing) refl
 
-  deadline_alike : (parts : Parts) (d : NumberedDeadline) → sheet_deadline a parts d ≡ sheet_deadline b parts d
-  deadline_alike parts d = rw (end_alike parts d.row, state_alike (shown_now b parts d.row) d.row.filed) refl
+  deadline_alike : (parts : Parts) (facts : List FactOf) (d : NumberedDeadline) → sheet_deadline a parts facts d ≡ sheet_deadline b parts facts d
+  deadline_alike parts facts d = rw (end_alike parts d.row, state_alike (shown_now b parts d.row) d.row.filed) refl
 
   pub sheet_alike : (parts : Parts) (case : ℕ) (c : CaseRecordView) → sheet_of a parts case c ≡ sheet_of b parts case c
-  sheet_alike parts case c = rw (map_agree (sheet_deadline a parts) (sheet_deadline b parts) c.deadlines (λ k d within. deadline_alike parts _)) refl
+  sheet_alike parts case c = rw (map_agree (sheet_deadline a parts c.facts) (sheet_deadline b parts c.facts) c.deadlines (λ k d within. deadline_alike parts c.facts _)) refl
 
   sheet_if_open_alike : (parts : Parts) (case : ℕ) (c : Option CaseRecordView) → option_map_or (λ c. view.Sheet (sheet_of a parts case c)) c (view.Refused NoSuchCase) ≡ option_map_or (λ c. view.Sheet (sheet_of b parts case c)) c (view.Refused NoSuchCase)
   sheet_if_open_alike parts case None = refl

@@ -1,8 +1,9 @@
 -- What the facts that are recorded of a case come to, and what each is about.
-use Rattle.std.specs.Prelude.{ℕ, ◌==◌, List, [], ◌∷◌, ◌++◌, fold, Option, Some, None, if◌then◌else◌}
+use Rattle.std.specs.Prelude.{ℕ, ◌==◌, List, [], ◌∷◌, ◌++◌, codes, fold, Option, Some, None, if◌then◌else◌}
 use Rattle.docket_rows.specs.declared.command.Counted.TheVariants.{Deadline}
 use Rattle.docket_rows.specs.declared.command.Subject.{Subject}
 use Rattle.docket_rows.specs.declared.fact.Ending.{Ending}
+use Rattle.docket_rows.specs.declared.fact.Ending.TheVariants.{Moot, Vacated, Stayed, Suspended, Withdrawn}
 use Rattle.docket_rows.specs.declared.fact.Fact.{Fact}
 use Rattle.docket_rows.specs.declared.fact.Fact.TheVariants.{Ended, Resumed}
 use Rattle.docket_rows.specs.Cases.{CaseRecordView}
@@ -19,6 +20,14 @@ ended_then number before (Resumed deadline dated) = if deadline == number then N
 -- why the deadline of that number is due no more, if it was ended and not resumed
 abbrev pub ending_in : List Fact → (number : ℕ) → Option Ending
 ending_in facts number = fold (ended_then number) None facts
+
+-- the word by which texts name why a deadline was ended
+abbrev pub ending_word : Ending → List ℕ
+ending_word Moot = codes "moot"
+ending_word Vacated = codes "vacated"
+ending_word Stayed = codes "stayed"
+ending_word Suspended = codes "suspended"
+ending_word Withdrawn = codes "withdrawn"
 
 -- the deadline that a fact of a case is about
 abbrev pub fact_subject : (case : ℕ) → Fact → Option Subject

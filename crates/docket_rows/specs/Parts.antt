@@ -43,13 +43,17 @@ motion_shown rows m = record { number = m.number; served = m.served; need = m.ne
 abbrev pub fact_shown : DocketedFact → Fact
 fact_shown f = f.fact
 
+-- what is recorded of the case
+abbrev pub facts_of : Rows → (case : ℕ) → List Fact
+facts_of rows case = map fact_shown (filter (is_fact_in case) rows.facts)
+
 -- a case with the rows of its number
 abbrev pub case_shown : Rows → DocketedCase → CaseRecordView
 case_shown rows c = record {
   filed = c.filed;
   deadlines = map deadline_shown (filter (is_deadline_in c.case) rows.deadlines);
   motions = map (motion_shown rows) (filter (is_motion_in c.case) rows.motions);
-  facts = map fact_shown (filter (is_fact_in c.case) rows.facts);
+  facts = facts_of rows c.case;
 }
 
 -- what notice a motion needs, and the later of the days on which it and the notice of its hearing were served

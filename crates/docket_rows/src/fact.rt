@@ -1,7 +1,7 @@
 //! What is recorded of a case beside its deadlines, its motions and their hearings.
 
 ghost use Rattle.std.specs.Prelude.{◌≡◌};
-ghost use Rattle.docket_rows.specs.Facts.{ended_then, ending_in, fact_naming};
+ghost use Rattle.docket_rows.specs.Facts.{ended_then, ending_in, ending_word, fact_naming};
 
 use court_clock::Day;
 
@@ -39,6 +39,21 @@ pub enum Fact {
         /// The day from which it is so.
         dated: Day,
     },
+}
+
+impl Ending {
+    /// The word by which texts name it.
+    pub fn word(self) -> &'static str
+        ensures { result.now ≡ ending_word self }
+    {
+        match self {
+            Ending::Moot => "moot",
+            Ending::Vacated => "vacated",
+            Ending::Stayed => "stayed",
+            Ending::Suspended => "suspended",
+            Ending::Withdrawn => "withdrawn",
+        }
+    }
 }
 
 impl Fact {

@@ -2,6 +2,7 @@
 
 ghost use Rattle.std.specs.Prelude.{◌≡◌, List};
 
+use crate::fact::Ending;
 use crate::hearing::Hearing;
 use court_clock::Day;
 use hearing_slots::Need;
@@ -33,6 +34,8 @@ pub struct SheetDeadline {
     pub shown: Shown,
     /// Whether it was met.
     pub state: State,
+    /// Why it is due no more, if it was ended and not resumed.
+    pub ended: Option<Ending>,
 }
 
 /// A hearing on a sheet.

@@ -21,5 +21,5 @@ pub use changes::{
 pub use choice::Choice;
 pub use due::{due_of, is_due};
 pub use explained::{ExplainedDeadline, ExplainedSheet, explained_sheets};
-pub use item::{DueDeadline, DueItem, DueTypes, Matter};
+pub use item::{DueDeadline, DueItem, DueTypes, Matter, is_ended};
 pub use sheets::{sheets_chosen, sheets_of};

@@ -1,5 +1,5 @@
--- What differs between two dockets: each case that is open in one alone, each deadline that ends otherwise, and each hearing that
--- is another.
+-- What differs between two dockets: each case that is open in one alone, each deadline that ends otherwise or was ended in one alone,
+-- and each hearing that is another.
 use Rattle.std.specs.Prelude.{ℕ, List, [], ◌++◌, codes, if◌then◌else◌}
 use Rattle.std.specs.List.{flat_map, list_any, range_with_len}
 use Rattle.case_numbers.specs.declared.names.NamedCase.{NamedCase}

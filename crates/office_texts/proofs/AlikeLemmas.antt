@@ -41,7 +41,7 @@ module _ (a b : ClockView) (same : IsSameCourtClock a b) where
   deadline_line_alike : (d : SheetDeadline) → deadline_line a d ≡ deadline_line b d
   unfolding deadline_line
   deadline_line_alike d =
-      ap (λ t. codes "deadline " ++ decimal d.number ++ codes " " ++ period_text d.row.period ++ codes " " ++ t ++ codes " " ++ state_text d.state d.row.filed ++ 10 ∷ []) (shown_text_alike d.shown)
+      ap (λ t. codes "deadline " ++ decimal d.number ++ codes " " ++ period_text d.row.period ++ codes " " ++ t ++ codes " " ++ state_text d.state d.row.filed d.ended ++ 10 ∷ []) (shown_text_alike d.shown)
 
   deadline_lines_alike : (ds : List SheetDeadline) → flat_map (deadline_line a) ds ≡ flat_map (deadline_line b) ds
   deadline_lines_alike [] = refl

@@ -9,7 +9,7 @@ ghost use Rattle.office_texts.specs.Sheets.{case_line, deadline_line, motion_lin
 
 use court_clock::Clock;
 use court_days::Court;
-pub use deadlines::push_deadline;
+pub use deadlines::{push_and_ended, push_deadline, push_ended};
 use docket_rows::{Sheet, SheetDeadline, SheetMotion};
 pub use motions::push_hearing;
 use motions::push_motion;

@@ -1,5 +1,5 @@
 -- How deep the values of a docket nest.
-use Rattle.std.proofs.Common.{◌≤◌, ◌+◌, ℕ, ℤ, List, [], ◌∷◌, ◌++◌, length, map, codes, slice_get, arith}
+use Rattle.std.proofs.Common.{◌≤◌, ◌+◌, ℕ, ℤ, List, [], ◌∷◌, ◌++◌, length, map, codes, slice_get, Option, Some, None, arith}
 use Rattle.std.specs.List.{range_with_len}
 use Rattle.std.specs.Option.{option_and_then}
 use Rattle.json.specs.Json.{Json, string, max_depth}
@@ -17,6 +17,7 @@ use Rattle.rule_periods.specs.Words.{DeadlineRowView, EventView}
 use Rattle.hearing_slots.specs.declared.booking.Booking.{Booking}
 use Rattle.docket_rows.specs.declared.answer.Answer.{Answer}
 use Rattle.docket_rows.specs.declared.answer.Answer.TheVariants.{Opened, Started, Filed, Extended, MotionEntered, Booked, Moved, Cancelled, HolidayEntered, OutageEntered, Ended, Resumed, Refused}
+use Rattle.docket_rows.specs.declared.fact.Ending.{Ending}
 use Rattle.docket_rows.specs.declared.refusal.Refusal.{Refusal}
 use Rattle.docket_rows.specs.declared.sheet.Sheet.{Sheet}
 use Rattle.docket_rows.specs.declared.sheet.SheetDeadline.{SheetDeadline}
@@ -44,7 +45,7 @@ use Rattle.report_json.specs.declared.answers.AnsweredRow.{AnsweredRow}
 use Rattle.report_json.specs.Answers.{answer_fields, answered_value, case_named, day_named, motion_named, refusal_fields, refusal_front, refusal_value, reply_fields, row_fields, view_fields}
 use Rattle.report_json.specs.Bookings.{booked_fields, booking_fields, booking_value, calendar_fields, calendar_value}
 use Rattle.report_json.specs.Cases.{case_fields, name_fields}
-use Rattle.report_json.specs.Deadlines.{deadline_fields, deadline_value, docketed_fields, end_of, event_value, filed_fields, filed_value, last_day_of, outcome_fields, shown_fields, shown_value, started_fields}
+use Rattle.report_json.specs.Deadlines.{deadline_fields, deadline_value, docketed_fields, end_of, ended_fields, event_value, filed_fields, filed_value, last_day_of, outcome_fields, shown_fields, shown_value, started_fields}
 use Rattle.report_json.specs.Document.{answers_from, court_value, court_fields, document_fields, document_value}
 use Rattle.report_json.specs.Motions.{hearing_fields, hearing_value, motion_fields, motion_value, notice_days_of}
 use Rattle.report_json.specs.Names.{judges_value, name_value, names_from}
@@ -101,11 +102,15 @@ docketed_within zone d =
     let entered = nullable entered_value 2 (λ e. let h = entered_within e in omega arith) (entered_of d.row.period) in
     (omega arith, (period, (entered, started_within zone d.row)))
 
+ended_within : (n : ℕ) (ended : Option Ending) → FieldsWithin n (ended_fields ended)
+ended_within n (Some why) = (omega arith, tt)
+ended_within n None = tt
+
 outcome_within : (zone : TimeZone) (d : SheetDeadline) → FieldsWithin 2 (outcome_fields zone d)
 unfolding outcome_fields
 outcome_within zone d =
-    append_within 2 (shown_fields zone d.shown) (field (codes "state") (string (state_word d.state)) ∷ field (codes "filed") (or_null (filed_value zone) d.row.filed) ∷ []) (deeper_within 0 2 (shown_fields zone d.shown) (omega arith) (shown_within zone d.shown))
-    (omega arith, (nullable (filed_value zone) 2 (λ f. let h = filed_within zone f in omega arith) d.row.filed, tt))
+    append_within 2 (shown_fields zone d.shown) (field (codes "state") (string (state_word d.state)) ∷ field (codes "filed") (or_null (filed_value zone) d.row.filed) ∷ ended_fields d.ended) (deeper_within 0 2 (shown_fields zone d.shown) (omega arith) (shown_within zone d.shown))
+    (omega arith, (nullable (filed_value zone) 2 (λ f. let h = filed_within zone f in omega arith) d.row.filed, ended_within 2 d.ended))
 
 deadline_within : (zone : TimeZone) (d : SheetDeadline) → depth (deadline_value zone d) ≤ 3
 unfolding deadline_value

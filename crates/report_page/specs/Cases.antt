@@ -36,7 +36,7 @@ end_cell clock shown (Some other) = element tag.Cell (text_in tag.Line (ends_wor
 -- the number of a deadline, its period, when its time ends, also by another reading, and whether it was met
 unfoldable pub deadline_row : ClockView → SheetDeadline → (other : Option Shown) → List ℕ
 deadline_row clock d other =
-    element tag.Row (text_in tag.RowHead (decimal d.number) ++ period_cell d.row ++ end_cell clock d.shown other ++ text_in (state_cell d.state) (state_words d.state d.row.filed))
+    element tag.Row (text_in tag.RowHead (decimal d.number) ++ period_cell d.row ++ end_cell clock d.shown other ++ text_in (state_cell d.state) (state_words d.state d.row.filed d.ended))
 
 -- `Reasons of deadline 3`
 unfoldable pub reasons_title : (number : ℕ) → List ℕ

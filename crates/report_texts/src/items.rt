@@ -12,7 +12,7 @@ use case_numbers::push_case_text;
 use court_days::Court;
 use docket_rows::{Hearing, State};
 use docket_selection::{DueDeadline, DueItem, Matter};
-use office_texts::{push_number, room_name};
+use office_texts::{push_and_ended, push_number, room_name};
 use reason_texts::{push_minute, push_second};
 use rule6::Shown;
 use std::alloc::AllocError;
@@ -86,7 +86,7 @@ pub fn push_matter(
     }
 }
 
-/// Adds a deadline: its number, its period, and whether it was filed late.
+/// Adds a deadline: its number, its period, whether it was filed late, and why it is due no more, if it was ended.
 #[tactic(auto, unfolding(crate::specs::Items::deadline_words))]
 fn push_deadline(text: &mut String, number: u32, due: &DueDeadline) -> Result<(), AllocError>
     ensures { OnOk result (AddsText text.old text.new (deadline_words number due.now)) }
@@ -95,7 +95,8 @@ fn push_deadline(text: &mut String, number: u32, due: &DueDeadline) -> Result<()
     push_number(text, u64::from(number))?;
     text.push_str(": ")?;
     push_period(text, &due.period)?;
-    text.push_str(late_words(due.state))
+    text.push_str(late_words(due.state))?;
+    push_and_ended(text, due.ended)
 }
 
 /// Whether an act was late.
