@@ -93,12 +93,12 @@ def period_words(code):
 
 
 def deadline_item(names, case, words, other):
-    """The item of a deadline's line, or none where it was met in time or has no end."""
+    """The item of a deadline's line, or none where it was met in time, was ended or has no end."""
     number, code, end = int(words[1]), words[2], words[3]
     if end == "beyond":
         return None
     state = words[6] if end == "until" else words[5]
-    if state == "timely":
+    if state == "timely" or words[-2] == "ended":
         return None
     day = day_of(words[4])
     second = sum(int(part) * 60 ** (2 - at) for at, part in enumerate(words[5].split(":"))) if end == "until" else 0
@@ -199,7 +199,9 @@ def deadline_cells(words):
         end, state = "until {} {}".format(named(day_of(words[4])), words[5]), words[6:]
     else:
         end, state = "last day " + named(day_of(words[4])), words[5:]
-    done = ": {} {}, {}".format(named(day_of(state[1])), *state[2:]) if len(state) > 1 else ""
+    if state[0] == "ended":
+        return [words[1], period_words(words[2]), end, "ended " + state[1]]
+    done = ": {} {}, {}".format(named(day_of(state[1])), state[2], " ".join(state[3:])) if len(state) > 1 else ""
     return [words[1], period_words(words[2]), end, state[0] + done]
 
 

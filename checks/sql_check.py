@@ -32,11 +32,13 @@ from lib.programs import TOP, programs_of, seed_and_count
 from reference.civil import day_of_text, instant_at, zone_of_text
 
 DUE = """SELECT due_day, COALESCE(due_time, '00:00:00'), case_number, 0, number, due_time, term, timely, NULL FROM deadlines
- WHERE timely IS NOT TRUE AND due_day BETWEEN '{0}' AND '{1}'
+ WHERE timely IS NOT TRUE AND due_day BETWEEN '{0}' AND '{1}' {2}
 UNION ALL
 SELECT hearing_day, begins, case_number, 1, motion_number, begins, room, NULL, minutes FROM hearings
  WHERE hearing_day BETWEEN '{0}' AND '{1}'
 ORDER BY 1, 2, 3, 4, 5"""
+# What isn't due of a docket whose rows ended deadlines.
+NOT_ENDED = "AND NOT EXISTS (SELECT * FROM endings WHERE endings.case_number = deadlines.case_number AND deadline_number = number)"
 WEEK = """SELECT hearing_day, begins, minutes, case_number, motion_number, room
 FROM hearings NATURAL JOIN panels
 WHERE judge = '{0}' AND hearing_day BETWEEN '{1}' AND '{2}' ORDER BY hearing_day, begins"""
@@ -50,6 +52,7 @@ TABLES = {
     "hearings": ("case_number, motion_number, room, hearing_day, begins, minutes, {starts_at}, {ends_at}, notice_day,"
                  " affidavits_day", "case_number, motion_number"),
     "outages": ("number, outage_day, begins, ends", "number"),
+    "endings": ("case_number, deadline_number, why", "case_number, deadline_number"),
     "answers": ("number, clerk, refusal, answer", "number"),
 }
 # Where docs/clerk/REPORTS.md asks sqlite3.
@@ -163,14 +166,19 @@ def clock(minute):
     return "{:02}:{:02}".format(minute // 60, minute % 60)
 
 
-def due_text(database, names, closes, first, last):
+def has_endings(rows):
+    """Whether some of these rows end a deadline or resume one: then there is a table of the deadlines that are ended."""
+    return any(row.split(",")[1] in ("end", "resume") for row in rows)
+
+
+def due_text(database, names, closes, first, last, endings):
     panels = {}
     for case, motion, judge in rows_of(database, PANELS):
         panels.setdefault((case, motion), []).append(judge)
     lines = ["Due from {} to {}".format(named(first), named(last)),
              "Filing on paper ends at {}, when the clerk's office closes.".format(closes)]
     before = None
-    for day, _, case, kind, number, time, words, timely, length in rows_of(database, DUE.format(first, last)):
+    for day, _, case, kind, number, time, words, timely, length in rows_of(database, DUE.format(first, last, NOT_ENDED if endings else "")):
         if day != before:
             lines += ["", named(day)]
         before = day
@@ -233,6 +241,7 @@ def wanted_rows(whole, rows, answers, given):
                 case, number, d["event"]["day"], event_time(d["event"]["time"]), or_empty(d["second_day"]), or_empty(d["service"]),
                 or_empty(d["last_day"]), "" if d["end"] is None else instant(d["end"]), *act,
                 {"timely": "1", "late": "0"}.get(d["state"], "")))
+            found["endings"] += [(case, number, d["ended"])] if "ended" in d else []
             found["grants"] += [(case, number, str(place + 1), or_empty(g["days"]), or_empty(g["hours"]), or_empty(g["until"]))
                                 for place, g in enumerate(d["grants"])]
         for m in sheet["motions"]:
@@ -278,8 +287,10 @@ def names_fault(database, names, whole):
     return None if found == wanted else "names of cases: found {}, wanted {}".format(found, wanted)
 
 
-def table_fault(database, wanted):
+def table_fault(database, wanted, endings):
     for table, (columns, order) in TABLES.items():
+        if table == "endings" and not endings:
+            continue
         columns = columns.format(starts_at=database.seconds("starts_at"), ends_at=database.seconds("ends_at"))
         found = rows_of(database, "SELECT {} FROM {} ORDER BY {}".format(columns, table, order))
         if found != wanted[table]:
@@ -306,7 +317,7 @@ def is_in_order(script):
     last = {}
     for table, first, rest in re.findall(r"^INSERT INTO (\w+) VALUES \((\d+)((?:, \d+)*)", script, re.MULTILINE):
         key = (int(first), *[int(part) for part in rest.split(", ")[1:]][:2])
-        key = key[:{"cases": 1, "outages": 1, "answers": 1, "deadlines": 2, "motions": 2, "hearings": 2}.get(table, 3)]
+        key = key[:{"cases": 1, "outages": 1, "answers": 1, "deadlines": 2, "motions": 2, "hearings": 2, "endings": 2}.get(table, 3)]
         if last.get(table, ()) >= key:
             return False
         last[table] = key
@@ -326,7 +337,7 @@ def differs(chance, given, databases):
         return None
     answers = [named_text(given.names, answer) for answer in answers_of(text, closing_of(longer[1]))]
     whole = json.loads(given.report(["json"]).output)
-    wanted, script = wanted_rows(whole, rows, answers, given), found.output.decode()
+    wanted, script, endings = wanted_rows(whole, rows, answers, given), found.output.decode(), has_endings(rows)
     if not is_in_order(script):
         return "a row that isn't in its place"
     first, last, closes = whole["court"]["from"], whole["court"]["to"], whole["court"]["closes"]
@@ -337,11 +348,11 @@ def differs(chance, given, databases):
     of = chance.choice([b["day"] for c in whole["calendars"] for b in c["bookings"]] or [first])
     due = due_alone(given.report(["due", "--from", first, "--to", last]).output.decode(), first, last)
     for database in databases:
-        fault = database.load(found.output) or table_fault(database, wanted) or zone_fault(database, given.plain) or \
+        fault = database.load(found.output) or table_fault(database, wanted, endings) or zone_fault(database, given.plain) or \
             names_fault(database, given.names, whole)
         if fault:
             return "{}: {}".format(database.name, fault)
-        if due_text(database, given.names, closes, first, last) != due:
+        if due_text(database, given.names, closes, first, last, endings) != due:
             return "{}: something else is due from {} to {}".format(database.name, first, last)
         if judge is not None:
             week = given.report(["week", "--judge", judge, "--of", of]).output.decode().splitlines()

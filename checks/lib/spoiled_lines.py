@@ -69,6 +69,13 @@ def spoiled():
     for name, act in [("another word", "answer"), ("a misspelt word", "filling"), ("nothing", "")]:
         way(name + " as an act", put(order, "filing", act))
     way("a time for a day that an order sets", put(order, ",,", ",9:30,"))
+    # deadlines that are ended and resumed
+    end, resume = "1,end,12,2,moot,2025-10-06", "1,resume,12,2,,2025-10-20"
+    for name, why in [("another word", "settled"), ("a misspelt word", "vacatd"), ("nothing", "")]:
+        way(name + " as why a deadline is ended", put(end, "moot", why))
+    way("a day of an order that is none", put(end, "2025-10-06", "9/31/2025"))
+    way("a day for a deadline that is resumed", put(resume, ",,", ",2025-11-03,"))
+    way("the day of an order in the place before it", put(resume, ",,", ","))
     # numbers
     for name, case in [("a real case number", "1:25-cv-01234-ABC"), ("a leading zero", "012"), ("a hash before it", "#12"), ("a word before it", "case 12"),
                        ("a number as spreadsheets write it", "7.0"), ("a blank in it", "1 2"), ("a dot in it", "1.2"), ("a dot before it", ".5"), ("a dot after it", "7."),

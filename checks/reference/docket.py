@@ -1,4 +1,4 @@
-"""The docket of one thread: five lists of rows, and what each command and query makes of them.
+"""The docket of one thread: six lists of rows, and what each command and query makes of them.
 
 A command is a tuple of its word and its fields, an answer a tuple of its word and what belongs to it. A refusal is
 ("refused", number, ..). No list is ever changed in place.
@@ -8,17 +8,21 @@ from collections import namedtuple
 from .periods import Deadline, granted, refused_extension, refused_start, shown
 from .rule6 import AFTER, BEYOND, Outage, covered, has_outage, is_timely, notice_day, permitted
 
-Rows = namedtuple("Rows", "days cases deadlines motions hearings")
+Rows = namedtuple("Rows", "days cases deadlines motions hearings facts")
 Case = namedtuple("Case", "number filed")
 DeadlineOf = namedtuple("DeadlineOf", "case number row")
 # `need` is a number of days, or None where the motion may be heard ex parte
 Motion = namedtuple("Motion", "case number served need")
 # `judges` is a tuple of numbers, `first` and `count` are slots of 15 minutes, `notice` is the day it was served
 Hearing = namedtuple("Hearing", "case motion judges room day first count notice")
+# That a deadline of a case was ended, and why, or that it was resumed: then `why` is None. `dated` is the day of the order or
+# the paper
+Fact = namedtuple("Fact", "case deadline why dated")
 
 CASES = 4096
 DEADLINES = MOTIONS = 64
 GRANTS = 32
+FACTS = 512
 DATES = 4096
 OUTAGES = 512
 SLOTS = 96
@@ -30,7 +34,7 @@ class Refused(Exception):
 
 
 def opening(court):
-    return Rows(court.days, [], [], [], [])
+    return Rows(court.days, [], [], [], [], [])
 
 
 def step(court, rows, command):
@@ -79,6 +83,11 @@ def motion_of(rows, case, number):
 
 def hearing_of(rows, case, motion):
     return next((hearing for hearing in rows.hearings if (hearing.case, hearing.motion) == (case, motion)), None)
+
+
+def ending_of(rows, case, number):
+    """Why a deadline is due no more: by the last fact of it. None where it is due."""
+    return next((fact.why for fact in reversed(rows.facts) if (fact.case, fact.deadline) == (case, number)), None)
 
 
 def replaced(items, old, new):
@@ -135,6 +144,38 @@ def extend(court, rows, case, number, request):
     new = old._replace(row=granted(old.row, request.grant))
     return (rows._replace(deadlines=replaced(rows.deadlines, old, new)),
             ("extended", shown(rows.days, court.clock, new.row)))
+
+
+# Commands: facts of a case
+
+
+def end(court, rows, case, number, why, dated):
+    old = deadline_for_fact(rows, case, number, dated)
+    refuse(ending_of(rows, case, number) is not None, 33)
+    return with_fact(rows, Fact(case, old.number, why, dated)), ("ended",)
+
+
+def resume(court, rows, case, number, dated):
+    old = deadline_for_fact(rows, case, number, dated)
+    refuse(ending_of(rows, case, number) is None, 34)
+    now = shown(rows.days, court.clock, old.row)
+    refuse(now == BEYOND, 8)
+    return with_fact(rows, Fact(case, old.number, None, dated)), ("resumed", now)
+
+
+def deadline_for_fact(rows, case, number, dated):
+    """The deadline that a fact is about: one without an act."""
+    refuse_no_case(rows, case)
+    old = deadline_of(rows, case, number)
+    refuse(old is None, 3)
+    refuse(not covered(rows.days, dated), 5)
+    refuse(old.row.filed is not None, 9)
+    return old
+
+
+def with_fact(rows, fact):
+    refuse(sum(other.case == fact.case for other in rows.facts) >= FACTS, 25)
+    return rows._replace(facts=rows.facts + [fact])
 
 
 # Commands: motions and hearings
@@ -261,5 +302,5 @@ def calendar_of(rows, judge):
 
 
 STEPS = {"open": open_case, "start": start, "file": file_act, "extend": extend, "motion": motion, "book": book,
-         "move": move, "cancel": cancel, "holiday": holiday, "inaccessible": inaccessible}
+         "move": move, "cancel": cancel, "end": end, "resume": resume, "holiday": holiday, "inaccessible": inaccessible}
 VIEWS = {"sheet": sheet, "calendar": calendar, "compute": compute}

@@ -119,6 +119,11 @@ def quarter(text, court):
     return minute // 15 if minute is not None and minute % 15 == 0 else None
 
 
+def no_day(text, court):
+    """The day of a deadline that is resumed as it was."""
+    return [] if text == "" else None
+
+
 def date_or_none(text, court):
     if text == "":
         return []
@@ -204,8 +209,14 @@ COLUMNS = {
     "sheet": [number],
     "calendar": [judge, date],
 }
+WHY = one_of("moot", "vacated", "stayed", "suspended", "withdrawn")
 # The forms that the desk alone takes.
-DESK_COLUMNS = {**COLUMNS, "set": [number, date, no_time, one_of("filing", "service")]}
+DESK_COLUMNS = {
+    **COLUMNS,
+    "set": [number, date, no_time, one_of("filing", "service")],
+    "end": [number, number, WHY, date],
+    "resume": [number, number, no_day, date],
+}
 WORKS = {
     "open": lambda case, filed: ("open", case, filed),
     "start": lambda case, *rest: ("start", case) + asked_period(*rest),
@@ -221,6 +232,8 @@ WORKS = {
     "sheet": lambda case: ("sheet", case),
     "calendar": lambda of_judge, day: ("calendar", of_judge, day),
     "set": lambda case, day, minute, act: ("start", case, set_to(act), Event(day, minute), None, None),
+    "end": lambda case, deadline, why, dated: ("end", case, deadline, why, dated),
+    "resume": lambda case, deadline, day, dated: ("resume", case, deadline, dated),
 }
 
 

@@ -29,14 +29,14 @@ pub enum Fact {
         deadline: u32,
         /// Why.
         why: Ending,
-        /// The day from which it is so.
+        /// The day of the order or the paper that says so.
         dated: Day,
     },
     /// A deadline that was ended is due again, on its days as before.
     Resumed {
         /// The number of the deadline in its case.
         deadline: u32,
-        /// The day from which it is so.
+        /// The day of the order or the paper that says so.
         dated: Day,
     },
 }

@@ -13,18 +13,19 @@ use Rattle.rule_periods.specs.declared.period.Period.{Period}
 use Rattle.rule_periods.specs.declared.period.Period.TheVariants.{Entered}
 use Rattle.rule_periods.specs.Words.{is_set}
 use Rattle.docket_rows.specs.declared.command.Command.TheVariants as command
+use Rattle.docket_rows.specs.declared.fact.Fact.TheVariants.{Ended, Resumed}
 use Rattle.docket_rows.specs.declared.query.Query.TheVariants as query
 use Rattle.row_forms.specs.declared.fault.RowCause.{RowCause}
 use Rattle.row_forms.specs.declared.fault.RowCause.TheVariants.{UnknownCommand, WrongCount}
 use Rattle.row_forms.specs.declared.forms.table.Form.{Form}
-use Rattle.row_forms.specs.declared.forms.table.Form.TheVariants.{Open, Start, File, Extend, Motion, Book, Move, Cancel, Holiday, Inaccessible, Compute, Sheet, Calendar, Set}
+use Rattle.row_forms.specs.declared.forms.table.Form.TheVariants.{Open, Start, File, Extend, Motion, Book, Move, Cancel, Holiday, Inaccessible, Compute, Sheet, Calendar, Set, End, Resume}
 use Rattle.row_forms.specs.declared.row.Work.{Work}
 use Rattle.row_forms.specs.declared.row.Work.TheVariants.{Command, Query}
 use Rattle.row_forms.specs.Columns.{◌>>=◌, column, in_column, day_in, number_in}
-use Rattle.row_forms.specs.Fields.Choices.{is_so, list_of, means_of}
+use Rattle.row_forms.specs.Fields.Choices.{ending_of, is_so, list_of, means_of}
 use Rattle.row_forms.specs.Fields.Grants.{grant_of, need_of}
 use Rattle.row_forms.specs.Fields.Period.{act_of}
-use Rattle.row_forms.specs.Fields.Times.{ending_minute, minute_of_set}
+use Rattle.row_forms.specs.Fields.Times.{day_anew, ending_minute, minute_of_set}
 use Rattle.row_forms.specs.CourtNames.{CourtNames, number_named}
 use Rattle.row_forms.specs.Forms.Periods.{measured_from}
 use Rattle.row_forms.specs.Forms.Settings.{setting_in}
@@ -122,6 +123,24 @@ set_row fields = do
   act ← in_column 6 (act_of (column fields 6))
   Ok (Command (command.Start case (set_to act) (record { day = day; minute = minute }) None None))
 
+-- a row of `end`: a deadline is due no more
+abbrev pub end_row : List (List ℕ) → Result Work RowCause
+end_row fields = do
+  case ← number_in fields 3
+  deadline ← number_in fields 4
+  why ← in_column 5 (ending_of (column fields 5))
+  dated ← day_in fields 6
+  Ok (Command (command.Fact case (Ended deadline why dated)))
+
+-- a row of `resume`: a deadline that was ended is due again
+abbrev pub resume_row : List (List ℕ) → Result Work RowCause
+resume_row fields = do
+  case ← number_in fields 3
+  deadline ← number_in fields 4
+  _ ← in_column 5 (day_anew (column fields 5))
+  dated ← day_in fields 6
+  Ok (Command (command.Fact case (Resumed deadline dated)))
+
 -- what the fields of a row of this form ask for
 abbrev pub fields_as : CourtNames → Form → List (List ℕ) → Result Work RowCause
 fields_as names Open fields = open_row fields
@@ -144,6 +163,8 @@ fields_as names Sheet fields = do
   Ok (Query (query.Sheet case))
 fields_as names Calendar fields = calendar_row names fields
 fields_as names Set fields = set_row fields
+fields_as names End fields = end_row fields
+fields_as names Resume fields = resume_row fields
 
 -- what a row of this form asks for, which has a field for each column
 abbrev pub read_as : CourtNames → Form → List (List ℕ) → Result Work RowCause
@@ -176,8 +197,8 @@ form_asking (Command (command.MoveHearing setting)) = Move
 form_asking (Command (command.Cancel case motion)) = Cancel
 form_asking (Command (command.Holiday day list)) = Holiday
 form_asking (Command (command.Inaccessible day from to)) = Inaccessible
--- no form of rows asks for it yet
-form_asking (Command (command.Fact case fact)) = Set
+form_asking (Command (command.Fact case (Ended deadline why dated))) = End
+form_asking (Command (command.Fact case (Resumed deadline dated))) = Resume
 form_asking (Query (query.Compute period event second service)) = Compute
 form_asking (Query (query.Sheet case)) = Sheet
 form_asking (Query (query.JudgeDay judge day)) = Calendar

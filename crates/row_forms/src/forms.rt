@@ -2,21 +2,21 @@
 
 ghost use Rattle.std.specs.Prelude.{◌≡◌};
 ghost use Rattle.csv.specs.Records.{fields_of};
-ghost use Rattle.row_forms.specs.Forms.{calendar_row, cancel_row, compute_row, extend_row, file_row, holiday_row, inaccessible_row, motion_row, open_row, read_as, set_row, set_to, start_row, work_as};
+ghost use Rattle.row_forms.specs.Forms.{calendar_row, cancel_row, compute_row, end_row, extend_row, file_row, holiday_row, inaccessible_row, motion_row, open_row, read_as, resume_row, set_row, set_to, start_row, work_as};
 ghost use Rattle.row_forms.specs.CourtNames.{names_of};
 
 use crate::columns::{column, day_in, number_in};
 use crate::fault::RowCause;
-use crate::fields::choices::{is_so, list_of, means_of};
+use crate::fields::choices::{ending_of, is_so, list_of, means_of};
 use crate::fields::grants::{grant_of, need_of};
 use crate::fields::hearings::judge_named;
 use crate::fields::period::act_of;
-use crate::fields::times::{ending_minute, minute_of_set};
+use crate::fields::times::{day_anew, ending_minute, minute_of_set};
 use crate::row::Work;
 use court_clock::{Direction, minute_from_text};
 use court_days::Court;
 use csv::StringRecord;
-use docket_rows::{Command, Query};
+use docket_rows::{Command, Fact, Query};
 use periods::measured_from;
 use rule_periods::{Entered, Event, Length, Mark, Period, Request};
 use rule6::{Act, Filing};
@@ -61,6 +61,8 @@ fn read_as(court: &Court, form: Form, fields: &StringRecord) -> Result<Work, Row
         Form::Sheet => Ok(Work::Query(Query::Sheet(number_in(fields, 3)?))),
         Form::Calendar => calendar_row(court, fields),
         Form::Set => set_row(fields),
+        Form::End => end_row(fields),
+        Form::Resume => resume_row(fields),
     }
 }
 
@@ -208,4 +210,32 @@ fn set_to(act: Act) -> Period
         served: false,
         mark: Mark::Plain,
     })
+}
+
+// A deadline is due no more.
+fn end_row(fields: &StringRecord) -> Result<Work, RowCause>
+    ensures { result ≡ end_row (fields_of fields.now) }
+{
+    let case = number_in(fields, 3)?;
+    let deadline = number_in(fields, 4)?;
+    let why = ending_of(column(fields, 5)).ok_or(RowCause::BadField(5))?;
+    let dated = day_in(fields, 6)?;
+    let fact = Fact::Ended {
+        deadline,
+        why,
+        dated,
+    };
+    Ok(Work::Command(Command::Fact { case, fact }))
+}
+
+// A deadline that was ended is due again.
+fn resume_row(fields: &StringRecord) -> Result<Work, RowCause>
+    ensures { result ≡ resume_row (fields_of fields.now) }
+{
+    let case = number_in(fields, 3)?;
+    let deadline = number_in(fields, 4)?;
+    day_anew(column(fields, 5)).ok_or(RowCause::BadField(5))?;
+    let dated = day_in(fields, 6)?;
+    let fact = Fact::Resumed { deadline, dated };
+    Ok(Work::Command(Command::Fact { case, fact }))
 }

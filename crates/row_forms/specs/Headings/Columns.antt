@@ -1,7 +1,7 @@
 -- The columns of rows, and what these are called.
 use Rattle.std.specs.Prelude.{ℕ, Bool, true, false, List, codes, slice_get, unwrap_or}
 use Rattle.row_forms.specs.declared.headings.columns.Column.{Column}
-use Rattle.row_forms.specs.declared.headings.columns.Column.TheVariants.{Clerk, Command, Case, Deadline, Motion, Period, Date, Time, Start, TimeOrNone, SecondOrNone, ServiceOrNone, Means, Grant, ByMotion, Cause, Neglect, Need, Holidays, From, To, Judge, Judges, Room, Slots, Notice, SetTime, Act}
+use Rattle.row_forms.specs.declared.headings.columns.Column.TheVariants.{Clerk, Command, Case, Deadline, Motion, Period, Date, Time, Start, TimeOrNone, SecondOrNone, ServiceOrNone, Means, Grant, ByMotion, Cause, Neglect, Need, Holidays, From, To, Judge, Judges, Room, Slots, Notice, SetTime, Act, Why, ResumeDay, Dated}
 
 -- the column of that number, counted from 0
 abbrev pub column_at : List Column → ℕ → Column
@@ -37,6 +37,9 @@ name_of Slots = codes "slots"
 name_of Notice = codes "notice"
 name_of SetTime = codes "time"
 name_of Act = codes "act"
+name_of Why = codes "why"
+name_of ResumeDay = codes "date"
+name_of Dated = codes "dated"
 
 -- What stands for a column where the form of a row is shown. What may be left empty is in brackets. The command word stands
 -- for itself.
@@ -69,6 +72,9 @@ mark_of word Slots = codes "SLOTS"
 mark_of word Notice = codes "NOTICE"
 mark_of word SetTime = codes "[TIME]"
 mark_of word Act = codes "ACT"
+mark_of word Why = codes "WHY"
+mark_of word ResumeDay = codes "[DAY]"
+mark_of word Dated = codes "DATED"
 
 -- the field of a column may be empty, and then says none
 abbrev pub may_be_empty : Column → Bool
@@ -76,4 +82,5 @@ may_be_empty TimeOrNone = true
 may_be_empty SecondOrNone = true
 may_be_empty ServiceOrNone = true
 may_be_empty SetTime = true
+may_be_empty ResumeDay = true
 may_be_empty _ = false

@@ -5,9 +5,9 @@ ghost use Rattle.std.specs.Prelude.{◌≡◌, find, map, option_map};
 ghost use Rattle.row_forms.specs.Forms.Table.{columns_of, columns_of_form, command_word, commands_listed, form_of, forms, is_word_of, office_form_of};
 
 use crate::headings::Column::{
-    self, Act, ByMotion, Case, Cause, Clerk, Command, Date, Deadline, From, Grant, Holidays, Judge,
-    Judges, Means, Motion, Need, Neglect, Notice, Period, Room, SecondOrNone, ServiceOrNone,
-    SetTime, Slots, Start, Time, TimeOrNone, To,
+    self, Act, ByMotion, Case, Cause, Clerk, Command, Date, Dated, Deadline, From, Grant, Holidays,
+    Judge, Judges, Means, Motion, Need, Neglect, Notice, Period, ResumeDay, Room, SecondOrNone,
+    ServiceOrNone, SetTime, Slots, Start, Time, TimeOrNone, To, Why,
 };
 
 /// The form of a row: which command or query it asks for.
@@ -41,6 +41,10 @@ pub enum Form {
     Calendar,
     /// Starts a deadline on a day that an order sets. It is of the desk alone.
     Set,
+    /// Ends a deadline. It is of the desk alone.
+    End,
+    /// Resumes a deadline that was ended. It is of the desk alone.
+    Resume,
 }
 
 /// The forms of the rows of clerk_office.
@@ -61,7 +65,7 @@ pub const OFFICE_FORMS: [Form; 13] = [
 ];
 
 /// The forms of the rows of the desk.
-pub const FORMS: [Form; 14] = [
+pub const FORMS: [Form; 16] = [
     Form::Open,
     Form::Start,
     Form::File,
@@ -76,10 +80,12 @@ pub const FORMS: [Form; 14] = [
     Form::Sheet,
     Form::Calendar,
     Form::Set,
+    Form::End,
+    Form::Resume,
 ];
 
 /// The command words, in the order of the forms.
-pub const COMMANDS: [&str; 14] = [
+pub const COMMANDS: [&str; 16] = [
     "open",
     "start",
     "file",
@@ -94,6 +100,8 @@ pub const COMMANDS: [&str; 14] = [
     "sheet",
     "calendar",
     "set",
+    "end",
+    "resume",
 ];
 
 /// The columns of a form's rows, from the first on.
@@ -135,6 +143,8 @@ pub fn columns_of_form(form: Form) -> &'static [Column]
         Form::Sheet => &[Clerk, Command, Case],
         Form::Calendar => &[Clerk, Command, Judge, Date],
         Form::Set => &[Clerk, Command, Case, Date, SetTime, Act],
+        Form::End => &[Clerk, Command, Case, Deadline, Why, Dated],
+        Form::Resume => &[Clerk, Command, Case, Deadline, ResumeDay, Dated],
     }
 }
 
@@ -157,7 +167,7 @@ pub fn commands() -> &'static [&'static str]
 pub fn commands_listed() -> &'static str
     ensures { result.now ≡ commands_listed }
 {
-    "open, start, file, extend, motion, book, move, cancel, holiday, inaccessible, compute, sheet, calendar or set"
+    "open, start, file, extend, motion, book, move, cancel, holiday, inaccessible, compute, sheet, calendar, set, end or resume"
 }
 
 // Whether the word is this form's.

@@ -62,6 +62,12 @@ pub enum Column {
     SetTime,
     /// What has to be done in time.
     Act,
+    /// Why a deadline is due no more.
+    Why,
+    /// The day on which a deadline that is resumed begins anew, which is empty.
+    ResumeDay,
+    /// The day of what is recorded.
+    Dated,
 }
 
 /// The column of that number, counted from 0.
@@ -82,7 +88,7 @@ pub fn name_of(column: Column) -> &'static str
         Column::Deadline => "deadline",
         Column::Motion | Column::ByMotion => "motion",
         Column::Period => "period",
-        Column::Date => "date",
+        Column::Date | Column::ResumeDay => "date",
         Column::Time | Column::Start | Column::TimeOrNone | Column::SetTime => "time",
         Column::SecondOrNone => "second",
         Column::ServiceOrNone => "kind",
@@ -99,6 +105,8 @@ pub fn name_of(column: Column) -> &'static str
         Column::Slots => "slots",
         Column::Notice => "notice",
         Column::Act => "act",
+        Column::Why => "why",
+        Column::Dated => "dated",
     }
 }
 
@@ -134,6 +142,9 @@ pub fn mark_of(word: &str, column: Column) -> &str
         Column::Slots => "SLOTS",
         Column::Notice => "NOTICE",
         Column::Act => "ACT",
+        Column::Why => "WHY",
+        Column::ResumeDay => "[DAY]",
+        Column::Dated => "DATED",
     }
 }
 
@@ -143,6 +154,10 @@ pub fn may_be_empty(column: Column) -> bool
 {
     matches!(
         column,
-        Column::TimeOrNone | Column::SecondOrNone | Column::ServiceOrNone | Column::SetTime
+        Column::TimeOrNone
+            | Column::SecondOrNone
+            | Column::ServiceOrNone
+            | Column::SetTime
+            | Column::ResumeDay
     )
 }
