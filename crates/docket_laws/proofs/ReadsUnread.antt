@@ -67,7 +67,7 @@ module _ (setup : CourtSetup) where
   has_places : (p : Parts) (s : Setting) (set : Option Refusal) (except : Option (ℕ × ℕ)) → first_of (hearing_checks setup p s set except) ≡ None → HasPlaces s
   has_places p s set except h =
       let n = none_of (hearing_checks setup p s set except) h in
-      record { panel = when-not-None _ _ n.1.1.1.1.0; judges = when-not-None _ _ n.1.1.0; room = when-not-None _ _ n.1.1.1.0 }
+      record { panel = when-not-None _ _ n.1.1.1.1.1.0; judges = when-not-None _ _ n.1.1.1.0; room = when-not-None _ _ n.1.1.1.1.0 }
 
   book_places : (p : Parts) (s : Setting) → book_refusal setup p s ≡ None → HasPlaces s
   unfolding book_refusal

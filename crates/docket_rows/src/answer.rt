@@ -33,6 +33,10 @@ pub enum Answer {
     Ended,
     /// The deadline is resumed; when its time ends.
     Resumed(Shown),
+    /// The case is closed.
+    Closed,
+    /// The case is open again.
+    Reopened,
     /// The command is refused, and changes nothing.
     Refused(Refusal),
 }

@@ -230,7 +230,7 @@ impl Command {
     }
 }
 
-/// The deadline that a fact of a case is about.
+/// The deadline that a fact of a case is about, if it is about one.
 fn fact_subject(case: u32, fact: Fact) -> Option<Subject>
     ensures { result ≡ fact_subject case fact }
 {
@@ -240,5 +240,6 @@ fn fact_subject(case: u32, fact: Fact) -> Option<Subject>
             counted: Counted::Deadline,
             number: deadline,
         }),
+        Fact::Closed { .. } | Fact::Reopened { .. } => None,
     }
 }

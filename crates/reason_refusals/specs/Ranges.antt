@@ -13,7 +13,7 @@ use Rattle.docket_rows.specs.declared.command.Command.TheVariants.{Start, Extend
 use Rattle.docket_rows.specs.declared.query.Query.{Query}
 use Rattle.docket_rows.specs.declared.query.Query.TheVariants.{Compute}
 use Rattle.docket_rows.specs.declared.refusal.Refusal.{Refusal}
-use Rattle.docket_rows.specs.declared.refusal.Refusal.TheVariants.{NoSuchCase, CaseIsOpen, NoSuchDeadline, NoSuchMotion, BadDay, BadLength, WrongService, Beyond, AlreadySet, NotSet, AlreadyHoliday, Full, NoSuchJudge, NoSuchRoom, BadPanel, AlreadyEnded, NotEnded}
+use Rattle.docket_rows.specs.declared.refusal.Refusal.TheVariants.{NoSuchCase, CaseIsOpen, NoSuchDeadline, NoSuchMotion, BadDay, BadLength, WrongService, Beyond, AlreadySet, NotSet, AlreadyHoliday, Full, NoSuchJudge, NoSuchRoom, BadPanel, CaseIsClosed, NotClosed, AlreadyEnded, NotEnded}
 use Rattle.docket_rows.specs.declared.sheet.SheetMotion.{SheetMotion}
 use Rattle.reason_texts.specs.Words.{note_line}
 use Rattle.reason_refusals.specs.Hearings.{taken_line}
@@ -107,6 +107,8 @@ range_lines c command called motion AlreadyHoliday = listed_lines command
 range_lines c command called motion NoSuchJudge = ours_line (codes "the court's file names no such judge")
 range_lines c command called motion NoSuchRoom = ours_line (codes "the court's file names no such room")
 range_lines c command called motion BadPanel = ours_line (codes "a panel is one to three judges, each once")
+range_lines c command called motion CaseIsClosed = ours_line (codes "the case is closed; `reopen` opens it again")
+range_lines c command called motion NotClosed = ours_line (codes "the case isn't closed; `close` closes one")
 range_lines c command called motion AlreadyEnded = ours_line (codes "the deadline is ended; `resume` takes it up again")
 range_lines c command called motion NotEnded = ours_line (codes "the deadline isn't ended; `end` ends one")
 range_lines c command called motion refusal = []

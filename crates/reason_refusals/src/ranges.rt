@@ -51,6 +51,8 @@ pub(crate) fn push_range(
         Refusal::NoSuchJudge => push_ours(text, NO_JUDGE),
         Refusal::NoSuchRoom => push_ours(text, "the court's file names no such room"),
         Refusal::BadPanel => push_ours(text, "a panel is one to three judges, each once"),
+        Refusal::CaseIsClosed => push_ours(text, "the case is closed; `reopen` opens it again"),
+        Refusal::NotClosed => push_ours(text, "the case isn't closed; `close` closes one"),
         Refusal::AlreadyEnded => push_ours(
             text,
             "the deadline is ended; `resume` takes it up again",

@@ -121,6 +121,8 @@ fn push_answer(
         Answer::HolidayEntered => push_kind(out, "holiday"),
         Answer::OutageEntered => push_kind(out, "outage"),
         Answer::Ended => push_kind(out, "ended"),
+        Answer::Closed => push_kind(out, "closed"),
+        Answer::Reopened => push_kind(out, "reopened"),
         Answer::Resumed(shown) => {
             push_kind(out, "resumed")?;
             shown.write_fields(out, court, labels)
@@ -267,6 +269,7 @@ fn case_named(refusal: &Refusal) -> Option<u32>
         Refusal::RoomBusy(case, _) => Some(*case),
         Refusal::HearingThatDay(case, _) => Some(*case),
         Refusal::NoticeLost(case, _) => Some(*case),
+        Refusal::HearingAhead(case, _) => Some(*case),
         _ => None,
     }
 }
@@ -279,6 +282,7 @@ fn motion_named(refusal: &Refusal) -> Option<u32>
         Refusal::RoomBusy(_, motion) => Some(*motion),
         Refusal::HearingThatDay(_, motion) => Some(*motion),
         Refusal::NoticeLost(_, motion) => Some(*motion),
+        Refusal::HearingAhead(_, motion) => Some(*motion),
         _ => None,
     }
 }

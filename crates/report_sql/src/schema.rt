@@ -109,11 +109,11 @@ const OUTAGES: &str = "CREATE TABLE outages (
 );
 ";
 
-// The deadlines that were ended and not resumed, and why.
+// The deadlines that are due no more, and why.
 const ENDINGS: &str = "CREATE TABLE endings (
   case_number INTEGER NOT NULL,
   deadline_number INTEGER NOT NULL,
-  why VARCHAR(16) NOT NULL CHECK (why IN ('moot', 'vacated', 'stayed', 'suspended', 'withdrawn')),
+  why VARCHAR(16) NOT NULL CHECK (why IN ('moot', 'vacated', 'stayed', 'suspended', 'withdrawn', 'case closed')),
   PRIMARY KEY (case_number, deadline_number),
   FOREIGN KEY (case_number, deadline_number) REFERENCES deadlines (case_number, number)
 );

@@ -13,7 +13,7 @@ use Rattle.rule_periods.specs.declared.period.Period.{Period}
 use Rattle.rule_periods.specs.declared.period.Period.TheVariants.{Entered}
 use Rattle.rule_periods.specs.Words.{is_set}
 use Rattle.docket_rows.specs.declared.command.Command.TheVariants as command
-use Rattle.docket_rows.specs.declared.fact.Fact.TheVariants.{Ended, Resumed}
+use Rattle.docket_rows.specs.declared.fact.Fact.TheVariants.{Ended, Resumed, Closed, Reopened}
 use Rattle.docket_rows.specs.declared.query.Query.TheVariants as query
 use Rattle.row_forms.specs.declared.fault.RowCause.{RowCause}
 use Rattle.row_forms.specs.declared.fault.RowCause.TheVariants.{UnknownCommand, WrongCount}
@@ -199,6 +199,9 @@ form_asking (Command (command.Holiday day list)) = Holiday
 form_asking (Command (command.Inaccessible day from to)) = Inaccessible
 form_asking (Command (command.Fact case (Ended deadline why dated))) = End
 form_asking (Command (command.Fact case (Resumed deadline dated))) = Resume
+-- no form of rows asks for these yet
+form_asking (Command (command.Fact case (Closed why dated))) = End
+form_asking (Command (command.Fact case (Reopened dated))) = Resume
 form_asking (Query (query.Compute period event second service)) = Compute
 form_asking (Query (query.Sheet case)) = Sheet
 form_asking (Query (query.JudgeDay judge day)) = Calendar

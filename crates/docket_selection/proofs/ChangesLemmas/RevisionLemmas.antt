@@ -11,7 +11,7 @@ use Rattle.docket_rows.specs.declared.answer.Answer.TheVariants as answer
 use Rattle.docket_rows.specs.declared.command.Command.{Command}
 use Rattle.docket_rows.specs.declared.command.Command.TheVariants.{OpenCase, Start, FileAct, Extend, Motion, Book, MoveHearing, Cancel, Holiday, Inaccessible, Fact}
 use Rattle.docket_rows.specs.declared.fact.Fact.{Fact as FactOf}
-use Rattle.docket_rows.specs.declared.fact.Fact.TheVariants.{Ended, Resumed}
+use Rattle.docket_rows.specs.declared.fact.Fact.TheVariants.{Ended, Resumed, Closed, Reopened}
 use Rattle.docket_rows.specs.declared.refusal.Refusal.{Refusal}
 use Rattle.docket_rows.specs.Words.{AreSound, CourtSetup, DocketedDeadline, Rows, answer_if_made, answered, is_deadline_in, is_fact_in, next_deadline, opening_rows, parts_of, refusal, rows_after, rows_from, started, step, with_deadline}
 use Rattle.rule_periods.specs.Words.{DeadlineRowView}
@@ -57,6 +57,8 @@ module _ (Holds : ℕ → Type 0) (row : ℕ) (command : Command) (holds : Holds
   made_at answer.HolidayEntered = asked_at (change_asked command)
   made_at answer.OutageEntered = asked_at (change_asked command)
   made_at answer.Ended = asked_at (change_asked command)
+  made_at answer.Closed = asked_at (change_asked command)
+  made_at answer.Reopened = asked_at (change_asked command)
   made_at (answer.Resumed shown) = asked_at (change_asked command)
   made_at (answer.Refused refusal) = All-nil (λ (c : RowChange). Holds c.row)
 
@@ -154,6 +156,8 @@ made_keeps setup rows case row sound (Holiday day list) free other = absurd (fal
 made_keeps setup rows case row sound (Inaccessible day from to) free other = absurd (false≢true (sym other))
 made_keeps setup rows case row sound (Fact of (Ended deadline why dated)) free other = recorded_elsewhere rows case of (Ended deadline why dated) other
 made_keeps setup rows case row sound (Fact of (Resumed deadline dated)) free other = recorded_elsewhere rows case of (Resumed deadline dated) other
+made_keeps setup rows case row sound (Fact of (Closed why dated)) free other = recorded_elsewhere rows case of (Closed why dated) other
+made_keeps setup rows case row sound (Fact of (Reopened dated)) free other = recorded_elsewhere rows case of (Reopened dated) other
 
 step_keeps : (setup : CourtSetup) (rows : Rows) (case row : ℕ) → AreSound setup rows → (command : Command) → made_touches case (change_made row command (step setup rows command).1) ≡ false → KeepsEvents case rows (step setup rows command).0
 unfolding step answered

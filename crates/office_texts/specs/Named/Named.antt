@@ -10,7 +10,7 @@ use Rattle.hearing_slots.specs.declared.booking.Booking.{Booking}
 use Rattle.docket_rows.specs.declared.answer.Answer.{Answer}
 use Rattle.docket_rows.specs.declared.answer.Answer.TheVariants as answer
 use Rattle.docket_rows.specs.declared.refusal.Refusal.{Refusal}
-use Rattle.docket_rows.specs.declared.refusal.Refusal.TheVariants.{JudgeBusy, RoomBusy, HearingThatDay, NoticeLost}
+use Rattle.docket_rows.specs.declared.refusal.Refusal.TheVariants.{JudgeBusy, RoomBusy, HearingThatDay, NoticeLost, HearingAhead}
 use Rattle.docket_rows.specs.declared.sheet.Sheet.{Sheet}
 use Rattle.docket_rows.specs.declared.view.View.{View}
 use Rattle.docket_rows.specs.declared.view.View.TheVariants as view
@@ -35,6 +35,7 @@ named_detail named (JudgeBusy case motion) = named_motion named case motion
 named_detail named (RoomBusy case motion) = named_motion named case motion
 named_detail named (HearingThatDay case motion) = named_motion named case motion
 named_detail named (NoticeLost case motion) = named_motion named case motion
+named_detail named (HearingAhead case motion) = named_motion named case motion
 named_detail named refusal = refusal_detail refusal
 
 -- `15 JudgeBusy 1:25-cv-01234-ABC 2`
