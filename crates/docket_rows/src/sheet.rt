@@ -2,7 +2,7 @@
 
 ghost use Rattle.std.specs.Prelude.{◌≡◌, List};
 
-use crate::fact::Ending;
+use crate::fact::{Closure, Ending};
 use crate::hearing::Hearing;
 use court_clock::Day;
 use hearing_slots::Need;
@@ -145,6 +145,8 @@ pub struct Sheet {
     pub case: u32,
     /// The day on which it was filed.
     pub filed: Day,
+    /// How it was closed, if it was and wasn't reopened.
+    pub closed: Option<Closure>,
     /// Its deadlines.
     pub deadlines: SheetDeadlines,
     /// Its motions.

@@ -9,6 +9,7 @@ use Rattle.rule6.specs.declared.timeliness.Means.{Means}
 use Rattle.rule6.specs.declared.timeliness.Means.TheVariants.{Electronic, Paper}
 use Rattle.hearing_slots.specs.declared.need.Need.{Need}
 use Rattle.hearing_slots.specs.declared.need.Need.TheVariants as need
+use Rattle.docket_rows.specs.declared.fact.Closure.{Closure}
 use Rattle.docket_rows.specs.declared.fact.Ending.{Ending}
 use Rattle.docket_rows.specs.declared.sheet.Sheet.{Sheet}
 use Rattle.docket_rows.specs.declared.sheet.SheetDeadline.{SheetDeadline}
@@ -16,7 +17,7 @@ use Rattle.docket_rows.specs.declared.sheet.SheetHearing.{SheetHearing}
 use Rattle.docket_rows.specs.declared.sheet.SheetMotion.{SheetMotion}
 use Rattle.docket_rows.specs.declared.sheet.State.{State}
 use Rattle.docket_rows.specs.declared.sheet.State.TheVariants.{Pending, Timely, Late, Undecided}
-use Rattle.docket_rows.specs.Words.{ending_word}
+use Rattle.docket_rows.specs.Words.{closing_word, ending_word}
 use Rattle.office_texts.specs.Calendars.{name_of, span_text}
 use Rattle.office_texts.specs.Periods.{period_text}
 use Rattle.office_texts.specs.Shown.{shown_text}
@@ -87,9 +88,14 @@ unfoldable pub motion_lines : CourtView → SheetMotion → List ℕ
 motion_lines court m =
     codes "motion " ++ decimal m.number ++ codes " served " ++ day_text m.served ++ codes " need " ++ need_text m.need ++ 10 ∷ hearing_line_if_set court m.hearing
 
+-- how a case was closed after what is said of it, if it was: `, closed 2025-11-03 settled`
+abbrev pub and_closed_text : Option Closure → List ℕ
+and_closed_text None = []
+and_closed_text (Some c) = codes ", closed " ++ day_text c.dated ++ codes " " ++ closing_word c.why
+
 -- `case 1 filed 2025-03-03`
 abbrev pub case_line : Sheet → List ℕ
-case_line s = codes "case " ++ decimal s.case ++ codes " filed " ++ day_text s.filed ++ (10 ∷ [])
+case_line s = codes "case " ++ decimal s.case ++ codes " filed " ++ day_text s.filed ++ and_closed_text s.closed ++ (10 ∷ [])
 
 -- the line of the case, then its deadlines, then its motions
 unfoldable pub sheet_lines : CourtView → Sheet → List ℕ

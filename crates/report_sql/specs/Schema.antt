@@ -6,7 +6,7 @@ use Rattle.docket_rows.specs.declared.command.Command.TheVariants as command
 use Rattle.row_forms.specs.declared.numbered.NumberedRow.{NumberedRow}
 use Rattle.row_forms.specs.declared.row.Work.{Work}
 use Rattle.row_forms.specs.declared.row.Work.TheVariants.{Command}
-use Rattle.report_sql.specs.declared.schema.TheConstants.{NUMBERED_CASES, NAMED_CASES, DEADLINES, GRANTS, MOTIONS, HEARINGS, PANELS, OUTAGES, ENDINGS, ANSWERS, DESK_ANSWERS}
+use Rattle.report_sql.specs.declared.schema.TheConstants.{NUMBERED_CASES, NAMED_CASES, DEADLINES, GRANTS, MOTIONS, HEARINGS, PANELS, OUTAGES, CLOSINGS, ENDINGS, ANSWERS, DESK_ANSWERS}
 
 -- a table of names where the court's file has names
 abbrev pub cases_table : List NamedCase → List ℕ
@@ -20,7 +20,11 @@ is_fact other = false
 abbrev pub have_facts : List NumberedRow → Bool
 have_facts rows = list_any (λ (n : NumberedRow). is_fact n.row.work) rows
 
--- a table of the deadlines that were ended, where rows end some; such rows may be refused with further numbers
+-- tables of the cases that are closed and of the deadlines that are due no more, where rows record facts of cases; such rows may be
+-- refused with further numbers
+abbrev pub closings_table : (facts : Bool) → List ℕ
+closings_table facts = if facts then CLOSINGS.now else []
+
 abbrev pub endings_table : (facts : Bool) → List ℕ
 endings_table facts = if facts then ENDINGS.now else []
 
@@ -36,5 +40,6 @@ tables named facts =
     ++ HEARINGS.now
     ++ PANELS.now
     ++ OUTAGES.now
+    ++ closings_table facts
     ++ endings_table facts
     ++ answers_table facts

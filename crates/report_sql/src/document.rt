@@ -14,8 +14,9 @@ use row_forms::NumberedRow;
 use std::alloc::{AllocError, Global};
 
 /// One transaction of SQL: it makes the tables, and puts into them what each row was answered, by its number, and what is docketed after
-/// the last. Where rows end deadlines there is a table of those that are ended. Answers have the names of cases in place of numbers, and the table of cases has a column for them where there are any.
-/// Deadlines and motions have their numbers, while rows name them by their places. `Err` says that memory ran out.
+/// the last. Where rows record facts of cases there are tables of the cases that are closed and of the deadlines that are ended. Answers
+/// have the names of cases in place of numbers, and the table of cases has a column for them where there are any. Deadlines and motions
+/// have their numbers, while rows name them by their places. `Err` says that memory ran out.
 #[tactic(auto, unfolding(crate::specs::Script::script_text))]
 pub fn sql_text(
     alloc: Global,

@@ -1,7 +1,7 @@
 //! The tables.
 
 ghost use Rattle.std.specs.Prelude.{◌≡◌, ◌++◌, OnOk};
-ghost use Rattle.report_sql.specs.Schema.{answers_table, cases_table, endings_table, have_facts, is_fact, tables};
+ghost use Rattle.report_sql.specs.Schema.{answers_table, cases_table, closings_table, endings_table, have_facts, is_fact, tables};
 
 use crate::script::Script;
 use docket_rows::Command;
@@ -109,6 +109,14 @@ const OUTAGES: &str = "CREATE TABLE outages (
 );
 ";
 
+// The cases that are closed, and how.
+const CLOSINGS: &str = "CREATE TABLE closings (
+  case_number INTEGER NOT NULL PRIMARY KEY REFERENCES cases (number),
+  closed DATE NOT NULL,
+  how VARCHAR(16) NOT NULL CHECK (how IN ('dismissed', 'judgment', 'settled', 'transferred', 'remanded', 'otherwise'))
+);
+";
+
 // The deadlines that are due no more, and why.
 const ENDINGS: &str = "CREATE TABLE endings (
   case_number INTEGER NOT NULL,
@@ -170,11 +178,23 @@ pub(crate) fn push_tables(
     out.statement(HEARINGS)?;
     out.statement(PANELS)?;
     out.statement(OUTAGES)?;
+    push_closings(out, facts)?;
     push_endings(out, facts)?;
     push_answers(out, facts)
 }
 
-// Adds the table of the deadlines that were ended, where rows end some.
+// Adds the table of the cases that are closed, where rows record facts of cases.
+fn push_closings(out: &mut Script, facts: bool) -> Result<(), AllocError>
+    ensures { OnOk result (out.new ≡ out.old ++ closings_table facts) }
+{
+    if facts {
+        out.statement(CLOSINGS)
+    } else {
+        Ok(())
+    }
+}
+
+// Adds the table of the deadlines that are due no more, where rows record facts of cases.
 fn push_endings(out: &mut Script, facts: bool) -> Result<(), AllocError>
     ensures { OnOk result (out.new ≡ out.old ++ endings_table facts) }
 {
