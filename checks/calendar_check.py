@@ -25,7 +25,7 @@ from lib.asked_days import asked_days, missing_days
 from lib.case_names import asked, called, made_name, read
 from lib.given_docket import LAST_ROW, given_docket
 from lib.made_inputs import INPUTS, made_input
-from lib.memo_lines import closing_of, other_day, other_of, reasons_of
+from lib.memo_lines import closing_of, ended_in, other_day, other_of, reasons_of
 from lib.pages import faults_of, parts_of
 from lib.period_words import SET
 from lib.programs import programs_of, seed_and_count
@@ -54,7 +54,7 @@ NO_TIMES = [
     (["json", "--case", "1:25-cv"], "case <N>", A_CASE),
 ]
 
-Sheet = namedtuple("Sheet", "case filed deadlines motions")
+Sheet = namedtuple("Sheet", "case filed closed deadlines motions")
 Item = namedtuple("Item", "day second case kind number line panel")
 Booking = namedtuple("Booking", "day first count case motion room")
 Docket = namedtuple("Docket", "items before calendars")
@@ -98,7 +98,7 @@ def deadline_item(names, case, words, other):
     if end == "beyond":
         return None
     state = words[6] if end == "until" else words[5]
-    if state == "timely" or words[-2] == "ended":
+    if state == "timely" or ended_in(words):
         return None
     day = day_of(words[4])
     second = sum(int(part) * 60 ** (2 - at) for at, part in enumerate(words[5].split(":"))) if end == "until" else 0
@@ -181,7 +181,7 @@ def sheets_of(lines):
     sheets = []
     for words in (line.split(" ") for line in lines):
         if words[0] == "case":
-            sheets.append(Sheet(int(words[1]), words[3], [], []))
+            sheets.append(Sheet(int(words[1]), words[3].rstrip(","), words[5:], [], []))
         elif words[0] == "deadline":
             sheets[-1].deadlines.append(words)
         elif words[0] == "motion":
@@ -200,7 +200,7 @@ def deadline_cells(words):
     else:
         end, state = "last day " + named(day_of(words[4])), words[5:]
     if state[0] == "ended":
-        return [words[1], period_words(words[2]), end, "ended " + state[1]]
+        return [words[1], period_words(words[2]), end, " ".join(state)]
     done = ": {} {}, {}".format(named(day_of(state[1])), state[2], " ".join(state[3:])) if len(state) > 1 else ""
     return [words[1], period_words(words[2]), end, state[0] + done]
 
@@ -235,6 +235,12 @@ def booking_row(names, b):
              "case {}, motion {}".format(called(names, b.case), b.motion), b.room])
 
 
+def filed_words(sheet):
+    """When a case was filed, and how it was closed, if it was."""
+    closed = ", closed {} {}".format(named(day_of(sheet.closed[0])), sheet.closed[1]) if sheet.closed else ""
+    return "Filed " + named(day_of(sheet.filed)) + closed
+
+
 def page_fault(names, page, text, docket, sheets, reasons, first, last, judge, case):
     """What a page says otherwise than the docket, or what is wrong with its markup, or none."""
     faults = faults_of(page)
@@ -259,7 +265,7 @@ def page_fault(names, page, text, docket, sheets, reasons, first, last, judge, c
         notes = [row[1].all("div")[1].raw() for _, row in found.deadlines]
         others = [row[2].lines()[1:] for _, row in found.deadlines]
         marks = [other_of(reasons[s.case, int(words[1])]) for words in s.deadlines]
-        if (found.title, found.filed) != ("Case " + called(names, s.case), "Filed " + named(day_of(s.filed))) or \
+        if (found.title, found.filed) != ("Case " + called(names, s.case), filed_words(s)) or \
                 cells != [deadline_cells(words) for words in s.deadlines] or \
                 [title for title, _ in found.reasons] != ["Reasons of deadline " + words[1] for words in s.deadlines] or \
                 [note + why for note, (_, why) in zip(notes, found.reasons)] != \

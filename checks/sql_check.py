@@ -52,6 +52,7 @@ TABLES = {
     "hearings": ("case_number, motion_number, room, hearing_day, begins, minutes, {starts_at}, {ends_at}, notice_day,"
                  " affidavits_day", "case_number, motion_number"),
     "outages": ("number, outage_day, begins, ends", "number"),
+    "closings": ("case_number, closed, how", "case_number"),
     "endings": ("case_number, deadline_number, why", "case_number, deadline_number"),
     "answers": ("number, clerk, refusal, answer", "number"),
 }
@@ -167,8 +168,8 @@ def clock(minute):
 
 
 def has_endings(rows):
-    """Whether some of these rows end a deadline or resume one: then there is a table of the deadlines that are ended."""
-    return any(row.split(",")[1] in ("end", "resume") for row in rows)
+    """Whether some of these rows end a deadline or close a case, or take that back: then there are tables of what is ended and closed."""
+    return any(row.split(",")[1] in ("end", "resume", "close", "reopen") for row in rows)
 
 
 def due_text(database, names, closes, first, last, endings):
@@ -234,6 +235,7 @@ def wanted_rows(whole, rows, answers, given):
     for sheet in whole["cases"]:
         case = str(sheet["case"])
         found["cases"].append((case, sheet["filed"]))
+        found["closings"] += [(case, sheet["closed"], sheet["closing"])] if "closed" in sheet else []
         for d in sheet["deadlines"]:
             number, filed = str(d["number"]), d["filed"]
             act = ("", "", "") if filed is None else (filed["day"], time_of(filed["time"]), str(int(filed["means"] == "paper")))
@@ -289,7 +291,7 @@ def names_fault(database, names, whole):
 
 def table_fault(database, wanted, endings):
     for table, (columns, order) in TABLES.items():
-        if table == "endings" and not endings:
+        if table in ("closings", "endings") and not endings:
             continue
         columns = columns.format(starts_at=database.seconds("starts_at"), ends_at=database.seconds("ends_at"))
         found = rows_of(database, "SELECT {} FROM {} ORDER BY {}".format(columns, table, order))
@@ -317,7 +319,7 @@ def is_in_order(script):
     last = {}
     for table, first, rest in re.findall(r"^INSERT INTO (\w+) VALUES \((\d+)((?:, \d+)*)", script, re.MULTILINE):
         key = (int(first), *[int(part) for part in rest.split(", ")[1:]][:2])
-        key = key[:{"cases": 1, "outages": 1, "answers": 1, "deadlines": 2, "motions": 2, "hearings": 2, "endings": 2}.get(table, 3)]
+        key = key[:{"cases": 1, "closings": 1, "outages": 1, "answers": 1, "deadlines": 2, "motions": 2, "hearings": 2, "endings": 2}.get(table, 3)]
         if last.get(table, ()) >= key:
             return False
         last[table] = key

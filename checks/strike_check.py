@@ -32,7 +32,7 @@ from lib.programs import Ended, programs_of, seed_and_count
 from office_reference import ended as ended_by_reference
 from reference.civil import day_text
 from reference.court_file import court_of
-from reference.docket import STEPS, deadlines_of, ending_of, hearing_of, motions_of, opening, step, view
+from reference.docket import STEPS, closing_of, deadlines_of, ending_of, hearing_of, motions_of, opening, step, view
 from reference.periods import shown
 from reference.rows_in import rows_of
 from reference.text_out import answer_lines, closing_lines, hearing_line, shown_text
@@ -62,6 +62,7 @@ def drawn_row(draw):
         "1,extend,{},{},+7d,{},09:00,yes,yes,yes".format(case, number, day),
         "1,end,{},{},{},{}".format(case, number, draw.choice(["moot", "vacated", "stayed", "suspended", "withdrawn"]), day),
         "1,resume,{},{},,{}".format(case, number, day),
+        draw.choice(["1,close,{},settled,{}", "1,reopen,{},{}", "1,reopen,{},{}"]).format(case, day),
         "1,motion,{},{},{}".format(case, day, draw.choice(["14", "7", "exparte"])),
         "1,motion,{},{},{}".format(case, day, draw.choice(["14", "7", "exparte"])),
         "1,{},{},{},Ames,R1,{},{:02}:00,1,{}".format(draw.choice(["book", "move"]), case, number, day, draw.randint(8, 16), "2025-03-03"),
@@ -144,7 +145,7 @@ class Replay:
             deadlines=[item._replace(number=places["deadline"][item.case, item.number]) for item in self.docket.deadlines],
             motions=[item._replace(number=motion(item, item.number)) for item in self.docket.motions],
             hearings=[item._replace(motion=motion(item, item.motion)) for item in self.docket.hearings],
-            facts=[item._replace(deadline=places["deadline"][item.case, item.deadline]) for item in self.docket.facts])
+            facts=[item._replace(deadline=item.deadline and places["deadline"][item.case, item.deadline]) for item in self.docket.facts])
 
 
 def is_done(number, answer):
@@ -264,11 +265,24 @@ def filed_line(case, was, then):
     return "  case {}: {}, now filed {}\n".format(case, "not open" if was is None else "filed " + was, then)
 
 
+def closing_in(replay, case):
+    """How a case was closed, as a shift of it has it."""
+    closed = closing_of(replay.docket, case)
+    return "not closed" if closed is None else "closed {} {}".format(day_text(closed.dated), closed.why)
+
+
+def closing_line(case, now, after):
+    """What the desk has to list of a case that is open before and after and is closed otherwise."""
+    was, then = closing_in(now, case), closing_in(after, case)
+    is_open = filed_in(now, case) and filed_in(after, case)
+    return "  case {}: {}, now {}\n".format(case, was, then) if is_open and was != then else ""
+
+
 def shifts(now, after):
     """What the desk has to list of cases, deadlines and hearings: those that are shown otherwise after a correction than now."""
     text = ""
     for case in CASES:
-        text += filed_line(case, filed_in(now, case), filed_in(after, case))
+        text += filed_line(case, filed_in(now, case), filed_in(after, case)) + closing_line(case, now, after)
         for word, shown_in in (("deadline", ends_of), ("motion", hearings_in)):
             was, then = shown_in(now, case), shown_in(after, case)
             for number in [*was, *(number for number in then if number not in was)]:

@@ -46,7 +46,9 @@ WORDS = {"electronic": ["electronic", "ECF", "Electronically"], "paper": ["paper
          "federal": ["federal", "Federal"], "state": ["state", "STATE"], "exparte": ["ex parte", "Ex Parte", "exparte"],
          "filing": ["filing", "Filing", "file", "to file"], "service": ["service", "Service", "serve"],
          "moot": ["moot", "Moot", "mooted"], "vacated": ["vacated", "Vacated", "vacate"], "stayed": ["stayed", "STAYED", "stay"],
-         "suspended": ["suspended", "Suspended", "suspend"], "withdrawn": ["withdrawn", "Withdrawn", "withdrew"]}
+         "suspended": ["suspended", "Suspended", "suspend"], "withdrawn": ["withdrawn", "Withdrawn", "withdrew"],
+         "dismissed": ["dismissed", "Dismissed", "dismissal"], "judgment": ["judgment", "Judgement"], "settled": ["settled", "Settlement"],
+         "transferred": ["transferred", "Transfer"], "remanded": ["remanded", "REMAND"], "otherwise": ["otherwise", "Other"]}
 # The columns of each command, by what they hold.
 FORMS = {
     "open": "clerk command case date",
@@ -65,6 +67,8 @@ FORMS = {
     "set": "clerk command case date time! act",
     "end": "clerk command case deadline why dated",
     "resume": "clerk command case deadline date! dated",
+    "close": "clerk command case why. dated",
+    "reopen": "clerk command case dated",
 }
 NAMES = sorted({column.strip("?!.") for form in FORMS.values() for column in form.split()})
 
@@ -104,6 +108,7 @@ def drawn(draw, column, clear):
         "list": lambda: draw.choice(["federal", "state"]), "time!": lambda: "", "act": lambda: draw.choice(["filing", "service"]),
         "date!": lambda: "", "dated": lambda: a_date(draw, clear),
         "why": lambda: draw.choice(["moot", "vacated", "stayed", "suspended", "withdrawn"]),
+        "why.": lambda: draw.choice(["dismissed", "judgment", "settled", "transferred", "remanded", "otherwise"]),
     }[column]()
 
 

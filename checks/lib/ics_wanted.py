@@ -7,7 +7,7 @@ from collections import namedtuple
 
 from lib.case_names import called
 from lib.given_docket import LAST_ROW
-from lib.memo_lines import closing_of, other_day, other_of, reasons_of
+from lib.memo_lines import closing_of, ended_in, other_day, other_of, reasons_of
 from lib.period_words import RULES, SET
 from reference.periods import period_of_text
 from reference.rule6 import FILING
@@ -93,9 +93,9 @@ def deadline_item(names, case, words, closes, other):
         return None
     what, described = period_in_words(code)
     day, state = day_of(words[4]), words[6] if end == "until" else words[5]
-    ended = words[-2] == "ended"
+    ended = ended_in(words)
     summary = "Case {} deadline {}: {}{}{}".format(called(names, case), number, what, STATES.get(state, ""),
-                                                   ", ended " + words[-1] if ended else "")
+                                                   ", ended " + ended if ended else "")
     if end == "until":
         ending, second = "The time ends at {} on the court's clock".format(words[5]), seconds(words[5])
         begins = (day, second)
@@ -105,7 +105,7 @@ def deadline_item(names, case, words, closes, other):
             ending += "; for filing on paper when the clerk's office closes, at " + closes
     reading = "" if other is None else "\nBy another reading of the Rules: {}.".format(other[len(OTHER):])
     return Item(day, second, case, 0, number, summary, "Period: {}.\n{}.{}".format(described, ending, reading), begins, None, None,
-                None, ended)
+                None, ended is not None)
 
 
 def lost_item(names, lost):
@@ -196,7 +196,7 @@ def revisions_of(rows, answers):
         if not answers.get(number, "refused").startswith("refused"):
             if fields[1] in ("holiday", "inaccessible"):
                 last[0] = number
-            elif fields[1] in ("start", "set", "file", "extend", "end", "resume", "book", "move", "cancel"):
+            elif fields[1] in ("start", "set", "file", "extend", "end", "resume", "close", "reopen", "book", "move", "cancel"):
                 last[int(fields[2])] = number
     return last
 

@@ -42,7 +42,7 @@ def state(d, done):
 
 
 def sheet_lines(sheet):
-    yield "case {} filed {}".format(sheet["case"], sheet["filed"])
+    yield "case {} filed {}".format(sheet["case"], sheet["filed"]) + (", closed {closed} {closing}".format(**sheet) if "closed" in sheet else "")
     for d in sheet["deadlines"]:
         filed = d["filed"]
         done = "" if filed is None else " {day} {time} {means}".format(**filed)

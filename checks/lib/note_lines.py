@@ -320,6 +320,8 @@ MOST = {"start": "a case has {} deadlines at most".format(DEADLINES),
         "motion": "a case has {} motions at most".format(MOTIONS),
         "end": "a case has {} such rows at most".format(FACTS),
         "resume": "a case has {} such rows at most".format(FACTS),
+        "close": "a case has {} such rows at most".format(FACTS),
+        "reopen": "a case has {} such rows at most".format(FACTS),
         "holiday": "a list of holidays has {} dates at most".format(DATES),
         "inaccessible": "the docket has {} outages at most".format(OUTAGES)}
 
@@ -353,6 +355,9 @@ REFUSED = {
     27: alone("the court's file names no such room", "ours"),
     28: alone("hours are extended by hours, days by days", "ours"),
     29: alone("a panel is one to three judges, each once", "ours"),
+    30: alone("the case is closed; `reopen` opens it again", "ours"),
+    31: alone("the case isn't closed; `close` closes one", "ours"),
+    32: taken(" is heard, "),
     33: alone("the deadline is ended; `resume` takes it up again", "ours"),
     34: alone("the deadline isn't ended; `end` ends one", "ours"),
 }

@@ -216,6 +216,8 @@ DESK_COLUMNS = {
     "set": [number, date, no_time, one_of("filing", "service")],
     "end": [number, number, WHY, date],
     "resume": [number, number, no_day, date],
+    "close": [number, one_of("dismissed", "judgment", "settled", "transferred", "remanded", "otherwise"), date],
+    "reopen": [number, date],
 }
 WORKS = {
     "open": lambda case, filed: ("open", case, filed),
@@ -234,6 +236,8 @@ WORKS = {
     "set": lambda case, day, minute, act: ("start", case, set_to(act), Event(day, minute), None, None),
     "end": lambda case, deadline, why, dated: ("end", case, deadline, why, dated),
     "resume": lambda case, deadline, day, dated: ("resume", case, deadline, dated),
+    "close": lambda case, why, dated: ("close", case, why, dated),
+    "reopen": lambda case, dated: ("reopen", case, dated),
 }
 
 

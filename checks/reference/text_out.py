@@ -1,6 +1,6 @@
 """The text of a run: a line for each answer, the lines of sheets, and those of calendars."""
 from .civil import civil, day_text, minute_text
-from .docket import SLOT, calendar_of, case_of, deadlines_of, ending_of, hearing_of, motions_of
+from .docket import SLOT, calendar_of, case_of, closing_of, deadlines_of, ending_of, hearing_of, motions_of
 from .periods import shown
 from .rule6 import BEYOND, is_timely, notice_day
 
@@ -9,7 +9,7 @@ NAMES = {1: "NoSuchCase", 2: "CaseIsOpen", 3: "NoSuchDeadline", 4: "NoSuchMotion
          12: "LateWithoutMotion", 13: "LateWithoutNeglect", 14: "NotLonger", 15: "AlreadySet", 16: "NotSet",
          17: "NotACourtDay", 18: "OutsideHours", 19: "ShortNotice", 20: "JudgeBusy", 21: "RoomBusy",
          22: "AlreadyHoliday", 23: "HearingThatDay", 24: "NoticeLost", 25: "Full", 26: "NoSuchJudge",
-         27: "NoSuchRoom", 28: "WrongGrant", 29: "BadPanel", 33: "AlreadyEnded", 34: "NotEnded"}
+         27: "NoSuchRoom", 28: "WrongGrant", 29: "BadPanel", 30: "CaseIsClosed", 31: "NotClosed", 32: "HearingAhead", 33: "AlreadyEnded", 34: "NotEnded"}
 
 
 def answer_lines(court, rows, answer):
@@ -88,7 +88,9 @@ def hearing_line(court, rows, hearing):
 
 
 def sheet_lines(court, rows, number):
-    lines = ["case {} filed {}".format(number, day_text(case_of(rows, number).filed))]
+    closed = closing_of(rows, number)
+    how = "" if closed is None else ", closed {} {}".format(day_text(closed.dated), closed.why)
+    lines = ["case {} filed {}{}".format(number, day_text(case_of(rows, number).filed), how)]
     lines += [deadline_line(court, rows, deadline) for deadline in deadlines_of(rows, number)]
     for motion in motions_of(rows, number):
         need = "exparte" if motion.need is None else motion.need

@@ -18,11 +18,11 @@ use Rattle.docket_rows.specs.declared.query.Query.TheVariants as query
 use Rattle.row_forms.specs.declared.fault.RowCause.{RowCause}
 use Rattle.row_forms.specs.declared.fault.RowCause.TheVariants.{UnknownCommand, WrongCount}
 use Rattle.row_forms.specs.declared.forms.table.Form.{Form}
-use Rattle.row_forms.specs.declared.forms.table.Form.TheVariants.{Open, Start, File, Extend, Motion, Book, Move, Cancel, Holiday, Inaccessible, Compute, Sheet, Calendar, Set, End, Resume}
+use Rattle.row_forms.specs.declared.forms.table.Form.TheVariants.{Open, Start, File, Extend, Motion, Book, Move, Cancel, Holiday, Inaccessible, Compute, Sheet, Calendar, Set, End, Resume, Close, Reopen}
 use Rattle.row_forms.specs.declared.row.Work.{Work}
 use Rattle.row_forms.specs.declared.row.Work.TheVariants.{Command, Query}
 use Rattle.row_forms.specs.Columns.{◌>>=◌, column, in_column, day_in, number_in}
-use Rattle.row_forms.specs.Fields.Choices.{ending_of, is_so, list_of, means_of}
+use Rattle.row_forms.specs.Fields.Choices.{closing_of, ending_of, is_so, list_of, means_of}
 use Rattle.row_forms.specs.Fields.Grants.{grant_of, need_of}
 use Rattle.row_forms.specs.Fields.Period.{act_of}
 use Rattle.row_forms.specs.Fields.Times.{day_anew, ending_minute, minute_of_set}
@@ -141,6 +141,21 @@ resume_row fields = do
   dated ← day_in fields 6
   Ok (Command (command.Fact case (Resumed deadline dated)))
 
+-- a row of `close`: a case is closed
+abbrev pub close_row : List (List ℕ) → Result Work RowCause
+close_row fields = do
+  case ← number_in fields 3
+  why ← in_column 4 (closing_of (column fields 4))
+  dated ← day_in fields 5
+  Ok (Command (command.Fact case (Closed why dated)))
+
+-- a row of `reopen`: a case that was closed is open again
+abbrev pub reopen_row : List (List ℕ) → Result Work RowCause
+reopen_row fields = do
+  case ← number_in fields 3
+  dated ← day_in fields 4
+  Ok (Command (command.Fact case (Reopened dated)))
+
 -- what the fields of a row of this form ask for
 abbrev pub fields_as : CourtNames → Form → List (List ℕ) → Result Work RowCause
 fields_as names Open fields = open_row fields
@@ -165,6 +180,8 @@ fields_as names Calendar fields = calendar_row names fields
 fields_as names Set fields = set_row fields
 fields_as names End fields = end_row fields
 fields_as names Resume fields = resume_row fields
+fields_as names Close fields = close_row fields
+fields_as names Reopen fields = reopen_row fields
 
 -- what a row of this form asks for, which has a field for each column
 abbrev pub read_as : CourtNames → Form → List (List ℕ) → Result Work RowCause
@@ -199,9 +216,8 @@ form_asking (Command (command.Holiday day list)) = Holiday
 form_asking (Command (command.Inaccessible day from to)) = Inaccessible
 form_asking (Command (command.Fact case (Ended deadline why dated))) = End
 form_asking (Command (command.Fact case (Resumed deadline dated))) = Resume
--- no form of rows asks for these yet
-form_asking (Command (command.Fact case (Closed why dated))) = End
-form_asking (Command (command.Fact case (Reopened dated))) = Resume
+form_asking (Command (command.Fact case (Closed why dated))) = Close
+form_asking (Command (command.Fact case (Reopened dated))) = Reopen
 form_asking (Query (query.Compute period event second service)) = Compute
 form_asking (Query (query.Sheet case)) = Sheet
 form_asking (Query (query.JudgeDay judge day)) = Calendar

@@ -2,12 +2,12 @@
 
 ghost use Rattle.std.specs.Prelude.{◌≡◌};
 ghost use Rattle.csv.specs.Records.{fields_of};
-ghost use Rattle.row_forms.specs.Forms.{calendar_row, cancel_row, compute_row, end_row, extend_row, file_row, holiday_row, inaccessible_row, motion_row, open_row, read_as, resume_row, set_row, set_to, start_row, work_as};
+ghost use Rattle.row_forms.specs.Forms.{calendar_row, cancel_row, close_row, compute_row, end_row, extend_row, file_row, holiday_row, inaccessible_row, motion_row, open_row, read_as, reopen_row, resume_row, set_row, set_to, start_row, work_as};
 ghost use Rattle.row_forms.specs.CourtNames.{names_of};
 
 use crate::columns::{column, day_in, number_in};
 use crate::fault::RowCause;
-use crate::fields::choices::{ending_of, is_so, list_of, means_of};
+use crate::fields::choices::{closing_of, ending_of, is_so, list_of, means_of};
 use crate::fields::grants::{grant_of, need_of};
 use crate::fields::hearings::judge_named;
 use crate::fields::period::act_of;
@@ -63,6 +63,8 @@ fn read_as(court: &Court, form: Form, fields: &StringRecord) -> Result<Work, Row
         Form::Set => set_row(fields),
         Form::End => end_row(fields),
         Form::Resume => resume_row(fields),
+        Form::Close => close_row(fields),
+        Form::Reopen => reopen_row(fields),
     }
 }
 
@@ -237,5 +239,26 @@ fn resume_row(fields: &StringRecord) -> Result<Work, RowCause>
     day_anew(column(fields, 5)).ok_or(RowCause::BadField(5))?;
     let dated = day_in(fields, 6)?;
     let fact = Fact::Resumed { deadline, dated };
+    Ok(Work::Command(Command::Fact { case, fact }))
+}
+
+// A case is closed.
+fn close_row(fields: &StringRecord) -> Result<Work, RowCause>
+    ensures { result ≡ close_row (fields_of fields.now) }
+{
+    let case = number_in(fields, 3)?;
+    let why = closing_of(column(fields, 4)).ok_or(RowCause::BadField(4))?;
+    let dated = day_in(fields, 5)?;
+    let fact = Fact::Closed { why, dated };
+    Ok(Work::Command(Command::Fact { case, fact }))
+}
+
+// A case that was closed is open again.
+fn reopen_row(fields: &StringRecord) -> Result<Work, RowCause>
+    ensures { result ≡ reopen_row (fields_of fields.now) }
+{
+    let case = number_in(fields, 3)?;
+    let dated = day_in(fields, 4)?;
+    let fact = Fact::Reopened { dated };
     Ok(Work::Command(Command::Fact { case, fact }))
 }

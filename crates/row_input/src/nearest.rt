@@ -109,6 +109,18 @@ fn nearest_in(
         Column::Holidays => nearest_of(alloc, word, &["federal", "state"]),
         Column::Need => nearest_of(alloc, word, &["exparte"]),
         Column::Act => nearest_of(alloc, word, &["filing", "service"]),
+        Column::Closing => nearest_of(
+            alloc,
+            word,
+            &[
+                "dismissed",
+                "judgment",
+                "settled",
+                "transferred",
+                "remanded",
+                "otherwise",
+            ],
+        ),
         Column::Why => nearest_of(
             alloc,
             word,

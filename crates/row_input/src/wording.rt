@@ -34,6 +34,7 @@ fn held(column: Column) -> &'static str {
         Column::SetTime => "nothing, since an order sets a day as a whole",
         Column::Act => "filing or service",
         Column::Why => "moot, vacated, stayed, suspended or withdrawn",
+        Column::Closing => "dismissed, judgment, settled, transferred, remanded or otherwise",
         Column::ResumeDay => "nothing, since the deadline has its days as before",
         Column::Dated => "the day of the order, as 2025-09-02",
     }

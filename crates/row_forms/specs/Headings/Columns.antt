@@ -1,7 +1,7 @@
 -- The columns of rows, and what these are called.
 use Rattle.std.specs.Prelude.{ℕ, Bool, true, false, List, codes, slice_get, unwrap_or}
 use Rattle.row_forms.specs.declared.headings.columns.Column.{Column}
-use Rattle.row_forms.specs.declared.headings.columns.Column.TheVariants.{Clerk, Command, Case, Deadline, Motion, Period, Date, Time, Start, TimeOrNone, SecondOrNone, ServiceOrNone, Means, Grant, ByMotion, Cause, Neglect, Need, Holidays, From, To, Judge, Judges, Room, Slots, Notice, SetTime, Act, Why, ResumeDay, Dated}
+use Rattle.row_forms.specs.declared.headings.columns.Column.TheVariants.{Clerk, Command, Case, Deadline, Motion, Period, Date, Time, Start, TimeOrNone, SecondOrNone, ServiceOrNone, Means, Grant, ByMotion, Cause, Neglect, Need, Holidays, From, To, Judge, Judges, Room, Slots, Notice, SetTime, Act, Why, Closing, ResumeDay, Dated}
 
 -- the column of that number, counted from 0
 abbrev pub column_at : List Column → ℕ → Column
@@ -38,6 +38,7 @@ name_of Notice = codes "notice"
 name_of SetTime = codes "time"
 name_of Act = codes "act"
 name_of Why = codes "why"
+name_of Closing = codes "why"
 name_of ResumeDay = codes "date"
 name_of Dated = codes "dated"
 
@@ -73,6 +74,7 @@ mark_of word Notice = codes "NOTICE"
 mark_of word SetTime = codes "[TIME]"
 mark_of word Act = codes "ACT"
 mark_of word Why = codes "WHY"
+mark_of word Closing = codes "WHY"
 mark_of word ResumeDay = codes "[DAY]"
 mark_of word Dated = codes "DATED"
 

@@ -5,9 +5,9 @@ ghost use Rattle.std.specs.Prelude.{◌≡◌, find, map, option_map};
 ghost use Rattle.row_forms.specs.Forms.Table.{columns_of, columns_of_form, command_word, commands_listed, form_of, forms, is_word_of, office_form_of};
 
 use crate::headings::Column::{
-    self, Act, ByMotion, Case, Cause, Clerk, Command, Date, Dated, Deadline, From, Grant, Holidays,
-    Judge, Judges, Means, Motion, Need, Neglect, Notice, Period, ResumeDay, Room, SecondOrNone,
-    ServiceOrNone, SetTime, Slots, Start, Time, TimeOrNone, To, Why,
+    self, Act, ByMotion, Case, Cause, Clerk, Closing, Command, Date, Dated, Deadline, From, Grant,
+    Holidays, Judge, Judges, Means, Motion, Need, Neglect, Notice, Period, ResumeDay, Room,
+    SecondOrNone, ServiceOrNone, SetTime, Slots, Start, Time, TimeOrNone, To, Why,
 };
 
 /// The form of a row: which command or query it asks for.
@@ -45,6 +45,10 @@ pub enum Form {
     End,
     /// Resumes a deadline that was ended. It is of the desk alone.
     Resume,
+    /// Closes a case. It is of the desk alone.
+    Close,
+    /// Reopens a case that was closed. It is of the desk alone.
+    Reopen,
 }
 
 /// The forms of the rows of clerk_office.
@@ -65,7 +69,7 @@ pub const OFFICE_FORMS: [Form; 13] = [
 ];
 
 /// The forms of the rows of the desk.
-pub const FORMS: [Form; 16] = [
+pub const FORMS: [Form; 18] = [
     Form::Open,
     Form::Start,
     Form::File,
@@ -82,10 +86,12 @@ pub const FORMS: [Form; 16] = [
     Form::Set,
     Form::End,
     Form::Resume,
+    Form::Close,
+    Form::Reopen,
 ];
 
 /// The command words, in the order of the forms.
-pub const COMMANDS: [&str; 16] = [
+pub const COMMANDS: [&str; 18] = [
     "open",
     "start",
     "file",
@@ -102,6 +108,8 @@ pub const COMMANDS: [&str; 16] = [
     "set",
     "end",
     "resume",
+    "close",
+    "reopen",
 ];
 
 /// The columns of a form's rows, from the first on.
@@ -145,6 +153,8 @@ pub fn columns_of_form(form: Form) -> &'static [Column]
         Form::Set => &[Clerk, Command, Case, Date, SetTime, Act],
         Form::End => &[Clerk, Command, Case, Deadline, Why, Dated],
         Form::Resume => &[Clerk, Command, Case, Deadline, ResumeDay, Dated],
+        Form::Close => &[Clerk, Command, Case, Closing, Dated],
+        Form::Reopen => &[Clerk, Command, Case, Dated],
     }
 }
 
@@ -167,7 +177,7 @@ pub fn commands() -> &'static [&'static str]
 pub fn commands_listed() -> &'static str
     ensures { result.now ≡ commands_listed }
 {
-    "open, start, file, extend, motion, book, move, cancel, holiday, inaccessible, compute, sheet, calendar, set, end or resume"
+    "open, start, file, extend, motion, book, move, cancel, holiday, inaccessible, compute, sheet, calendar, set, end, resume, close or reopen"
 }
 
 // Whether the word is this form's.

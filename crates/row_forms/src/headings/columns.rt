@@ -64,6 +64,8 @@ pub enum Column {
     Act,
     /// Why a deadline is due no more.
     Why,
+    /// How a case was closed.
+    Closing,
     /// The day on which a deadline that is resumed begins anew, which is empty.
     ResumeDay,
     /// The day of what is recorded.
@@ -105,7 +107,7 @@ pub fn name_of(column: Column) -> &'static str
         Column::Slots => "slots",
         Column::Notice => "notice",
         Column::Act => "act",
-        Column::Why => "why",
+        Column::Why | Column::Closing => "why",
         Column::Dated => "dated",
     }
 }
@@ -142,7 +144,7 @@ pub fn mark_of(word: &str, column: Column) -> &str
         Column::Slots => "SLOTS",
         Column::Notice => "NOTICE",
         Column::Act => "ACT",
-        Column::Why => "WHY",
+        Column::Why | Column::Closing => "WHY",
         Column::ResumeDay => "[DAY]",
         Column::Dated => "DATED",
     }
