@@ -1,5 +1,6 @@
 pub mod AlikeLemmas
 pub mod CallerLemmas
+pub mod EndedLemmas
 pub mod LawfulLemmas
 pub mod MadeLemmas
 pub mod PartsAfter
