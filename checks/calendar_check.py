@@ -55,7 +55,7 @@ NO_TIMES = [
 ]
 
 Sheet = namedtuple("Sheet", "case filed closed deadlines motions")
-Item = namedtuple("Item", "day second case kind number line panel")
+Item = namedtuple("Item", "day second case kind number line panel ended", defaults=(False,))
 Booking = namedtuple("Booking", "day first count case motion room")
 Docket = namedtuple("Docket", "items before calendars")
 
@@ -93,19 +93,19 @@ def period_words(code):
 
 
 def deadline_item(names, case, words, other):
-    """The item of a deadline's line, or none where it was met in time, was ended or has no end."""
+    """The item of a deadline's line, or none where it was met in time or has no end. One that was ended is marked."""
     number, code, end = int(words[1]), words[2], words[3]
     if end == "beyond":
         return None
     state = words[6] if end == "until" else words[5]
-    if state == "timely" or ended_in(words):
+    if state == "timely":
         return None
     day = day_of(words[4])
     second = sum(int(part) * 60 ** (2 - at) for at, part in enumerate(words[5].split(":"))) if end == "until" else 0
     line = "  {}  case {} deadline {}: {}{}{}".format("to " + words[5] if end == "until" else "to midnight",
                                                       called(names, case), number, period_words(code),
                                                       ", filed late" if state == "late" else "", ", " + other if other else "")
-    return Item(day, second, case, 0, number, line, None)
+    return Item(day, second, case, 0, number, line, None, ended_in(words) is not None)
 
 
 def hearing_item(names, case, number, words):
@@ -140,10 +140,12 @@ def docket_of(names, lines, reasons):
 
 
 def due_text(names, court, docket, first, last, judge, case):
+    def is_asked(item):
+        return case in (None, item.case) and (judge is None or judge in (item.panel or docket.before.get(item.case, ())))
+
     def is_chosen(item):
-        if case is not None and item.case != case or not any(day and first <= day <= last for day in (item.day, other_day(item.line))):
-            return False
-        return judge is None or judge in (item.panel or docket.before.get(item.case, ()))
+        return is_asked(item) and not item.ended and any(day and first <= day <= last for day in (item.day, other_day(item.line)))
+    left_out = [item for item in docket.items if item.ended and is_asked(item) and first <= item.day <= last]
     chosen = sorted(filter(is_chosen, docket.items), key=lambda i: (i.day, i.second, i.case, i.kind, i.number))
     lines = ["Due from {} to {}{}{}".format(named(first), named(last), ", judge " + judge if judge is not None else "",
                                             ", case " + called(names, case) if case is not None else ""),
@@ -156,7 +158,7 @@ def due_text(names, court, docket, first, last, judge, case):
             lines += ["", named(item.day)]
         day = item.day
         lines.append(item.line)
-    return lines
+    return lines + (["", "Ended, and so not listed: {}.".format(len(left_out))] if left_out else [])
 
 
 def week_text(names, court, docket, judge, of):

@@ -195,8 +195,8 @@ def due_text(database, names, closes, first, last, endings):
 
 def due_alone(text, first, last):
     """What is due without the other readings, which the tables don't have: without their marks, and without the days on which something is
-    due by them alone."""
-    head, *days = re.sub(r", other reading.*", "", text).rstrip("\n").split("\n\n")
+    due by them alone. How many are ended isn't asked either."""
+    head, *days = re.sub(r", other reading.*|\n\nEnded, and so not listed: .*", "", text).rstrip("\n").split("\n\n")
     days = [day for day in days if not re.match(r"[A-Z][a-z]{2} \d{4}-\d\d-\d\d\n", day) or first <= day[4:14] <= last]
     return "\n\n".join([head, *(days or ["Nothing is due."])]) + "\n"
 

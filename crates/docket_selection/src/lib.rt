@@ -10,6 +10,7 @@ mod closed;
 mod due;
 mod explained;
 mod item;
+mod left_out;
 mod lists;
 mod sheets;
 
@@ -24,4 +25,5 @@ pub use closed::closed_cases_are_not_due;
 pub use due::{due_of, is_due};
 pub use explained::{ExplainedDeadline, ExplainedSheet, explained_sheets};
 pub use item::{DueDeadline, DueItem, DueTypes, Matter, is_ended};
+pub use left_out::left_out;
 pub use sheets::{sheets_chosen, sheets_of};
