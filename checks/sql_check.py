@@ -48,6 +48,7 @@ TABLES = {
     "deadlines": ("case_number, number, event_day, event_time, second_day, service, last_day, {ends_at}, filed_day, filed_time,"
                   " on_paper, timely", "case_number, number"),
     "grants": ("case_number, deadline_number, number, days, hours, until_day", "case_number, deadline_number, number"),
+    "resets": ("case_number, deadline_number, number, reset_day, reset_time", "case_number, deadline_number, number"),
     "motions": ("case_number, number, served, notice_days", "case_number, number"),
     "hearings": ("case_number, motion_number, room, hearing_day, begins, minutes, {starts_at}, {ends_at}, notice_day,"
                  " affidavits_day", "case_number, motion_number"),
@@ -244,8 +245,12 @@ def wanted_rows(whole, rows, answers, given):
                 or_empty(d["last_day"]), "" if d["end"] is None else instant(d["end"]), *act,
                 {"timely": "1", "late": "0"}.get(d["state"], "")))
             found["endings"] += [(case, number, d["ended"])] if "ended" in d else []
-            found["grants"] += [(case, number, str(place + 1), or_empty(g["days"]), or_empty(g["hours"]), or_empty(g["until"]))
-                                for place, g in enumerate(d["grants"])]
+            for place, g in enumerate(d["grants"]):
+                key = (case, number, str(place + 1))
+                if "order" in g:
+                    found["resets"].append((*key, g["until"], time_of(g["time"]) if "time" in g else ""))
+                else:
+                    found["grants"].append((*key, or_empty(g["days"]), or_empty(g["hours"]), or_empty(g["until"])))
         for m in sheet["motions"]:
             found["motions"].append((case, str(m["number"]), m["served"], or_empty(m["notice_days"])))
             h = m["hearing"]

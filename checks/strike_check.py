@@ -41,8 +41,8 @@ DIFFERS, FAULT = 7, 3
 WHY = ["--reason", "entered twice"]
 CASES = (1, 2, 3)
 # What a row names by its number.
-NAMED = {"file": "deadline", "extend": "deadline", "end": "deadline", "resume": "deadline", "book": "motion", "move": "motion",
-         "cancel": "motion"}
+NAMED = {"file": "deadline", "extend": "deadline", "reset": "deadline", "end": "deadline", "resume": "deadline", "book": "motion",
+         "move": "motion", "cancel": "motion"}
 # What of an event says when it was written, and which it is.
 STAMPS = ("DTSTAMP", "LAST-MODIFIED", "SEQUENCE", "UID")
 
@@ -57,9 +57,10 @@ def drawn_row(draw):
         "1,open,{},{}".format(case, day),
         "1,start,{},{},{},,,".format(case, draw.choice(["4m", "12a1Ai", "59b", "59e"]), day),
         "1,start,{},{},{},,,".format(case, draw.choice(["4m", "12a1Ai", "59b", "59e"]), day),
-        "1,set,{},{},,{}".format(case, day, draw.choice(["filing", "service"])),
+        "1,set,{},{},{},{}".format(case, day, draw.choice(["", "09:30"]), draw.choice(["filing", "service"])),
         "1,file,{},{},{},10:00,electronic".format(case, number, day),
         "1,extend,{},{},+7d,{},09:00,yes,yes,yes".format(case, number, day),
+        "1,reset,{},{},{},{},{}".format(case, number, day, draw.choice(["", "", "09:30"]), day),
         "1,end,{},{},{},{}".format(case, number, draw.choice(["moot", "vacated", "stayed", "suspended", "withdrawn"]), day),
         "1,resume,{},{},,{}".format(case, number, day),
         draw.choice(["1,close,{},settled,{}", "1,reopen,{},{}", "1,reopen,{},{}"]).format(case, day),

@@ -62,7 +62,7 @@ def answer_lines(a):
         yield "deadline {} {}".format(a["number"], shown(a))
     elif kind == "filed":
         yield "filed timely" if a["timely"] else "filed late"
-    elif kind in ("extended", "resumed"):
+    elif kind in ("extended", "reset", "resumed"):
         yield kind + " " + shown(a)
     elif kind == "motion":
         yield "motion {}".format(a["number"])

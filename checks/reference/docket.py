@@ -5,7 +5,7 @@ A command is a tuple of its word and its fields, an answer a tuple of its word a
 """
 from collections import namedtuple
 
-from .periods import Deadline, granted, refused_extension, refused_start, shown
+from .periods import Deadline, granted, is_order, refused_extension, refused_start, shown
 from .rule6 import AFTER, BEYOND, Outage, covered, has_outage, is_timely, notice_day, permitted
 
 Rows = namedtuple("Rows", "days cases deadlines motions hearings facts")
@@ -163,7 +163,7 @@ def extend(court, rows, case, number, request):
     refuse(len(old.row.grants) >= GRANTS, 25)
     new = old._replace(row=granted(old.row, request.grant))
     return (rows._replace(deadlines=replaced(rows.deadlines, old, new)),
-            ("extended", shown(rows.days, court.clock, new.row)))
+            ("reset" if is_order(request.grant) else "extended", shown(rows.days, court.clock, new.row)))
 
 
 # Commands: facts of a case

@@ -108,9 +108,12 @@ def time_or_none(text, court):
     return 0 if text == "" else minute_of_text(text)
 
 
-def no_time(text, court):
-    """The time of a day that an order sets as a whole."""
-    return 0 if text == "" else None
+def given_time(text, court):
+    """A list of the minute, or an empty one where no time is given."""
+    if text == "":
+        return []
+    minute = minute_of_text(text)
+    return None if minute is None else [minute]
 
 
 def quarter(text, court):
@@ -213,7 +216,8 @@ WHY = one_of("moot", "vacated", "stayed", "suspended", "withdrawn")
 # The forms that the desk alone takes.
 DESK_COLUMNS = {
     **COLUMNS,
-    "set": [number, date, no_time, one_of("filing", "service")],
+    "set": [number, date, given_time, one_of("filing", "service")],
+    "reset": [number, number, date, given_time, date],
     "end": [number, number, WHY, date],
     "resume": [number, number, no_day, date],
     "close": [number, one_of("dismissed", "judgment", "settled", "transferred", "remanded", "otherwise"), date],
@@ -233,7 +237,8 @@ WORKS = {
     "inaccessible": lambda day, begin, end: ("inaccessible", day, begin, end),
     "sheet": lambda case: ("sheet", case),
     "calendar": lambda of_judge, day: ("calendar", of_judge, day),
-    "set": lambda case, day, minute, act: ("start", case, set_to(act), Event(day, minute), None, None),
+    "set": lambda case, day, minute, act: ("start", case, set_to(act, bool(minute)), Event(day, only(minute) or 0), None, None),
+    "reset": lambda case, deadline, day, minute, dated: ("extend", case, deadline, order(reset_to(day, minute), dated)),
     "end": lambda case, deadline, why, dated: ("end", case, deadline, why, dated),
     "resume": lambda case, deadline, day, dated: ("resume", case, deadline, dated),
     "close": lambda case, why, dated: ("close", case, why, dated),
@@ -243,6 +248,16 @@ WORKS = {
 
 def asked_period(of_rule, day, minute, second, of_service):
     return of_rule, Event(day, minute), only(second), only(of_service)
+
+
+def reset_to(day, minute):
+    """Another end that an order sets: a day, or a time of it."""
+    return Grant("reset at", Event(day, minute[0])) if minute else Grant("reset", day)
+
+
+def order(grant, dated):
+    """What an order of a day grants: nothing was asked for, and nothing has to be found."""
+    return Request(grant, Event(dated, 0), False, False, False)
 
 
 def request(extension, day, minute, motion, cause, neglect):

@@ -21,10 +21,8 @@ def answer_lines(court, rows, answer):
         return ["deadline {} {}".format(rest[0], shown_text(court, rest[1]))]
     if word == "filed":
         return ["filed timely" if rest[0] else "filed late"]
-    if word == "extended":
-        return ["extended " + shown_text(court, rest[0])]
-    if word == "resumed":
-        return ["resumed " + shown_text(court, rest[0])]
+    if word in ("extended", "reset", "resumed"):
+        return [word + " " + shown_text(court, rest[0])]
     if word == "motion":
         return ["motion {}".format(rest[0])]
     if word == "computed":

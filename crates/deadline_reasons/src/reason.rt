@@ -36,6 +36,8 @@ pub enum Reason {
     Excluded(Day),
     /// An order sets the end on this day, a date certain: nothing is counted, and it isn't rolled (2009 Note to 6(a)).
     Set(Day),
+    /// The same at this instant, where the order sets a time of day too.
+    SetAt(Instant),
     /// This number of days is counted, every day counts, and this day is the last of them (6(a)(1)(B), (C)).
     Counted(u32, Day),
     /// The day is passed over, and the next one is looked at, away from the event (6(a)(1)(C), (a)(5), (a)(6)), or
@@ -45,7 +47,7 @@ pub enum Reason {
     RunsTo(Day),
     /// Three days are added for this kind of service (6(d)).
     ThreeAdded(ServiceKind),
-    /// The time is extended (6(b); under Rule 4(m) by 4(m)).
+    /// The time is extended (6(b); under Rule 4(m) by 4(m)), or an order sets another end (2009 Note to 6(a)).
     Extended(Grant),
     /// This extension gives no end: it is of another kind than the period, or there is nothing that it could extend.
     NotExtended(Grant),

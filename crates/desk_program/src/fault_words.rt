@@ -66,7 +66,6 @@ fn expected(column: Column) -> &'static str
         Column::Judge | Column::Judges => "a judge, or up to three joined by +",
         Column::Slots => "half hours, as 2, or quarter hours, as 3q",
         Column::Holidays => "federal or state",
-        Column::SetTime => "nothing, since an order sets a day as a whole",
         Column::Act => "filing or service",
         Column::Why => "moot, vacated, stayed, suspended or withdrawn",
         Column::Closing => "dismissed, judgment, settled, transferred, remanded or otherwise",

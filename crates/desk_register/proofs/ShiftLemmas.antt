@@ -6,7 +6,8 @@ use Rattle.std.proofs.lemmas.Slice.Eq.{bytes_eq-Decides}
 use Rattle.case_numbers.specs.Words.{CasesView, NameView}
 use Rattle.case_numbers.specs.declared.names.NamedCase.{NamedCase}
 use Rattle.court_days.specs.Words.{CourtView, DaysView}
-use Rattle.rule_periods.specs.Words.{shown_of}
+use Rattle.rule6.specs.declared.timeliness.Shown.{Shown}
+use Rattle.rule_periods.specs.Words.{is_order, shown_of}
 use Rattle.docket_rows.specs.declared.answer.Answer.TheVariants as answer
 use Rattle.docket_rows.specs.declared.command.Command.{Command as CommandOf}
 use Rattle.docket_rows.specs.declared.command.Command.TheVariants.{OpenCase, Start, FileAct, Extend, Motion, Book, MoveHearing, Cancel, Holiday, Inaccessible, Fact}
@@ -21,7 +22,7 @@ use Rattle.docket_rows.specs.declared.hearing.Hearing.{Hearing}
 use Rattle.docket_rows.specs.declared.sheet.SheetDeadline.{SheetDeadline}
 use Rattle.docket_rows.specs.declared.sheet.SheetMotion.{SheetMotion}
 use Rattle.docket_rows.specs.declared.view.View.TheVariants as view
-use Rattle.docket_rows.specs.Words.{CaseRecordView, CourtSetup, NumberedDeadline, NumberedMotion, Parts, Rows, answer_if_made, answered, last_case, parts_of, query_refusal, refusal, rows_after, seen_by, setup_of, sheet_deadline, sheet_hearing, sheet_motion, sheet_of, step, view_of}
+use Rattle.docket_rows.specs.Words.{CaseRecordView, CourtSetup, NumberedDeadline, NumberedMotion, Parts, Rows, answer_if_made, answered, ended_answer, last_case, parts_of, query_refusal, refusal, rows_after, seen_by, setup_of, sheet_deadline, sheet_hearing, sheet_motion, sheet_of, step, view_of}
 use Rattle.row_forms.specs.declared.line.line.Line.{Line}
 use Rattle.row_forms.specs.declared.line.line.Line.TheVariants as line
 use Rattle.row_forms.specs.declared.row.Row.{Row}
@@ -117,12 +118,17 @@ same_days : (court : CourtView) (docketed : Rows) (moved : List Moved) (named : 
 unfolding shifts_from
 same_days court docketed moved named = unmoved_cases court docketed moved named (range_with_len 1 last_case)
 
+-- whichever way a time is extended, the row is taken
+ended_taken : (order : Bool) (end : Shown) → came_of (ended_answer order end) ≡ Taken
+ended_taken true end = refl
+ended_taken false end = refl
+
 -- a command that is refused leaves what is docketed
 made_taken : (setup : CourtSetup) (parts : Parts) (command : CommandOf) → came_of (answer_if_made setup parts command) ≡ Taken
 made_taken setup parts (OpenCase case filed) = refl
 made_taken setup parts (Start case period event second service) = refl
 made_taken setup parts (FileAct case deadline filing) = refl
-made_taken setup parts (Extend case deadline request) = refl
+made_taken setup parts (Extend case deadline request) = ended_taken (is_order request.grant) _
 made_taken setup parts (Motion case served need) = refl
 made_taken setup parts (Book s) = refl
 made_taken setup parts (MoveHearing s) = refl

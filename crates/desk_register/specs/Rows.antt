@@ -150,6 +150,7 @@ came_of answer.Opened = Taken
 came_of (answer.Started number shown) = Taken
 came_of (answer.Filed timely) = Taken
 came_of (answer.Extended shown) = Taken
+came_of (answer.Reset shown) = Taken
 came_of (answer.MotionEntered number) = Taken
 came_of answer.Booked = Taken
 came_of answer.Moved = Taken

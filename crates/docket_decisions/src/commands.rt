@@ -6,7 +6,7 @@ ghost use Rattle.docket_rows.specs.Words.{answer_if_made, case_after, case_of, h
 ghost use Rattle.docket_decisions.specs.Changes.{CanChangeRecord};
 ghost use Rattle.docket_decisions.specs.Memory.{takes_memory};
 
-use crate::answers::{answer_to_motion, answer_to_start, is_act_timely, shown_if_extended};
+use crate::answers::{answer_to_extension, answer_to_motion, answer_to_start, is_act_timely};
 use crate::cases::open_case_refusal;
 use crate::deadlines::{extend_refusal, file_act_refusal, start_deadline_refusal};
 use crate::facts::{answer_to_fact, fact_refusal};
@@ -113,7 +113,7 @@ pub fn answer_if_made<S: Sight>(
             case,
             deadline,
             request,
-        } => Answer::Extended(shown_if_extended(rules, sight, *case, *deadline, request)),
+        } => answer_to_extension(rules, sight, *case, *deadline, request),
         Command::Motion { case, served, need } => answer_to_motion(sight, *case, *served, *need),
         Command::Book(_) => Answer::Booked,
         Command::MoveHearing(_) => Answer::Moved,

@@ -10,7 +10,7 @@ use Rattle.rule6.specs.declared.timeliness.Shown.TheVariants as shown
 use Rattle.rule6.specs.Words.{is_in_time}
 use Rattle.rule6.proofs.CallerLemmas.{and_then_alike, in_time_alike}
 use Rattle.rule_periods.specs.declared.grant.Request.{Request}
-use Rattle.rule_periods.specs.Words.{DeadlineRowView, extension_refusal, is_beyond, kept_filing, with_grant}
+use Rattle.rule_periods.specs.Words.{DeadlineRowView, extension_refusal, is_beyond, is_order, kept_filing, with_grant}
 use Rattle.rule_periods.proofs.CallerLemmas.{extension_alike, shown_alike}
 use Rattle.docket_rows.specs.declared.answer.Answer.{Answer}
 use Rattle.docket_rows.specs.declared.answer.Answer.TheVariants as answer
@@ -23,7 +23,7 @@ use Rattle.docket_rows.specs.declared.query.Query.{Query}
 use Rattle.docket_rows.specs.declared.query.Query.TheVariants.{Sheet, JudgeDay, Compute}
 use Rattle.docket_rows.specs.declared.refusal.Refusal.TheVariants.{NoSuchCase}
 use Rattle.docket_rows.specs.declared.view.View.TheVariants as view
-use Rattle.docket_rows.specs.Words.{CourtSetup, CaseRecordView, NumberedDeadline, Parts, Rows, answer_if_made, answered, setup_of, book_refusal, deadline_in, extend_refusal, file_act_refusal, has_one, holiday_refusal, move_refusal, next_deadline, notice_lost, opening_rows, parts_of, query_refusal, refusal, refusal_of, resume_refusal, rows_from, seen_by, sheet_deadline, sheet_of, shown_if_asked, shown_now, start_deadline_refusal, started, state_of, step, view_of}
+use Rattle.docket_rows.specs.Words.{CourtSetup, CaseRecordView, NumberedDeadline, Parts, Rows, answer_if_made, answered, setup_of, book_refusal, deadline_in, ended_answer, extend_refusal, file_act_refusal, has_one, holiday_refusal, move_refusal, next_deadline, notice_lost, opening_rows, parts_of, query_refusal, refusal, refusal_of, resume_refusal, rows_from, seen_by, sheet_deadline, sheet_of, shown_if_asked, shown_now, start_deadline_refusal, started, state_of, step, view_of}
 use Rattle.docket_laws.specs.Clocks.{IsSameSetup}
 use Rattle.docket_laws.specs.Lawful.{docket_after}
 use Rattle.docket_laws.proofs.PartsLists.{map_agree}
@@ -106,7 +106,7 @@ module _ (a b : CourtSetup) (same : IsSameSetup a b) where
   made_alike : (parts : Parts) (command : Command) → answer_if_made a parts command ≡ answer_if_made b parts command
   made_alike parts (Start case period event second service) = ap (answer.Started (next_deadline parts case)) (end_alike parts (started period event second service))
   made_alike parts (FileAct case deadline filing) = ap answer.Filed (timely_alike parts filing (deadline_in parts case deadline))
-  made_alike parts (Extend case deadline request) = ap answer.Extended (granted_alike parts request (deadline_in parts case deadline))
+  made_alike parts (Extend case deadline request) = ap (ended_answer (is_order request.grant)) (granted_alike parts request (deadline_in parts case deadline))
   made_alike parts (Fact case (Resumed deadline dated)) = ap answer.Resumed (resumed_alike parts (deadline_in parts case deadline))
   made_alike parts (Fact case (Ended deadline why dated)) = refl
   made_alike parts (Fact case (Closed why dated)) = refl

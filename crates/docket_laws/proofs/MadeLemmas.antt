@@ -1,5 +1,5 @@
 -- What holds where a command isn't refused.
-use Rattle.std.proofs.Common.{◌≡◌, ℕ, ◌<◌, ◌≤◌, ◌+◌, ℤ, Bool, true, false, not, ◌==◌, is_none, is_some, nat_eq, List, [], ◌∷◌, length, map, find, Option, Some, None, IfSome, option_map, option_and_then, refl, ap, sym, ◌∙◌, arith, inl, inr}
+use Rattle.std.proofs.Common.{◌≡◌, ℕ, ◌<◌, ◌≤◌, ◌+◌, ℤ, Bool, true, false, cond, not, ◌==◌, is_none, is_some, nat_eq, List, [], ◌∷◌, length, map, find, Option, Some, None, IfSome, option_map, option_and_then, refl, ap, sym, ◌∙◌, arith, inl, inr}
 use Rattle.std.proofs.lemmas.Bool.{cases_Bool, false≢true}
 use Rattle.std.proofs.lemmas.Bool.Decides.{nat_tests}
 use Rattle.std.proofs.lemmas.List.Elements.{All-weaker}
@@ -7,8 +7,10 @@ use Rattle.court_clock.specs.Words.{ClockView}
 use Rattle.court_days.specs.Words.{DaysView}
 use Rattle.rule6.specs.declared.service.ServiceKind.{ServiceKind}
 use Rattle.rule_periods.specs.declared.period.Period.{Period}
+use Rattle.rule_periods.specs.declared.grant.Grant.{Grant}
+use Rattle.rule_periods.specs.declared.grant.Grant.TheVariants as grant
 use Rattle.rule_periods.specs.declared.grant.Request.{Request}
-use Rattle.rule_periods.specs.Words.{EventView, DeadlineRowView, when, first_of, suits, has_length, start_refusal, start_checks, extension_refusal, extension_checks, is_grant_length, grant_fits, is_in_hours}
+use Rattle.rule_periods.specs.Words.{EventView, DeadlineRowView, when, first_of, suits, has_length, start_refusal, start_checks, extension_refusal, extension_checks, request_refusal, reset_checks, reset_refusal, is_grant_length, is_order, grant_fits, is_in_hours}
 use Rattle.hearing_slots.specs.declared.booking.Booking.{Booking}
 use Rattle.hearing_slots.specs.declared.need.Need.{Need}
 use Rattle.hearing_slots.specs.Words.{first_conflict, conflicts, IsFree, IsConflict, shares_slot}
@@ -124,11 +126,33 @@ pub record CanExtend (row : DeadlineRowView) (request : Request) : Type 0 where
   pub ranged : is_grant_length request.grant ≡ true
   pub fits : grant_fits (is_in_hours row.period) request.grant ≡ true
 
-pub extension_made : (c : DaysView) (clock : ClockView) (row : DeadlineRowView) (request : Request) → extension_refusal c clock row request ≡ None → CanExtend row request
-unfolding extension_refusal
-extension_made c clock row request h =
+-- so has what an order sets
+order_ranged : (g : Grant) → is_order g ≡ true → is_grant_length g ≡ true
+order_ranged (grant.ByDays n) h = cc h
+order_ranged (grant.ByHours n) h = cc h
+order_ranged (grant.Until day) h = cc h
+order_ranged (grant.Reset day) h = refl
+order_ranged (grant.ResetAt at) h = refl
+
+reset_made : (c : DaysView) (clock : ClockView) (row : DeadlineRowView) (request : Request) → is_order request.grant ≡ true → reset_refusal c clock row request ≡ None → CanExtend row request
+unfolding reset_refusal
+reset_made c clock row request order h =
+    let n = none_of (reset_checks c clock row request) h in
+    record { ranged = order_ranged request.grant order; fits = when-not-None _ _ n.1.1.0 }
+
+request_made : (c : DaysView) (clock : ClockView) (row : DeadlineRowView) (request : Request) → request_refusal c clock row request ≡ None → CanExtend row request
+unfolding request_refusal
+request_made c clock row request h =
     let n = none_of (extension_checks c clock row request) h in
     record { ranged = when-not-None _ _ n.1.1.1.1.0; fits = when-not-None _ _ n.1.1.1.0 }
+
+pub extension_made : (c : DaysView) (clock : ClockView) (row : DeadlineRowView) (request : Request) → extension_refusal c clock row request ≡ None → CanExtend row request
+unfolding extension_refusal
+extension_made c clock row request h = by (is_order request.grant) refl h
+  where
+    by : (order : Bool) → is_order request.grant ≡ order → cond order (reset_refusal c clock row request) (request_refusal c clock row request) ≡ None → CanExtend row request
+    by true order none = reset_made c clock row request order none
+    by false order none = request_made c clock row request none
 
 pub can_extend : (setup : CourtSetup) (parts : Parts) (case deadline : ℕ) (request : Request) (row : DeadlineRowView) → extend_refusal setup parts case deadline request ≡ None → deadline_in parts case deadline ≡ Some row → CanExtend row request
 unfolding extend_refusal

@@ -12,7 +12,7 @@ pub use Rattle.docket_rows.specs.Hearings.{hearing_asked, has_judges, is_distinc
 pub use Rattle.docket_rows.specs.Reasons.{refusal_number, refusal_name, refusal_of}
 pub use Rattle.docket_rows.specs.Refusals.{open_case_checks, start_deadline_checks, file_act_checks, extend_checks, end_checks, resume_checks, close_checks, reopen_checks, motion_checks, hearing_checks, book_checks, move_checks, cancel_checks, hearing_that_day, notice_lost, holiday_checks, outage_checks, refusal, sheet_checks, judge_day_checks, compute_checks}
 unfoldable pub use Rattle.docket_rows.specs.Refusals.{open_case_refusal, start_deadline_refusal, file_act_refusal, extend_refusal, end_refusal, resume_refusal, close_refusal, reopen_refusal, motion_refusal, book_refusal, move_refusal, cancel_refusal, holiday_refusal, outage_refusal, query_refusal}
-pub use Rattle.docket_rows.specs.Step.{with_deadline, with_changed, with_hearing, without_hearing, rows_after, answer_if_made}
+pub use Rattle.docket_rows.specs.Step.{with_deadline, with_changed, with_hearing, without_hearing, rows_after, ended_answer, answer_if_made}
 unfoldable pub use Rattle.docket_rows.specs.Step.{answered, step, rows_from}
 pub use Rattle.docket_rows.specs.Clash.{SharesJudge, Clash}
 pub use Rattle.docket_rows.specs.Lawful.{IsNoticed, KeepsNotice, AreLawful, IsSettable, AreSound}

@@ -17,6 +17,8 @@ pub enum Answer {
     Filed(bool),
     /// The time is extended; when it ends now.
     Extended(Shown),
+    /// An order set another end; when the time ends now.
+    Reset(Shown),
     /// The motion was given this number in its case.
     MotionEntered(u32),
     /// The hearing is booked.

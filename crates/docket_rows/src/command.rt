@@ -45,13 +45,13 @@ pub enum Command {
         /// The act. A minute of 1,440 or more is kept as 1,439, the last of the day.
         filing: Filing,
     },
-    /// Extends the time of a deadline (Fed. R. Civ. P. 6(b)).
+    /// Extends the time of a deadline (Fed. R. Civ. P. 6(b)), or sets another end by an order.
     Extend {
         /// The number of the case.
         case: u32,
         /// The number of the deadline in its case.
         deadline: u32,
-        /// The extension that is asked, and what the court found.
+        /// The extension that is asked, and what the court found, or what an order sets.
         request: Request,
     },
     /// Enters a motion in a case.

@@ -8,7 +8,7 @@ use Rattle.rule6.specs.declared.timeliness.Shown.{Shown}
 use Rattle.rule6.specs.declared.timeliness.Shown.TheVariants as shown
 use Rattle.hearing_slots.specs.declared.booking.Booking.{Booking}
 use Rattle.docket_rows.specs.declared.answer.Answer.{Answer}
-use Rattle.docket_rows.specs.declared.answer.Answer.TheVariants.{Started, Filed, Extended, Resumed}
+use Rattle.docket_rows.specs.declared.answer.Answer.TheVariants.{Started, Filed, Extended, Resumed, Reset}
 use Rattle.docket_rows.specs.declared.sheet.Sheet.{Sheet}
 use Rattle.docket_rows.specs.declared.sheet.SheetDeadline.{SheetDeadline}
 use Rattle.docket_rows.specs.declared.sheet.SheetHearing.{SheetHearing}
@@ -34,6 +34,7 @@ module _ (a b : ClockView) (same : IsSameCourtClock a b) where
   unfolding answer_text
   answer_text_alike (Started number end) = ap (λ t. codes "deadline " ++ decimal number ++ codes " " ++ t) (shown_text_alike end)
   answer_text_alike (Extended end) = ap (λ t. codes "extended " ++ t) (shown_text_alike end)
+  answer_text_alike (Reset end) = ap (λ t. codes "reset " ++ t) (shown_text_alike end)
   answer_text_alike (Resumed end) = ap (λ t. codes "resumed " ++ t) (shown_text_alike end)
   answer_text_alike (Filed true) = refl
   answer_text_alike other = refl

@@ -30,6 +30,10 @@ pub fn push_answer(text: &mut String, clock: &Clock, answer: &Answer) -> Result<
             text.push_str("extended ")?;
             push_shown(text, clock, shown)
         }
+        Answer::Reset(shown) => {
+            text.push_str("reset ")?;
+            push_shown(text, clock, shown)
+        }
         Answer::MotionEntered(number) => {
             text.push_str("motion ")?;
             push_number(text, u64::from(*number))

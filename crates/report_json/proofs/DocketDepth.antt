@@ -12,11 +12,12 @@ use Rattle.court_days.specs.Words.{CourtView}
 use Rattle.rule6.specs.declared.timeliness.Filing.{Filing}
 use Rattle.rule6.specs.declared.timeliness.Shown.{Shown}
 use Rattle.rule_periods.specs.declared.grant.Grant.{Grant}
+use Rattle.rule_periods.specs.declared.grant.Grant.TheVariants as grant
 use Rattle.rule_periods.specs.declared.period.Entered.{Entered}
 use Rattle.rule_periods.specs.Words.{DeadlineRowView, EventView}
 use Rattle.hearing_slots.specs.declared.booking.Booking.{Booking}
 use Rattle.docket_rows.specs.declared.answer.Answer.{Answer}
-use Rattle.docket_rows.specs.declared.answer.Answer.TheVariants.{Opened, Started, Filed, Extended, MotionEntered, Booked, Moved, Cancelled, HolidayEntered, OutageEntered, Ended, Resumed, Closed, Reopened, Refused}
+use Rattle.docket_rows.specs.declared.answer.Answer.TheVariants.{Opened, Started, Filed, Extended, Reset, MotionEntered, Booked, Moved, Cancelled, HolidayEntered, OutageEntered, Ended, Resumed, Closed, Reopened, Refused}
 use Rattle.docket_rows.specs.declared.fact.Closure.{Closure}
 use Rattle.docket_rows.specs.declared.fact.Ending.{Ending}
 use Rattle.docket_rows.specs.declared.refusal.Refusal.{Refusal}
@@ -50,7 +51,7 @@ use Rattle.report_json.specs.Deadlines.{deadline_fields, deadline_value, dockete
 use Rattle.report_json.specs.Document.{answers_from, court_value, court_fields, document_fields, document_value}
 use Rattle.report_json.specs.Motions.{hearing_fields, hearing_value, motion_fields, motion_value, notice_days_of}
 use Rattle.report_json.specs.Names.{judges_value, name_value, names_from}
-use Rattle.report_json.specs.Periods.{code_of, day_of_grant, days_of_grant, days_of_length, entered_fields, entered_of, entered_value, grant_fields, grant_value, hours_of_grant, hours_of_length, service_value}
+use Rattle.report_json.specs.Periods.{code_of, day_of_grant, days_of_grant, days_of_length, entered_fields, entered_of, entered_value, extension_fields, grant_fields, grant_value, hours_of_grant, hours_of_length, order_fields, service_value}
 use Rattle.report_json.specs.Reasons.{case_value, explained_fields, explained_sheet_fields, explained_value, instant_shown, reason_fields, reason_value, reason_values, reasons_field, why_fields}
 use Rattle.report_json.specs.Sheets.{closed_fields, lists_docketed, sheet_docketed, sheet_fields, sheet_value, sheet_with}
 use Rattle.report_json.specs.Times.{day_value, happened_fields, instant_value}
@@ -60,10 +61,20 @@ use Rattle.report_json.proofs.DepthLemmas.{AllWithin, FieldsWithin, append_withi
 flat : 0 ≤ 0
 flat = omega arith
 
+extension_within : (g : Grant) → FieldsWithin 0 (extension_fields g)
+extension_within g =
+    (nullable amount 0 (λ _. flat) (days_of_grant g), (nullable amount 0 (λ _. flat) (hours_of_grant g), (nullable day_value 0 (λ _. flat) (day_of_grant g), tt)))
+
+order_within : (g : Grant) → FieldsWithin 0 (order_fields g)
+order_within (grant.ByDays n) = tt
+order_within (grant.ByHours n) = tt
+order_within (grant.Until day) = tt
+order_within (grant.Reset day) = (flat, tt)
+order_within (grant.ResetAt at) = (flat, (flat, tt))
+
 grant_within : (g : Grant) → depth (grant_value g) ≤ 1
 unfolding grant_value
-grant_within g =
-    object_within 0 (grant_fields g) (nullable amount 0 (λ _. flat) (days_of_grant g), (nullable amount 0 (λ _. flat) (hours_of_grant g), (nullable day_value 0 (λ _. flat) (day_of_grant g), tt)))
+grant_within g = object_within 0 (grant_fields g) (append_within 0 (extension_fields g) (order_fields g) (extension_within g) (order_within g))
 
 entered_within : (e : Entered) → depth (entered_value e) ≤ 1
 unfolding entered_value
@@ -213,6 +224,7 @@ answer_within zone named Opened = (zero_five, tt)
 answer_within zone named (Started number end) = (zero_five, (zero_five, shown_deep zone end))
 answer_within zone named (Filed timely) = (zero_five, (zero_five, tt))
 answer_within zone named (Extended end) = (zero_five, shown_deep zone end)
+answer_within zone named (Reset end) = (zero_five, shown_deep zone end)
 answer_within zone named (MotionEntered number) = (zero_five, (zero_five, tt))
 answer_within zone named Booked = (zero_five, tt)
 answer_within zone named Moved = (zero_five, tt)

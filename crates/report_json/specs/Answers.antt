@@ -9,7 +9,7 @@ use Rattle.court_days.specs.Words.{CourtView}
 use Rattle.rule6.specs.declared.timeliness.Shown.{Shown}
 use Rattle.hearing_slots.specs.declared.booking.Booking.{Booking}
 use Rattle.docket_rows.specs.declared.answer.Answer.{Answer}
-use Rattle.docket_rows.specs.declared.answer.Answer.TheVariants.{Opened, Started, Filed, Extended, MotionEntered, Booked, Moved, Cancelled, HolidayEntered, OutageEntered, Ended, Resumed, Closed, Reopened, Refused}
+use Rattle.docket_rows.specs.declared.answer.Answer.TheVariants.{Opened, Started, Filed, Extended, Reset, MotionEntered, Booked, Moved, Cancelled, HolidayEntered, OutageEntered, Ended, Resumed, Closed, Reopened, Refused}
 use Rattle.docket_rows.specs.declared.refusal.Refusal.{Refusal}
 use Rattle.docket_rows.specs.declared.refusal.Refusal.TheVariants.{ShortNotice, JudgeBusy, RoomBusy, HearingThatDay, NoticeLost, HearingAhead}
 use Rattle.docket_rows.specs.declared.view.View.{View}
@@ -83,6 +83,7 @@ answer_fields zone named Opened = kind (codes "opened") ∷ []
 answer_fields zone named (Started number end) = started_fields zone number end
 answer_fields zone named (Filed timely) = kind (codes "filed") ∷ field (codes "timely") (boolean timely) ∷ []
 answer_fields zone named (Extended end) = kind (codes "extended") ∷ shown_fields zone end
+answer_fields zone named (Reset end) = kind (codes "reset") ∷ shown_fields zone end
 answer_fields zone named (MotionEntered number) = kind (codes "motion") ∷ field (codes "number") (amount number) ∷ []
 answer_fields zone named Booked = kind (codes "booked") ∷ []
 answer_fields zone named Moved = kind (codes "moved") ∷ []

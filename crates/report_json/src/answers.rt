@@ -111,6 +111,10 @@ fn push_answer(
             push_kind(out, "extended")?;
             shown.write_fields(out, court, labels)
         }
+        Answer::Reset(shown) => {
+            push_kind(out, "reset")?;
+            shown.write_fields(out, court, labels)
+        }
         Answer::MotionEntered(number) => {
             push_kind(out, "motion")?;
             out.field(court, labels, "number", number)

@@ -64,7 +64,8 @@ fn instant_shown(reason: &Reason) -> Option<Instant>
     ensures { result ≡ instant_shown reason.now }
 {
     match *reason {
-        Reason::HoursFrom(instant)
+        Reason::SetAt(instant)
+        | Reason::HoursFrom(instant)
         | Reason::HoursCounted(_, instant, _)
         | Reason::SameTime(_, instant)
         | Reason::UntilInstant(instant) => Some(instant),

@@ -28,7 +28,7 @@ use Rattle.report_memo.specs.Sheets.{IsSheet}
 use Rattle.report_memo.specs.Texts.{Is, Then}
 
 -- the case and the place of the deadline that was to start and was given that place, and of the one whose time was to be
--- extended
+-- extended or reset
 abbrev pub deadline_started : Work → (place : ℕ) → Option (ℕ × ℕ)
 deadline_started (Command (command.Start case period event second service)) place = Some (case, place)
 deadline_started work place = None
@@ -46,6 +46,7 @@ deadline_resumed work = None
 abbrev pub deadline_told : Work → Reply → Option (ℕ × ℕ)
 deadline_told work (Made (answer.Started place shown)) = deadline_started work place
 deadline_told work (Made (answer.Extended shown)) = deadline_extended work
+deadline_told work (Made (answer.Reset shown)) = deadline_extended work
 deadline_told work (Made (answer.Resumed shown)) = deadline_resumed work
 deadline_told work reply = None
 

@@ -1,5 +1,5 @@
--- Which rows made the deadlines of a case what they are: the one that started a deadline, those that extended, ended or resumed it,
--- and the one that recorded its act.
+-- Which rows made the deadlines of a case what they are: the one that started a deadline, those that extended, reset, ended or
+-- resumed it, and the one that recorded its act.
 use Rattle.std.specs.Prelude.{ℕ, ◌==◌, List, [], ◌∷◌, ◌++◌, Option, Some, None, codes, option_to_list, if◌then◌else◌}
 use Rattle.std.specs.Fmt.{decimal}
 use Rattle.std.specs.List.{flat_map}
@@ -21,7 +21,7 @@ use Rattle.office_texts.specs.declared.run.reply.Reply.TheVariants.{Made, Viewed
 use Rattle.office_texts.specs.Run.Words.{docketed_then, reply_to}
 use Rattle.reason_texts.specs.Words.{note_line}
 use Rattle.report_memo.specs.declared.sources.Deed.{Deed}
-use Rattle.report_memo.specs.declared.sources.Deed.TheVariants.{Started, Extended, Filed, Ended, Resumed}
+use Rattle.report_memo.specs.declared.sources.Deed.TheVariants.{Started, Extended, Reset, Filed, Ended, Resumed}
 use Rattle.report_memo.specs.declared.sources.Source.{Source}
 
 -- a row of that number did this to the deadline of a case, where the case is the one that is asked for
@@ -38,6 +38,7 @@ source_of_fact asked row case recorded a = None
 abbrev pub source_made : (asked row : ℕ) → CommandOf → Answer → Option Source
 source_made asked row (command.Start case period event second service) (answer.Started place shown) = source_if asked case place Started row
 source_made asked row (command.Extend case deadline request) (answer.Extended shown) = source_if asked case deadline Extended row
+source_made asked row (command.Extend case deadline request) (answer.Reset shown) = source_if asked case deadline Reset row
 source_made asked row (command.FileAct case deadline filing) (answer.Filed timely) = source_if asked case deadline Filed row
 source_made asked row (command.Fact case recorded) a = source_of_fact asked row case recorded a
 source_made asked row c a = None
@@ -60,6 +61,7 @@ numbered_source moved case s = record s { deadline = number_in moved case Deadli
 abbrev pub deed_words : Deed → List ℕ
 deed_words Started = codes "started by row "
 deed_words Extended = codes "extended by row "
+deed_words Reset = codes "reset by row "
 deed_words Filed = codes "filed by row "
 deed_words Ended = codes "ended by row "
 deed_words Resumed = codes "resumed by row "

@@ -255,6 +255,7 @@ fn deadline_told(work: &Work, reply: &Reply) -> Option<(u32, u32)>
     match reply {
         Reply::Made(Answer::Started(place, _)) => deadline_started(work, *place),
         Reply::Made(Answer::Extended(_)) => deadline_extended(work),
+        Reply::Made(Answer::Reset(_)) => deadline_extended(work),
         Reply::Made(Answer::Resumed(_)) => deadline_resumed(work),
         _ => None,
     }
@@ -270,7 +271,7 @@ fn deadline_started(work: &Work, place: u32) -> Option<(u32, u32)>
     }
 }
 
-/// The case and the place of the deadline whose time was to be extended.
+/// The case and the place of the deadline whose time was to be extended or reset.
 fn deadline_extended(work: &Work) -> Option<(u32, u32)>
     ensures { result ≡ deadline_extended work.now }
 {

@@ -24,6 +24,8 @@ pub enum Deed {
     Started,
     /// It extended the time.
     Extended,
+    /// It set another end, by an order.
+    Reset,
     /// It recorded the act.
     Filed,
     /// It ended the deadline.
@@ -145,6 +147,9 @@ fn source_made(asked: u32, row: u64, command: &Command, answer: &Answer) -> Opti
         (Command::Extend { case, deadline, .. }, Answer::Extended(_)) => {
             source_if(asked, case, deadline, Deed::Extended, row)
         }
+        (Command::Extend { case, deadline, .. }, Answer::Reset(_)) => {
+            source_if(asked, case, deadline, Deed::Reset, row)
+        }
         (Command::FileAct { case, deadline, .. }, Answer::Filed(_)) => {
             source_if(asked, case, deadline, Deed::Filed, row)
         }
@@ -240,6 +245,7 @@ fn deed_words(deed: Deed) -> &'static str
     match deed {
         Deed::Started => "started by row ",
         Deed::Extended => "extended by row ",
+        Deed::Reset => "reset by row ",
         Deed::Filed => "filed by row ",
         Deed::Ended => "ended by row ",
         Deed::Resumed => "resumed by row ",

@@ -9,7 +9,7 @@ use Rattle.rule6.specs.declared.timeliness.Means.TheVariants.{Electronic, Paper}
 use Rattle.rule6.specs.declared.timeliness.Shown.{Shown}
 use Rattle.rule6.specs.declared.timeliness.Shown.TheVariants as shown
 use Rattle.rule_periods.specs.declared.grant.Grant.{Grant}
-use Rattle.rule_periods.specs.declared.grant.Grant.TheVariants.{ByDays, ByHours, Until}
+use Rattle.rule_periods.specs.declared.grant.Grant.TheVariants.{ByDays, ByHours, Until, Reset, ResetAt}
 use Rattle.rule_periods.specs.Words.{DeadlineRowView}
 use Rattle.docket_rows.specs.declared.fact.Ending.{Ending}
 use Rattle.docket_rows.specs.declared.sheet.SheetDeadline.{SheetDeadline}
@@ -81,15 +81,25 @@ deadline_values clock d =
 unfoldable pub deadline_row : ClockView → (case : ℕ) → SheetDeadline → List ℕ
 deadline_row clock case d = row_of (codes "deadlines") case (deadline_values clock d)
 
--- an extension: by days, by hours, or until a day
+-- The extensions of a deadline are in one table, and the orders that set another end in another.
+abbrev pub grant_table : Grant → List ℕ
+grant_table (ByDays n) = codes "grants"
+grant_table (ByHours n) = codes "grants"
+grant_table (Until day) = codes "grants"
+grant_table (Reset day) = codes "resets"
+grant_table (ResetAt at) = codes "resets"
+
+-- an extension: by days, by hours, or until a day; and what an order set: a day, or a time of it
 abbrev pub grant_values : Grant → List SqlValue
 grant_values (ByDays n) = number n ∷ null ∷ null ∷ []
 grant_values (ByHours n) = null ∷ number n ∷ null ∷ []
 grant_values (Until day) = null ∷ null ∷ day_value day ∷ []
+grant_values (Reset day) = day_value day ∷ null ∷ []
+grant_values (ResetAt at) = day_value at.day ∷ minute_value at.minute ∷ []
 
--- the extension of that number of a deadline, counted from 1 in the order in which they were given
+-- the extension of that number of a deadline, or the order, counted from 1 in the order in which they were given
 unfoldable pub grant_row : (case deadline : ℕ) → (place : ℕ) → Grant → List ℕ
-grant_row case deadline place g = row_of (codes "grants") case (number deadline ∷ number place ∷ grant_values g)
+grant_row case deadline place g = row_of (grant_table g) case (number deadline ∷ number place ∷ grant_values g)
 
 -- why a deadline is due no more
 unfoldable pub ending_row : (case deadline : ℕ) → Ending → List ℕ

@@ -6,7 +6,7 @@ use Rattle.docket_rows.specs.declared.command.Command.TheVariants as command
 use Rattle.row_forms.specs.declared.numbered.NumberedRow.{NumberedRow}
 use Rattle.row_forms.specs.declared.row.Work.{Work}
 use Rattle.row_forms.specs.declared.row.Work.TheVariants.{Command}
-use Rattle.report_sql.specs.declared.schema.TheConstants.{NUMBERED_CASES, NAMED_CASES, DEADLINES, GRANTS, MOTIONS, HEARINGS, PANELS, OUTAGES, CLOSINGS, ENDINGS, ANSWERS, DESK_ANSWERS}
+use Rattle.report_sql.specs.declared.schema.TheConstants.{NUMBERED_CASES, NAMED_CASES, DEADLINES, GRANTS, RESETS, MOTIONS, HEARINGS, PANELS, OUTAGES, CLOSINGS, ENDINGS, ANSWERS, DESK_ANSWERS}
 
 -- a table of names where the court's file has names
 abbrev pub cases_table : List NamedCase → List ℕ
@@ -36,6 +36,7 @@ tables named facts =
     cases_table named
     ++ DEADLINES.now
     ++ GRANTS.now
+    ++ RESETS.now
     ++ MOTIONS.now
     ++ HEARINGS.now
     ++ PANELS.now

@@ -2,7 +2,7 @@
 
 ghost use Rattle.std.specs.Prelude.{◌≡◌, ◌<◌, ◌++◌, [], ◌∷◌, IfSome, OnOk};
 ghost use Rattle.court_clock.specs.Words.{civil_of};
-ghost use Rattle.report_sql.specs.Deadlines.{civil_values, deadline_row, deadline_rows, deadline_values, ending_row, ending_row_if_any, ends_values, event_time, filed_values, grant_row, grant_values, is_paper, service_letter, service_value, started_values, timely_value};
+ghost use Rattle.report_sql.specs.Deadlines.{civil_values, deadline_row, deadline_rows, deadline_values, ending_row, ending_row_if_any, ends_values, event_time, filed_values, grant_row, grant_table, grant_values, is_paper, service_letter, service_value, started_values, timely_value};
 ghost use Rattle.report_sql.specs.Rows.{AddsValues, null, numbered, or_null};
 ghost use Rattle.report_sql.specs.Times.{day_value, instant_value};
 
@@ -188,7 +188,7 @@ fn push_timely(out: &mut Script, state: State) -> Result<(), AllocError>
     }
 }
 
-/// Adds the extensions of a deadline, each with its number.
+/// Adds the extensions of a deadline, and the orders that set another end, each with its number.
 fn push_grants(
     out: &mut Script,
     case: u32,
@@ -205,7 +205,7 @@ fn push_grants(
     Ok(())
 }
 
-/// Adds an extension.
+/// Adds an extension, or an order that sets another end.
 #[tactic(auto, unfolding(crate::specs::Deadlines::grant_row))]
 fn push_grant(
     out: &mut Script,
@@ -216,14 +216,24 @@ fn push_grant(
 ) -> Result<(), AllocError>
     ensures { OnOk result (out.new ≡ out.old ++ grant_row case deadline place grant) }
 {
-    out.begin_row("grants", u64::from(case))?;
+    out.begin_row(grant_table(grant), u64::from(case))?;
     out.number(u64::from(deadline))?;
     out.number(place)?;
     push_grant_values(out, grant)?;
     out.end_row()
 }
 
-/// Adds how long an extension is.
+/// The table of extensions, or that of the orders that set another end.
+fn grant_table(grant: Grant) -> &'static str
+    ensures { result.now ≡ grant_table grant }
+{
+    match grant {
+        Grant::ByDays(_) | Grant::ByHours(_) | Grant::Until(_) => "grants",
+        Grant::Reset(_) | Grant::ResetAt(_) => "resets",
+    }
+}
+
+/// Adds how long an extension is, or which end an order sets.
 fn push_grant_values(out: &mut Script, grant: Grant) -> Result<(), AllocError>
     ensures { OnOk result (AddsValues out.old out.new (grant_values grant)) }
 {
@@ -240,6 +250,14 @@ fn push_grant_values(out: &mut Script, grant: Grant) -> Result<(), AllocError>
         Grant::Until(day) => {
             push_nulls(out)?;
             out.day(day)
+        }
+        Grant::Reset(day) => {
+            out.day(day)?;
+            out.null()
+        }
+        Grant::ResetAt(at) => {
+            out.day(at.day())?;
+            out.minute(u32::from(at.minute()))
         }
     }
 }

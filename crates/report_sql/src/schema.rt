@@ -60,6 +60,18 @@ const GRANTS: &str = "CREATE TABLE grants (
 );
 ";
 
+// The orders that set another end of a deadline, by their places among its extensions; NULL time: to a day as a whole.
+const RESETS: &str = "CREATE TABLE resets (
+  case_number INTEGER NOT NULL,
+  deadline_number INTEGER NOT NULL,
+  number INTEGER NOT NULL,
+  reset_day DATE NOT NULL,
+  reset_time TIME,
+  PRIMARY KEY (case_number, deadline_number, number),
+  FOREIGN KEY (case_number, deadline_number) REFERENCES deadlines (case_number, number)
+);
+";
+
 // The motions of a case, by number; NULL days of notice: it may be heard without.
 const MOTIONS: &str = "CREATE TABLE motions (
   case_number INTEGER NOT NULL REFERENCES cases (number),
@@ -174,6 +186,7 @@ pub(crate) fn push_tables(
     push_cases(out, labels)?;
     out.statement(DEADLINES)?;
     out.statement(GRANTS)?;
+    out.statement(RESETS)?;
     out.statement(MOTIONS)?;
     out.statement(HEARINGS)?;
     out.statement(PANELS)?;

@@ -11,23 +11,24 @@ use Rattle.row_forms.specs.declared.fault.RowCause.{RowCause}
 use Rattle.row_forms.specs.declared.fault.RowCause.TheVariants.{BadClerk, NotText, TooManyRows, WrongCount}
 use Rattle.row_forms.specs.declared.forms.periods.Measured.{Measured}
 use Rattle.row_forms.specs.declared.forms.table.Form.{Form}
-use Rattle.row_forms.specs.declared.forms.table.Form.TheVariants.{Close, Compute, End, Reopen, Resume, Set, Start}
+use Rattle.row_forms.specs.declared.forms.table.Form.TheVariants.{Close, Compute, End, Extend, Reopen, Reset, Resume, Set, Start}
 use Rattle.row_forms.specs.declared.row.Row.{Row}
 use Rattle.row_forms.specs.declared.row.Work.{Work}
 use Rattle.row_forms.specs.declared.row.Work.TheVariants.{Query}
 use Rattle.row_forms.specs.Columns.{◌>>=◌, column}
 use Rattle.row_forms.specs.CourtNames.{CourtNames}
-use Rattle.row_forms.specs.Forms.{compute_row, office_work_of, read_as, start_row, work_as, work_of}
+use Rattle.row_forms.specs.Forms.{compute_row, extend_row, office_work_of, read_as, start_row, work_as, work_of}
 use Rattle.row_forms.specs.Forms.Periods.{measured_from}
 use Rattle.row_forms.specs.Forms.Table.{columns_of_form, command_word, form_of, is_word_of, office_form_of, office_forms}
 use Rattle.row_forms.specs.Office.{OfficeRowsAreReadAlike, RowsAreOfficeWork, is_office_work}
 use Rattle.row_forms.specs.Rows.{clerk_of, in_row, most_rows, office_row_of, row_asking, row_of, rows_read, rows_read_from}
-use Rattle.row_forms.proofs.FormLemmas.{at_desk, named_in, start_is}
+use Rattle.row_forms.proofs.FormLemmas.{at_desk, extend_is, named_in, start_is}
 use Rattle.row_forms.proofs.PeriodLemmas.{measured_counted}
 
 -- the forms of the desk's own
 abbrev of_desk : Form → Bool
 of_desk Set = true
+of_desk Reset = true
 of_desk End = true
 of_desk Resume = true
 of_desk Close = true
@@ -46,6 +47,7 @@ none_has form word none h =
 never_of_desk : (word : List ℕ) (form : Form) → of_desk form ≡ true → office_form_of word ≡ Some form → ⊥
 unfolding office_form_of is_word_of
 never_of_desk word Set own h = none_has Set word refl h
+never_of_desk word Reset own h = none_has Reset word refl h
 never_of_desk word End own h = none_has End word refl h
 never_of_desk word Resume own h = none_has Resume word refl h
 never_of_desk word Close own h = none_has Close word refl h
@@ -81,10 +83,13 @@ compute_is fields work h = by (measured_from fields 3) refl h
 -- of each form but those of the desk's own: the last line is checked for every other form
 form_is_office : (names : CourtNames) (form : Form) (fields : List (List ℕ)) → of_desk form ≡ false → IsOffice (read_as names form fields)
 form_is_office names Set fields office = cc office
+form_is_office names Reset fields office = cc office
 form_is_office names End fields office = cc office
 form_is_office names Resume fields office = cc office
 form_is_office names Close fields office = cc office
 form_is_office names Reopen fields office = cc office
+form_is_office names Extend fields office =
+    counted (not (length fields == length (columns_of_form Extend))) (extend_row fields) (record { office = λ work h. (extend_is fields work h).1 })
 form_is_office names Start fields office =
     counted (not (length fields == length (columns_of_form Start))) (start_row fields) (record { office = λ work h. (start_is fields work h).1 })
 form_is_office names Compute fields office =

@@ -234,11 +234,7 @@ fn may_be_empty(column: Column) -> bool
 {
     matches!(
         column,
-        Column::TimeOrNone
-            | Column::SecondOrNone
-            | Column::ServiceOrNone
-            | Column::SetTime
-            | Column::ResumeDay
+        Column::TimeOrNone | Column::SecondOrNone | Column::ServiceOrNone | Column::ResumeDay
     )
 }
 
@@ -281,8 +277,8 @@ fn filled_said(
         Column::Judges => panel_said(alloc, court, text),
         Column::Room => name_said(alloc, court, Named::Rooms, text),
         Column::Slots => slots_said(alloc, text),
-        // An order sets a day as a whole, and a deadline that is resumed has its days as before.
-        Column::SetTime | Column::ResumeDay => Ok(Said::Unknown),
+        // A deadline that is resumed has its days as before.
+        Column::ResumeDay => Ok(Said::Unknown),
     }
 }
 

@@ -6,7 +6,7 @@ use Rattle.rule6.specs.declared.timeliness.Act.TheVariants as act
 use Rattle.rule6.specs.declared.timeliness.Shown.{Shown}
 use Rattle.rule6.specs.declared.timeliness.Shown.TheVariants as shown
 use Rattle.docket_rows.specs.declared.answer.Answer.{Answer}
-use Rattle.docket_rows.specs.declared.answer.Answer.TheVariants.{Opened, Started, Filed, Extended, MotionEntered, Booked, Moved, Cancelled, HolidayEntered, OutageEntered, Ended, Resumed, Closed, Reopened, Refused}
+use Rattle.docket_rows.specs.declared.answer.Answer.TheVariants.{Opened, Started, Filed, Extended, Reset, MotionEntered, Booked, Moved, Cancelled, HolidayEntered, OutageEntered, Ended, Resumed, Closed, Reopened, Refused}
 use Rattle.docket_rows.specs.declared.refusal.Refusal.{Refusal}
 use Rattle.docket_rows.specs.declared.refusal.Refusal.TheVariants.{NoSuchCase, CaseIsOpen, NoSuchDeadline, NoSuchMotion, BadDay, BadLength, WrongService, Beyond, AlreadyMet, NotExtendable, NoGoodCause, LateWithoutMotion, LateWithoutNeglect, NotLonger, AlreadySet, NotSet, NotACourtDay, OutsideHours, ShortNotice, JudgeBusy, RoomBusy, AlreadyHoliday, HearingThatDay, NoticeLost, Full, NoSuchJudge, NoSuchRoom, WrongGrant, BadPanel, CaseIsClosed, NotClosed, HearingAhead, AlreadyEnded, NotEnded}
 
@@ -68,6 +68,7 @@ same_answer Opened Opened = true
 same_answer (Started number ends) (Started other too) = number == other && same_shown ends too
 same_answer (Filed timely) (Filed other) = same_truth timely other
 same_answer (Extended ends) (Extended other) = same_shown ends other
+same_answer (Reset ends) (Reset other) = same_shown ends other
 same_answer (MotionEntered number) (MotionEntered other) = number == other
 same_answer Booked Booked = true
 same_answer Moved Moved = true

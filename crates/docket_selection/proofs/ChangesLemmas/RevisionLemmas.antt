@@ -13,8 +13,10 @@ use Rattle.docket_rows.specs.declared.command.Command.TheVariants.{OpenCase, Sta
 use Rattle.docket_rows.specs.declared.fact.Fact.{Fact as FactOf}
 use Rattle.docket_rows.specs.declared.fact.Fact.TheVariants.{Ended, Resumed, Closed, Reopened}
 use Rattle.docket_rows.specs.declared.refusal.Refusal.{Refusal}
-use Rattle.docket_rows.specs.Words.{AreSound, CourtSetup, DocketedDeadline, Rows, answer_if_made, answered, is_deadline_in, is_fact_in, next_deadline, opening_rows, parts_of, refusal, rows_after, rows_from, started, step, with_deadline}
-use Rattle.rule_periods.specs.Words.{DeadlineRowView}
+use Rattle.docket_rows.specs.Words.{AreSound, CourtSetup, DocketedDeadline, Rows, answer_if_made, answered, ended_answer, is_deadline_in, is_fact_in, next_deadline, opening_rows, parts_of, refusal, rows_after, rows_from, started, step, with_deadline}
+use Rattle.rule6.specs.declared.timeliness.Shown.{Shown}
+use Rattle.rule_periods.specs.declared.grant.Request.{Request}
+use Rattle.rule_periods.specs.Words.{DeadlineRowView, is_order}
 use Rattle.docket_laws.specs.Words.{docket_after}
 use Rattle.docket_laws.proofs.CallerLemmas.{can_book, can_move, count_of, sound_docket}
 use Rattle.docket_selection.specs.declared.changes.change.Change.{Change}
@@ -50,6 +52,7 @@ module _ (Holds : ℕ → Type 0) (row : ℕ) (command : Command) (holds : Holds
   made_at (answer.Started number shown) = asked_at (change_asked command)
   made_at (answer.Filed timely) = asked_at (change_asked command)
   made_at (answer.Extended shown) = asked_at (change_asked command)
+  made_at (answer.Reset shown) = asked_at (change_asked command)
   made_at (answer.MotionEntered number) = asked_at (change_asked command)
   made_at answer.Booked = asked_at (change_asked command)
   made_at answer.Moved = asked_at (change_asked command)
@@ -110,6 +113,11 @@ touches case change = changes_days change || changes_case case change
 abbrev made_touches : (case : ℕ) → Option RowChange → Bool
 made_touches case made = option_map_or (λ (c : RowChange). touches case c.change) made false
 
+-- whichever way a time is extended, it touches its own case
+extension_touches : (case row of deadline : ℕ) (request : Request) (order : Bool) (end : Shown) → made_touches case (change_made row (Extend of deadline request) (ended_answer order end)) ≡ false → (of == case) ≡ false
+extension_touches case row of deadline request true end other = other
+extension_touches case row of deadline request false end other = other
+
 -- a fact of another case
 recorded_elsewhere : (rows : Rows) (case of : ℕ) (fact : FactOf) → (of == case) ≡ false → KeepsEvents case rows (rows_after rows (Fact of fact))
 recorded_elsewhere rows case of fact other = record {
@@ -135,7 +143,7 @@ made_keeps setup rows case row sound (FileAct of deadline filing) free other = r
 }
 made_keeps setup rows case row sound (Extend of deadline request) free other = record {
   days = refl;
-  deadlines = other_deadline case of deadline _ other rows.deadlines;
+  deadlines = other_deadline case of deadline _ (extension_touches case row of deadline request (is_order request.grant) _ other) rows.deadlines;
   hearings = λ motion. refl;
   facts = refl;
 }

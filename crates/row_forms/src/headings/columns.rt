@@ -58,18 +58,16 @@ pub enum Column {
     Slots,
     /// The day on which notice was served.
     Notice,
-    /// The time of day of a day that an order sets, which is empty.
-    SetTime,
     /// What has to be done in time.
     Act,
+    /// The day of an order.
+    Dated,
     /// Why a deadline is due no more.
     Why,
     /// How a case was closed.
     Closing,
     /// The day on which a deadline that is resumed begins anew, which is empty.
     ResumeDay,
-    /// The day of what is recorded.
-    Dated,
 }
 
 /// The column of that number, counted from 0.
@@ -91,7 +89,7 @@ pub fn name_of(column: Column) -> &'static str
         Column::Motion | Column::ByMotion => "motion",
         Column::Period => "period",
         Column::Date | Column::ResumeDay => "date",
-        Column::Time | Column::Start | Column::TimeOrNone | Column::SetTime => "time",
+        Column::Time | Column::Start | Column::TimeOrNone => "time",
         Column::SecondOrNone => "second",
         Column::ServiceOrNone => "kind",
         Column::Means => "means",
@@ -107,8 +105,8 @@ pub fn name_of(column: Column) -> &'static str
         Column::Slots => "slots",
         Column::Notice => "notice",
         Column::Act => "act",
-        Column::Why | Column::Closing => "why",
         Column::Dated => "dated",
+        Column::Why | Column::Closing => "why",
     }
 }
 
@@ -127,7 +125,7 @@ pub fn mark_of(word: &str, column: Column) -> &str
         Column::Date => "DATE",
         Column::Time => "TIME",
         Column::Start => "START",
-        Column::TimeOrNone | Column::SetTime => "[TIME]",
+        Column::TimeOrNone => "[TIME]",
         Column::SecondOrNone => "[SECOND]",
         Column::ServiceOrNone => "[KIND]",
         Column::Means => "MEANS",
@@ -144,9 +142,9 @@ pub fn mark_of(word: &str, column: Column) -> &str
         Column::Slots => "SLOTS",
         Column::Notice => "NOTICE",
         Column::Act => "ACT",
+        Column::Dated => "DATED",
         Column::Why | Column::Closing => "WHY",
         Column::ResumeDay => "[DAY]",
-        Column::Dated => "DATED",
     }
 }
 
@@ -156,10 +154,6 @@ pub fn may_be_empty(column: Column) -> bool
 {
     matches!(
         column,
-        Column::TimeOrNone
-            | Column::SecondOrNone
-            | Column::ServiceOrNone
-            | Column::SetTime
-            | Column::ResumeDay
+        Column::TimeOrNone | Column::SecondOrNone | Column::ServiceOrNone | Column::ResumeDay
     )
 }
