@@ -4,8 +4,8 @@
     derivations_check.py DOCKET [SEED [COUNT]]
 
 Rows are made at random from SEED (by default 1) until COUNT deadlines (by default 10000) were shown: ends that are
-computed, and deadlines that are started, set and reset by orders and extended, with acts and hearings, and with holidays and outages that
-are entered meanwhile. Every deadline that an answer or a sheet shows must have its period in words, then reasons that lead to
+computed, and deadlines that are started, set and reset by orders, extended, ended and resumed, with acts and hearings, and with holidays and
+outages that are entered meanwhile. Every deadline that an answer or a sheet shows must have its period in words, then reasons that lead to
 what is shown, by the steps of lib/derivation_steps.py alone, which computes no deadline, and then the other readings that
 give another end, which the second program in plain Python computes (lib/other_readings.py). The lines of an act, of a
 refusal and of what a reader is warned of must be those of lib/note_lines.py. So must those of the examples and of the stored
@@ -20,7 +20,7 @@ import sys
 from collections import Counter
 
 from lib import note_lines, other_readings
-from lib.desk import report_of, set_rows
+from lib.desk import desk_rows, report_of
 from lib.derivation_steps import AFTER, COLUMN, WEEKDAYS, Calendar, Deadline, Line, Wrong, checked, expect, line_of
 from lib.made_inputs import CODES, HOLIDAYS, ZONES, listed, quoted
 from lib.period_words import COUNTING, SET, SUMMONS, heading
@@ -28,7 +28,7 @@ from lib.programs import TOP, programs_of, seed_and_count
 from reference import periods
 from reference.civil import day_of_text, day_text, minute_of_text, minute_text, weekday
 from reference.court_file import court_of, split, table_of
-from reference.docket import STEPS, case_of, deadlines_of, hearing_of, motions_of, opening, step, view
+from reference.docket import STEPS, case_of, deadlines_of, ending_of, hearing_of, motions_of, opening, step, view
 from reference.rows_in import grant as grant_of, reset_to, rows_of
 from reference.text_out import sheet_lines, shown_text
 
@@ -112,8 +112,8 @@ def derivations(data, output):
             fields, text, work = rows[number][1:], answer[2], works[number]
             number += 1
             docket, made = step(court, docket, work) if work[0] in STEPS else (docket, view(court, docket, work))
-            shown = re.fullmatch(r"(?:deadline (\d+) |extended |reset )?((?:last|until|beyond).*)", text)
-            if shown and fields[0] in ("compute", "start", "set", "extend", "reset"):
+            shown = re.fullmatch(r"(?:deadline (\d+) |extended |reset |resumed )?((?:last|until|beyond).*)", text)
+            if shown and fields[0] in ("compute", "start", "set", "extend", "reset", "resume"):
                 if fields[0] == "compute":
                     deadline = deadline_of(*fields[1:])
                 elif fields[0] == "set":
@@ -122,7 +122,8 @@ def derivations(data, output):
                     deadline = started[fields[1], shown[1]] = deadline_of(*fields[2:])
                 else:
                     deadline = started[fields[1], fields[2]]
-                    deadline.grants.append(fields[3] if fields[0] == "extend" else order_text(*fields[3:5]))
+                    if fields[0] in ("extend", "reset"):
+                        deadline.grants.append(fields[3] if fields[0] == "extend" else order_text(*fields[3:5]))
                 more = note_lines.notes(court, docket, work, made)
                 yield copy(), deadline._replace(grants=list(deadline.grants)), told(), shown[2], more, []
                 continue
@@ -203,7 +204,8 @@ def whole_case(ended, output, case, today):
     for deadline in deadlines_of(docket, case):
         row, block = deadline.row, next(blocks)
         first = sources[case, deadline.number]
-        more = note_lines.act(court, docket, row) + note_lines.ahead(court, docket, row, today)
+        is_due = ending_of(docket, case, deadline.number) is None
+        more = note_lines.act(court, docket, row) + note_lines.ahead(court, docket, row, today if is_due else None)
         more += note_lines.of_deadline(court, docket, row, filed, today)
         shown = shown_text(court, periods.shown(days, court.clock, row))
         yield calendar, of_row(row), block[1:], shown, more, first
@@ -402,9 +404,9 @@ def an_input(chance):
     rows += ["1,inaccessible,{},09:00,12:00".format(row.split(",")[6]) for row in rows
              if row.startswith("1,book,") and chance.random() < 0.2]
     lines = [row.encode() + b"\n" for row in rows]
-    # Deadlines and other ends that orders set, in some: such rows are entered into a folder
+    # Deadlines and other ends that orders set, and some that are ended and resumed, now and then: such rows are entered into a folder
     if chance.random() < 0.3:
-        lines = set_rows(chance, lines, [1], faulty=False)
+        lines = desk_rows(chance, lines, [1], faulty=False)
     return "\n".join(court).encode() + b"\n%%\n" + b"".join(lines)
 
 
@@ -451,6 +453,10 @@ def older_line(text):
     return text[:18] + "the rule as it reads from {} is applied".format(COUNTING).ljust(COLUMN) + "  ours"
 
 
+# What a row did to a deadline, and what it may be said to have done in its place, in as many letters where there is such a word.
+OTHER_DEEDS = {"started": "resumed", "extended": "started", "reset": "started", "filed": "ended", "ended": "filed", "resumed": "started"}
+
+
 def line_spoiled(text):
     yield "a day too late", other_day(text, 1)
     yield "a day too early", other_day(text, -1)
@@ -474,7 +480,7 @@ def line_spoiled(text):
         number = str(int(found[1]) + 1).zfill(len(found[1]))
         yield "another number", swapped(text, found[0], found[0][:len(found[0]) - len(found[1])] + number)
     yield "passed for in", re.sub(r"^(.{18})in (\d+ days?)      ", r"\1passed \2 ago ", text)
-    yield "another row's deed", re.sub(r"^(.{18})(started|extended|reset|filed) by", lambda found: found[1] + {"started": "extended", "extended": "filed", "reset": "started", "filed": "started"}[found[2]] + " by", text)
+    yield "another row's deed", re.sub(r"^(.{18})(started|extended|reset|filed|ended|resumed) by", lambda found: found[1] + OTHER_DEEDS[found[2]] + " by", text)
     yield "a year after for before", re.sub(r"(a year or more) before (\S+) ", r"\1 after \2  ", text)
     yield "as of another day", re.sub(r"as of 2(\d{3})-(\d\d)-(\d\d)$", r"as of 2\1-\2-01" if not text.endswith("-01") else r"as of 2\1-\2-02", text)
     yield "late for undecided", swapped(text, "undecided: the end is beyond", "late, beyond")

@@ -7,7 +7,8 @@ from lib.derivation_steps import time_text
 from lib.legal_names import legal_name
 from lib.period_words import right_from
 from reference.civil import civil, day_of_text, day_text, instant_at, minute_text, weekday
-from reference.docket import DATES, DEADLINES, GRANTS, MOTIONS, OUTAGES, STEPS, deadline_of, hearing_of, motion_of, opening, step
+from reference.docket import (DATES, DEADLINES, FACTS, GRANTS, MOTIONS, OUTAGES, STEPS, deadline_of, hearing_of, motion_of, opening,
+                              step)
 from reference.periods import granted, is_in_range, is_order, is_set, shown
 from reference.rule6 import AFTER, BEFORE, BEYOND, ELECTRONIC, FILING, PAPER, Filing, day_end, is_timely, permitted
 
@@ -41,7 +42,7 @@ def end_of(court, end):
 
 
 def docketed(rows, command):
-    found = deadline_of(rows, command[1], command[2]) if command[0] in ("file", "extend") else None
+    found = deadline_of(rows, command[1], command[2]) if command[0] in ("file", "extend", "end", "resume") else None
     return None if found is None else found.row
 
 
@@ -74,7 +75,7 @@ def sources(court, works):
     for number, work in enumerate(works, 1):
         if work[0] in STEPS:
             docket, answer = step(court, docket, work)
-            if answer[0] in ("started", "extended", "reset", "filed"):
+            if answer[0] in ("started", "extended", "reset", "filed", "ended", "resumed"):
                 deadline = answer[1] if answer[0] == "started" else work[2]
                 line = (None, "{} by row {}".format(answer[0], number), "docketed")
                 made.setdefault((work[1], deadline), []).append(line)
@@ -323,6 +324,10 @@ LENGTHS = {"start": PERIOD, "compute": PERIOD, "extend": "an extension is 1 to 3
 MOST = {"start": "a case has {} deadlines at most".format(DEADLINES),
         "extend": "a deadline has {} extensions at most".format(GRANTS),
         "motion": "a case has {} motions at most".format(MOTIONS),
+        "end": "a case has {} such rows at most".format(FACTS),
+        "resume": "a case has {} such rows at most".format(FACTS),
+        "close": "a case has {} such rows at most".format(FACTS),
+        "reopen": "a case has {} such rows at most".format(FACTS),
         "holiday": "a list of holidays has {} dates at most".format(DATES),
         "inaccessible": "the docket has {} outages at most".format(OUTAGES)}
 
@@ -356,4 +361,9 @@ REFUSED = {
     27: alone("the court's file names no such room", "ours"),
     28: by_grant("hours are extended by hours, days by days", "a day is reset to a day, an hour to an hour", "ours"),
     29: alone("a panel is one to three judges, each once", "ours"),
+    30: alone("the case is closed; `reopen` opens it again", "ours"),
+    31: alone("the case isn't closed; `close` closes one", "ours"),
+    32: taken(" is heard, "),
+    33: alone("the deadline is ended; `resume` takes it up again", "ours"),
+    34: alone("the deadline isn't ended; `end` ends one", "ours"),
 }

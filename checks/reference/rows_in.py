@@ -122,6 +122,11 @@ def quarter(text, court):
     return minute // 15 if minute is not None and minute % 15 == 0 else None
 
 
+def no_day(text, court):
+    """The day of a deadline that is resumed as it was."""
+    return [] if text == "" else None
+
+
 def date_or_none(text, court):
     if text == "":
         return []
@@ -207,9 +212,17 @@ COLUMNS = {
     "sheet": [number],
     "calendar": [judge, date],
 }
+WHY = one_of("moot", "vacated", "stayed", "suspended", "withdrawn")
 # The forms that the desk alone takes.
-DESK_COLUMNS = {**COLUMNS, "set": [number, date, given_time, one_of("filing", "service")],
-                "reset": [number, number, date, given_time, date]}
+DESK_COLUMNS = {
+    **COLUMNS,
+    "set": [number, date, given_time, one_of("filing", "service")],
+    "reset": [number, number, date, given_time, date],
+    "end": [number, number, WHY, date],
+    "resume": [number, number, no_day, date],
+    "close": [number, one_of("dismissed", "judgment", "settled", "transferred", "remanded", "otherwise"), date],
+    "reopen": [number, date],
+}
 WORKS = {
     "open": lambda case, filed: ("open", case, filed),
     "start": lambda case, *rest: ("start", case) + asked_period(*rest),
@@ -226,6 +239,10 @@ WORKS = {
     "calendar": lambda of_judge, day: ("calendar", of_judge, day),
     "set": lambda case, day, minute, act: ("start", case, set_to(act, bool(minute)), Event(day, only(minute) or 0), None, None),
     "reset": lambda case, deadline, day, minute, dated: ("extend", case, deadline, order(reset_to(day, minute), dated)),
+    "end": lambda case, deadline, why, dated: ("end", case, deadline, why, dated),
+    "resume": lambda case, deadline, day, dated: ("resume", case, deadline, dated),
+    "close": lambda case, why, dated: ("close", case, why, dated),
+    "reopen": lambda case, dated: ("reopen", case, dated),
 }
 
 

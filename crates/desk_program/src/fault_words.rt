@@ -67,6 +67,9 @@ fn expected(column: Column) -> &'static str
         Column::Slots => "half hours, as 2, or quarter hours, as 3q",
         Column::Holidays => "federal or state",
         Column::Act => "filing or service",
+        Column::Why => "moot, vacated, stayed, suspended or withdrawn",
+        Column::Closing => "dismissed, judgment, settled, transferred, remanded or otherwise",
+        Column::ResumeDay => "nothing, since the deadline has its days as before",
         Column::Clerk | Column::Command | Column::Room => "what FORMATS.md has under Rows",
     }
 }

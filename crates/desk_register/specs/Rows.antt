@@ -157,6 +157,10 @@ came_of answer.Moved = Taken
 came_of answer.Cancelled = Taken
 came_of answer.HolidayEntered = Taken
 came_of answer.OutageEntered = Taken
+came_of answer.Ended = Taken
+came_of answer.Closed = Taken
+came_of answer.Reopened = Taken
+came_of (answer.Resumed shown) = Taken
 came_of (answer.Refused refusal) = Refused
 
 -- a question changes nothing, whatever it is answered

@@ -9,7 +9,8 @@ use Rattle.rule_periods.specs.Words.{DeadlineRowView, is_order, kept_filing, wit
 use Rattle.docket_rows.specs.declared.answer.Answer.{Answer}
 use Rattle.docket_rows.specs.declared.answer.Answer.TheVariants as answer
 use Rattle.docket_rows.specs.declared.command.Command.{Command}
-use Rattle.docket_rows.specs.declared.command.Command.TheVariants.{OpenCase, Start, FileAct, Extend, Motion, Book, MoveHearing, Cancel, Holiday, Inaccessible}
+use Rattle.docket_rows.specs.declared.command.Command.TheVariants.{OpenCase, Start, FileAct, Extend, Motion, Book, MoveHearing, Cancel, Holiday, Inaccessible, Fact}
+use Rattle.docket_rows.specs.declared.fact.Fact.TheVariants.{Ended, Resumed, Closed, Reopened}
 use Rattle.docket_rows.specs.declared.hearing.Setting.{Setting}
 use Rattle.docket_rows.specs.CourtSetup.{CourtSetup}
 use Rattle.docket_rows.specs.Hearings.{hearing_asked}
@@ -47,6 +48,7 @@ rows_after rows (MoveHearing s) = with_hearing s (without_hearing s.case s.motio
 rows_after rows (Cancel case motion) = without_hearing case motion rows
 rows_after rows (Holiday day list) = record rows { days = add_holiday rows.days list day }
 rows_after rows (Inaccessible day from to) = record rows { days = add_outage rows.days (record { day = day; from = from; to = to }) }
+rows_after rows (Fact case fact) = record rows { facts = rows.facts ++ record { case = case; fact = fact } ∷ [] }
 
 -- the answer to an extension, and to an order that sets another end: when the time ends now
 abbrev pub ended_answer : (order : Bool) → Shown → Answer
@@ -68,6 +70,11 @@ answer_if_made setup parts (MoveHearing s) = answer.Moved
 answer_if_made setup parts (Cancel case motion) = answer.Cancelled
 answer_if_made setup parts (Holiday day list) = answer.HolidayEntered
 answer_if_made setup parts (Inaccessible day from to) = answer.OutageEntered
+answer_if_made setup parts (Fact case (Ended deadline why dated)) = answer.Ended
+answer_if_made setup parts (Fact case (Resumed deadline dated)) =
+    answer.Resumed (option_map_or (λ row. shown_now setup parts row) (deadline_in parts case deadline) shown.Beyond)
+answer_if_made setup parts (Fact case (Closed why dated)) = answer.Closed
+answer_if_made setup parts (Fact case (Reopened dated)) = answer.Reopened
 
 -- what a command is answered where the parts are these
 unfoldable pub answered : CourtSetup → Parts → Command → Answer

@@ -31,6 +31,14 @@ pub enum Answer {
     HolidayEntered,
     /// The outage of the clerk's office is entered.
     OutageEntered,
+    /// The deadline is ended.
+    Ended,
+    /// The deadline is resumed; when its time ends.
+    Resumed(Shown),
+    /// The case is closed.
+    Closed,
+    /// The case is open again.
+    Reopened,
     /// The command is refused, and changes nothing.
     Refused(Refusal),
 }

@@ -6,7 +6,7 @@ use Rattle.rule_periods.specs.declared.grant.Request.{Request}
 use Rattle.rule_periods.specs.Words.{DeadlineRowView, is_order}
 use Rattle.docket_rows.specs.declared.command.Command.{Command}
 use Rattle.docket_rows.specs.declared.refusal.Refusal.{Refusal}
-use Rattle.docket_rows.specs.declared.refusal.Refusal.TheVariants.{AlreadyMet, NotExtendable, NoGoodCause, LateWithoutMotion, LateWithoutNeglect, NotLonger, WrongGrant, NotACourtDay, OutsideHours, ShortNotice, JudgeBusy, RoomBusy, HearingThatDay, NoticeLost}
+use Rattle.docket_rows.specs.declared.refusal.Refusal.TheVariants.{AlreadyMet, NotExtendable, NoGoodCause, LateWithoutMotion, LateWithoutNeglect, NotLonger, WrongGrant, NotACourtDay, OutsideHours, ShortNotice, JudgeBusy, RoomBusy, HearingThatDay, NoticeLost, HearingAhead}
 use Rattle.docket_rows.specs.declared.sheet.SheetMotion.{SheetMotion}
 use Rattle.reason_texts.specs.Words.{note_line}
 use Rattle.reason_notes.specs.Margins.Words.{recorded_lines}
@@ -46,5 +46,6 @@ refusal_lines c clock command row called motion (ShortNotice latest) = short_lin
 refusal_lines c clock command row called motion (JudgeBusy case number) = taken_line called (codes " has the judge, ") motion
 refusal_lines c clock command row called motion (RoomBusy case number) = taken_line called (codes " has the room, ") motion
 refusal_lines c clock command row called motion (HearingThatDay case number) = taken_line called (codes " is heard, ") motion
+refusal_lines c clock command row called motion (HearingAhead case number) = taken_line called (codes " is heard, ") motion
 refusal_lines c clock command row called motion (NoticeLost case number) = taken_line called (codes " is heard, ") motion ++ lost_line motion
 refusal_lines c clock command row called motion refusal = range_lines c command called motion refusal

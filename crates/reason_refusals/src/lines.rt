@@ -92,6 +92,7 @@ pub fn push_refusal(
         Refusal::JudgeBusy(_, _) => push_taken(alloc, text, called, " has the judge, ", motion),
         Refusal::RoomBusy(_, _) => push_taken(alloc, text, called, " has the room, ", motion),
         Refusal::HearingThatDay(_, _) => push_taken(alloc, text, called, " is heard, ", motion),
+        Refusal::HearingAhead(_, _) => push_taken(alloc, text, called, " is heard, ", motion),
         Refusal::NoticeLost(_, _) => push_both(alloc, text, called, &motion),
         _ => push_range(alloc, text, days, command, called, motion, refusal),
     }

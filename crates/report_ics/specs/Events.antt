@@ -14,6 +14,7 @@ use Rattle.rule6.specs.Words.{day_end}
 use Rattle.rule_periods.specs.declared.period.Period.{Period}
 use Rattle.rule_periods.specs.declared.period.Period.TheVariants as period
 use Rattle.rule_periods.specs.declared.rule.RulePeriod.{RulePeriod}
+use Rattle.docket_rows.specs.declared.fact.Ending.{Ending}
 use Rattle.docket_rows.specs.declared.hearing.Hearing.{Hearing as HearingSet}
 use Rattle.docket_rows.specs.declared.sheet.SheetHearing.{SheetHearing}
 use Rattle.docket_rows.specs.declared.sheet.State.{State}
@@ -23,7 +24,7 @@ use Rattle.docket_selection.specs.declared.item.DueItem.{DueItem}
 use Rattle.docket_selection.specs.declared.item.Matter.{Matter}
 use Rattle.docket_selection.specs.declared.item.Matter.TheVariants.{Deadline, Hearing}
 use Rattle.content_lines.specs.Words.{date_digits, property, utc_text}
-use Rattle.office_texts.specs.Words.{name_of}
+use Rattle.office_texts.specs.Words.{and_ended_text, name_of}
 use Rattle.reason_texts.specs.Periods.Words.{event_words, rule_section, rule_words}
 use Rattle.reason_texts.specs.Words.{minute_time, second_time}
 use Rattle.report_texts.specs.Words.{given_words, matter_words, period_words}
@@ -85,14 +86,19 @@ time_lines clock day (Deadline d) = end_lines day d.shown
 time_lines clock day (Hearing h) = span_lines clock h.hearing
 
 -- a deadline that is off this calendar runs on; one that no row starts any more ends on no day
-abbrev pub off_deadline : Shown → List ℕ
-off_deadline shown.Beyond = codes "Cancelled: "
-off_deadline end = codes "Off this calendar: "
+abbrev pub off_end : Shown → List ℕ
+off_end shown.Beyond = codes "Cancelled: "
+off_end end = codes "Off this calendar: "
+
+-- and one that was ended runs no more
+abbrev pub off_deadline : Shown → Option Ending → List ℕ
+off_deadline end (Some why) = codes "Cancelled: "
+off_deadline end None = off_end end
 
 -- a program that doesn't know the status of an event shows its summary all the same
 abbrev pub off_words : (cancelled : Bool) → Matter → List ℕ
 off_words true (Hearing h) = codes "Cancelled: "
-off_words true (Deadline d) = off_deadline d.shown
+off_words true (Deadline d) = off_deadline d.shown d.ended
 off_words false matter = []
 
 -- what is to be done within a period of the Rules, or an entered period in words
@@ -105,9 +111,9 @@ state_words Timely = codes ", filed in time"
 state_words Late = codes ", filed late"
 state_words state = []
 
--- ` deadline 2: an answer to the complaint, filed late`
+-- ` deadline 2: an answer to the complaint, filed late`, ` deadline 2: an answer to the complaint, ended moot`
 unfoldable pub deadline_name : (number : ℕ) → DueDeadline → List ℕ
-deadline_name number d = codes " deadline " ++ decimal number ++ codes ": " ++ what_words d.period ++ state_words d.state
+deadline_name number d = codes " deadline " ++ decimal number ++ codes ": " ++ what_words d.period ++ state_words d.state ++ and_ended_text d.ended
 
 -- ` motion 1: hearing before Ames+Brandt, room R1`
 abbrev pub name_words : CourtView → (number : ℕ) → Matter → List ℕ

@@ -174,6 +174,7 @@ impl ToFields for ExplainedSheet {
             labels,
             self.case,
             self.filed,
+            self.closed,
             self.deadlines.as_slice(),
             self.motions.as_slice(),
         )

@@ -1,4 +1,4 @@
--- The rows of deadlines, and of their extensions.
+-- The rows of deadlines, of their extensions, and of those that were ended.
 use Rattle.std.specs.Prelude.{ℕ, ◌==◌, Bool, true, false, List, [], ◌∷◌, ◌++◌, Option, Some, None, codes, if◌then◌else◌}
 use Rattle.court_clock.specs.Words.{CivilTime, ClockView, civil_of}
 use Rattle.rule6.specs.declared.service.ServiceKind.{ServiceKind}
@@ -11,9 +11,11 @@ use Rattle.rule6.specs.declared.timeliness.Shown.TheVariants as shown
 use Rattle.rule_periods.specs.declared.grant.Grant.{Grant}
 use Rattle.rule_periods.specs.declared.grant.Grant.TheVariants.{ByDays, ByHours, Until, Reset, ResetAt}
 use Rattle.rule_periods.specs.Words.{DeadlineRowView}
+use Rattle.docket_rows.specs.declared.fact.Ending.{Ending}
 use Rattle.docket_rows.specs.declared.sheet.SheetDeadline.{SheetDeadline}
 use Rattle.docket_rows.specs.declared.sheet.State.{State}
 use Rattle.docket_rows.specs.declared.sheet.State.TheVariants.{Pending, Timely, Late, Undecided}
+use Rattle.docket_rows.specs.Words.{ending_word}
 use Rattle.report_texts.specs.Words.{period_words}
 use Rattle.report_sql.specs.Rows.{SqlValue, null, number, numbered, or_null, row_of, text, truth}
 use Rattle.report_sql.specs.Times.{day_value, instant_value, minute_value, second_value}
@@ -99,6 +101,14 @@ grant_values (ResetAt at) = day_value at.day ∷ minute_value at.minute ∷ []
 unfoldable pub grant_row : (case deadline : ℕ) → (place : ℕ) → Grant → List ℕ
 grant_row case deadline place g = row_of (grant_table g) case (number deadline ∷ number place ∷ grant_values g)
 
--- a deadline, and its extensions
+-- why a deadline is due no more
+unfoldable pub ending_row : (case deadline : ℕ) → Ending → List ℕ
+ending_row case deadline why = row_of (codes "endings") case (number deadline ∷ text (ending_word why) ∷ [])
+
+abbrev pub ending_row_if_any : (case deadline : ℕ) → Option Ending → List ℕ
+ending_row_if_any case deadline (Some why) = ending_row case deadline why
+ending_row_if_any case deadline None = []
+
+-- a deadline, its extensions, and why it is due no more, if it was ended
 unfoldable pub deadline_rows : ClockView → (case : ℕ) → SheetDeadline → List ℕ
-deadline_rows clock case d = deadline_row clock case d ++ numbered (grant_row case d.number) 1 d.row.grants
+deadline_rows clock case d = deadline_row clock case d ++ numbered (grant_row case d.number) 1 d.row.grants ++ ending_row_if_any case d.number d.ended

@@ -1,19 +1,19 @@
-//! Deadlines, and their extensions.
+//! Deadlines, their extensions, and those that were ended.
 
 ghost use Rattle.std.specs.Prelude.{◌≡◌, ◌<◌, ◌++◌, [], ◌∷◌, IfSome, OnOk};
 ghost use Rattle.court_clock.specs.Words.{civil_of};
-ghost use Rattle.report_sql.specs.Deadlines.{civil_values, deadline_row, deadline_rows, deadline_values, ends_values, event_time, filed_values, grant_row, grant_table, grant_values, is_paper, service_letter, service_value, started_values, timely_value};
+ghost use Rattle.report_sql.specs.Deadlines.{civil_values, deadline_row, deadline_rows, deadline_values, ending_row, ending_row_if_any, ends_values, event_time, filed_values, grant_row, grant_table, grant_values, is_paper, service_letter, service_value, started_values, timely_value};
 ghost use Rattle.report_sql.specs.Rows.{AddsValues, null, numbered, or_null};
 ghost use Rattle.report_sql.specs.Times.{day_value, instant_value};
 
 use crate::script::Script;
 use court_clock::{Clock, Day, Instant};
-use docket_rows::{SheetDeadline, State};
+use docket_rows::{Ending, SheetDeadline, State};
 use rule_periods::{DeadlineRow, Event, Grant};
 use rule6::{Filing, Means, ServiceKind, Shown};
 use std::alloc::AllocError;
 
-/// Adds a deadline of the case, and its extensions. `Err` says that memory ran out.
+/// Adds a deadline of the case, its extensions, and why it is due no more, if it was ended. `Err` says that memory ran out.
 #[tactic(auto, unfolding(crate::specs::Deadlines::deadline_rows))]
 pub(crate) fn push_deadline(
     out: &mut Script,
@@ -24,7 +24,8 @@ pub(crate) fn push_deadline(
     ensures { OnOk result (out.new ≡ out.old ++ deadline_rows clock.now case deadline.now) }
 {
     push_row(out, clock, case, deadline)?;
-    push_grants(out, case, deadline.number, deadline.row.grants())
+    push_grants(out, case, deadline.number, deadline.row.grants())?;
+    push_ending_if_any(out, case, deadline.number, deadline.ended)
 }
 
 /// Adds the row of a deadline.
@@ -259,4 +260,30 @@ fn push_grant_values(out: &mut Script, grant: Grant) -> Result<(), AllocError>
             out.minute(u32::from(at.minute()))
         }
     }
+}
+
+/// Adds why a deadline is due no more, if it was ended.
+fn push_ending_if_any(
+    out: &mut Script,
+    case: u32,
+    deadline: u32,
+    ended: Option<Ending>,
+) -> Result<(), AllocError>
+    ensures { OnOk result (out.new ≡ out.old ++ ending_row_if_any case deadline ended) }
+{
+    match ended {
+        Some(why) => push_ending(out, case, deadline, why),
+        None => Ok(()),
+    }
+}
+
+/// Adds why a deadline is due no more.
+#[tactic(auto, unfolding(crate::specs::Deadlines::ending_row))]
+fn push_ending(out: &mut Script, case: u32, deadline: u32, why: Ending) -> Result<(), AllocError>
+    ensures { OnOk result (out.new ≡ out.old ++ ending_row case deadline why) }
+{
+    out.begin_row("endings", u64::from(case))?;
+    out.number(u64::from(deadline))?;
+    out.text(why.word())?;
+    out.end_row()
 }

@@ -16,7 +16,7 @@ use Rattle.docket_selection.specs.declared.item.DueDeadline.{DueDeadline}
 use Rattle.docket_selection.specs.declared.item.DueItem.{DueItem}
 use Rattle.docket_selection.specs.declared.item.Matter.{Matter}
 use Rattle.docket_selection.specs.declared.item.Matter.TheVariants.{Deadline, Hearing}
-use Rattle.office_texts.specs.Words.{name_of}
+use Rattle.office_texts.specs.Words.{and_ended_text, name_of}
 use Rattle.report_texts.specs.Names.{panel_names}
 use Rattle.report_texts.specs.Other.{other_words}
 use Rattle.report_texts.specs.Periods.{period_words}
@@ -40,9 +40,9 @@ abbrev pub late_words : State → List ℕ
 late_words Late = codes ", filed late"
 late_words state = []
 
--- ` deadline 3: 59e, filed late`
+-- ` deadline 3: 59e, filed late`, ` deadline 3: 59e, ended moot`
 unfoldable pub deadline_words : (number : ℕ) → DueDeadline → List ℕ
-deadline_words number d = codes " deadline " ++ decimal number ++ codes ": " ++ period_words d.period ++ late_words d.state
+deadline_words number d = codes " deadline " ++ decimal number ++ codes ": " ++ period_words d.period ++ late_words d.state ++ and_ended_text d.ended
 
 abbrev pub room_words : CourtView → (room : ℕ) → List ℕ
 room_words court room = codes ", room " ++ name_of court.rooms room

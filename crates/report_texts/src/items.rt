@@ -13,7 +13,7 @@ use court_clock::Clock;
 use court_days::Court;
 use docket_rows::{Hearing, State};
 use docket_selection::{DueDeadline, DueItem, Matter};
-use office_texts::{push_number, room_name};
+use office_texts::{push_and_ended, push_number, room_name};
 use reason_texts::{push_day_end, push_minute, push_second};
 use rule6::{Means, Shown, day_end};
 use std::alloc::AllocError;
@@ -91,7 +91,7 @@ pub fn push_matter(
     }
 }
 
-/// Adds a deadline: its number, its period, and whether it was filed late.
+/// Adds a deadline: its number, its period, whether it was filed late, and why it is due no more, if it was ended.
 #[tactic(auto, unfolding(crate::specs::Items::deadline_words))]
 fn push_deadline(text: &mut String, number: u32, due: &DueDeadline) -> Result<(), AllocError>
     ensures { OnOk result (AddsText text.old text.new (deadline_words number due.now)) }
@@ -100,7 +100,8 @@ fn push_deadline(text: &mut String, number: u32, due: &DueDeadline) -> Result<()
     push_number(text, u64::from(number))?;
     text.push_str(": ")?;
     push_period(text, &due.period)?;
-    text.push_str(late_words(due.state))
+    text.push_str(late_words(due.state))?;
+    push_and_ended(text, due.ended)
 }
 
 /// Whether an act was late.

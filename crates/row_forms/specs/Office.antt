@@ -1,5 +1,5 @@
 -- What the desk makes of the rows of clerk_office.
-use Rattle.std.specs.Prelude.{◌≡◌, ℕ, Bool, true, not, List, Ok}
+use Rattle.std.specs.Prelude.{◌≡◌, ℕ, Bool, true, false, not, List, Ok}
 use Rattle.std.specs.List.{All}
 use Rattle.docket_rows.specs.declared.command.Command.TheVariants as command
 use Rattle.docket_rows.specs.declared.query.Query.TheVariants as query
@@ -10,7 +10,7 @@ use Rattle.row_forms.specs.declared.row.Work.TheVariants.{Command, Query}
 use Rattle.row_forms.specs.CourtNames.{CourtNames}
 use Rattle.row_forms.specs.Rows.{office_row_of, row_of, rows_read}
 
--- it asks for nothing that the desk alone takes: no order sets its period, or another end
+-- it asks for nothing that the desk alone takes: no order sets its period, or another end, and it records no fact of a case
 abbrev pub is_office_work : Work → Bool
 is_office_work (Command (command.OpenCase case filed)) = true
 is_office_work (Command (command.Start case period event second service)) = not (is_set period)
@@ -22,6 +22,7 @@ is_office_work (Command (command.MoveHearing setting)) = true
 is_office_work (Command (command.Cancel case motion)) = true
 is_office_work (Command (command.Holiday day list)) = true
 is_office_work (Command (command.Inaccessible day from to)) = true
+is_office_work (Command (command.Fact case fact)) = false
 is_office_work (Query (query.Compute period event second service)) = not (is_set period)
 is_office_work (Query (query.Sheet case)) = true
 is_office_work (Query (query.JudgeDay judge day)) = true

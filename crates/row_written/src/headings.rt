@@ -74,6 +74,7 @@ pub fn heading_said(word: &str) -> Option<&'static str>
         "notice" | "noticeserved" => Some("notice"),
         "act" => Some("act"),
         "dated" | "orderdated" | "orderdate" | "dateoforder" => Some("dated"),
+        "why" | "reason" => Some("why"),
         "note" | "notes" | "remarks" | "comment" | "comments" => Some("note"),
         _ => None,
     }

@@ -5,9 +5,9 @@ ghost use Rattle.std.specs.Prelude.{◌≡◌, find, map, option_map};
 ghost use Rattle.row_forms.specs.Forms.Table.{columns_of, columns_of_form, command_word, commands_listed, form_of, forms, is_word_of, office_form_of};
 
 use crate::headings::Column::{
-    self, Act, ByMotion, Case, Cause, Clerk, Command, Date, Dated, Deadline, From, Grant, Holidays,
-    Judge, Judges, Means, Motion, Need, Neglect, Notice, Period, Room, SecondOrNone, ServiceOrNone,
-    Slots, Start, Time, TimeOrNone, To,
+    self, Act, ByMotion, Case, Cause, Clerk, Closing, Command, Date, Dated, Deadline, From, Grant,
+    Holidays, Judge, Judges, Means, Motion, Need, Neglect, Notice, Period, ResumeDay, Room,
+    SecondOrNone, ServiceOrNone, Slots, Start, Time, TimeOrNone, To, Why,
 };
 
 /// The form of a row: which command or query it asks for.
@@ -43,6 +43,14 @@ pub enum Form {
     Set,
     /// Sets another end for a deadline, by an order. It is of the desk alone.
     Reset,
+    /// Ends a deadline. It is of the desk alone.
+    End,
+    /// Resumes a deadline that was ended. It is of the desk alone.
+    Resume,
+    /// Closes a case. It is of the desk alone.
+    Close,
+    /// Reopens a case that was closed. It is of the desk alone.
+    Reopen,
 }
 
 /// The forms of the rows of clerk_office.
@@ -63,7 +71,7 @@ pub const OFFICE_FORMS: [Form; 13] = [
 ];
 
 /// The forms of the rows of the desk.
-pub const FORMS: [Form; 15] = [
+pub const FORMS: [Form; 19] = [
     Form::Open,
     Form::Start,
     Form::File,
@@ -79,10 +87,14 @@ pub const FORMS: [Form; 15] = [
     Form::Calendar,
     Form::Set,
     Form::Reset,
+    Form::End,
+    Form::Resume,
+    Form::Close,
+    Form::Reopen,
 ];
 
 /// The command words, in the order of the forms.
-pub const COMMANDS: [&str; 15] = [
+pub const COMMANDS: [&str; 19] = [
     "open",
     "start",
     "file",
@@ -98,6 +110,10 @@ pub const COMMANDS: [&str; 15] = [
     "calendar",
     "set",
     "reset",
+    "end",
+    "resume",
+    "close",
+    "reopen",
 ];
 
 /// The columns of a form's rows, from the first on.
@@ -140,6 +156,10 @@ pub fn columns_of_form(form: Form) -> &'static [Column]
         Form::Calendar => &[Clerk, Command, Judge, Date],
         Form::Set => &[Clerk, Command, Case, Date, TimeOrNone, Act],
         Form::Reset => &[Clerk, Command, Case, Deadline, Date, TimeOrNone, Dated],
+        Form::End => &[Clerk, Command, Case, Deadline, Why, Dated],
+        Form::Resume => &[Clerk, Command, Case, Deadline, ResumeDay, Dated],
+        Form::Close => &[Clerk, Command, Case, Closing, Dated],
+        Form::Reopen => &[Clerk, Command, Case, Dated],
     }
 }
 
@@ -162,7 +182,7 @@ pub fn commands() -> &'static [&'static str]
 pub fn commands_listed() -> &'static str
     ensures { result.now ≡ commands_listed }
 {
-    "open, start, file, extend, motion, book, move, cancel, holiday, inaccessible, compute, sheet, calendar, set or reset"
+    "open, start, file, extend, motion, book, move, cancel, holiday, inaccessible, compute, sheet, calendar, set, reset, end, resume, close or reopen"
 }
 
 // Whether the word is this form's.

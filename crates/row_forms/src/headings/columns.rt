@@ -62,6 +62,12 @@ pub enum Column {
     Act,
     /// The day of an order.
     Dated,
+    /// Why a deadline is due no more.
+    Why,
+    /// How a case was closed.
+    Closing,
+    /// The day on which a deadline that is resumed begins anew, which is empty.
+    ResumeDay,
 }
 
 /// The column of that number, counted from 0.
@@ -82,7 +88,7 @@ pub fn name_of(column: Column) -> &'static str
         Column::Deadline => "deadline",
         Column::Motion | Column::ByMotion => "motion",
         Column::Period => "period",
-        Column::Date => "date",
+        Column::Date | Column::ResumeDay => "date",
         Column::Time | Column::Start | Column::TimeOrNone => "time",
         Column::SecondOrNone => "second",
         Column::ServiceOrNone => "kind",
@@ -100,6 +106,7 @@ pub fn name_of(column: Column) -> &'static str
         Column::Notice => "notice",
         Column::Act => "act",
         Column::Dated => "dated",
+        Column::Why | Column::Closing => "why",
     }
 }
 
@@ -136,6 +143,8 @@ pub fn mark_of(word: &str, column: Column) -> &str
         Column::Notice => "NOTICE",
         Column::Act => "ACT",
         Column::Dated => "DATED",
+        Column::Why | Column::Closing => "WHY",
+        Column::ResumeDay => "[DAY]",
     }
 }
 
@@ -145,6 +154,6 @@ pub fn may_be_empty(column: Column) -> bool
 {
     matches!(
         column,
-        Column::TimeOrNone | Column::SecondOrNone | Column::ServiceOrNone
+        Column::TimeOrNone | Column::SecondOrNone | Column::ServiceOrNone | Column::ResumeDay
     )
 }
