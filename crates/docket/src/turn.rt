@@ -137,7 +137,8 @@ pub fn next_turn<S: Start>(
     let name = journal_name(rt.alloc(), folder)?;
     find_own_journal(rt, name.as_str())?;
     let file = open_file(rt, name.as_str(), start)?;
-    match resumed(rt, folder, name.as_str(), left, account, file)? {
+    let gone_on = resumed(rt, folder, name.as_str(), left, account, file)?;
+    match gone_on {
         Some(desk) => Ok(Some(turn_at(rt.alloc(), rt, desk, None, asked, rows))),
         None => Ok(None),
     }
