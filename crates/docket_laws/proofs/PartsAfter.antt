@@ -1,21 +1,22 @@
 -- After a command the parts are those of the rows after it.
-use Rattle.std.proofs.Common.{◌≡◌, ℕ, ℤ, false, ◌==◌, not, List, [], ◌∷◌, ◌++◌, Option, Some, None, option_map, refl, ap, sym, ◌∙◌}
+use Rattle.std.proofs.Common.{◌≡◌, ℕ, ℤ, ◌==◌, not, List, [], ◌∷◌, ◌++◌, Option, Some, None, option_map, refl, ap, sym, ◌∙◌}
 use Rattle.std.specs.Option.{option_or, unwrap_or}
 use Rattle.std.proofs.lemmas.Bool.{not_from_false}
 use Rattle.hearing_slots.specs.declared.booking.Booking.{Booking}
 use Rattle.hearing_slots.specs.declared.need.Need.{Need}
 use Rattle.hearing_slots.proofs.CallerLemmas.{filter_all, find-None}
 use Rattle.docket_rows.specs.declared.command.Command.{Command}
-use Rattle.docket_rows.specs.declared.command.Command.TheVariants.{OpenCase, Start, FileAct, Extend, Motion, Book, MoveHearing, Cancel, Holiday, Inaccessible}
+use Rattle.docket_rows.specs.declared.command.Command.TheVariants.{OpenCase, Start, FileAct, Extend, Motion, Book, MoveHearing, Cancel, Holiday, Inaccessible, Fact}
 use Rattle.docket_rows.specs.declared.hearing.Setting.{Setting}
 use Rattle.docket_rows.specs.declared.part.PartId.{PartId}
 use Rattle.docket_rows.specs.declared.part.PartId.TheVariants.{Court, Judge, Room, Case}
 use Rattle.docket_rows.specs.declared.part.PartValue.TheVariants as value
-use Rattle.docket_rows.specs.Words.{CourtSetup, Rows, Parts, DocketedHearing, CaseRecordView, AreSound, is_hearing, hearing_of, parts_of, part_value, sits, first_judge, hearing_asked, hearing_in, open_case_checks, open_case_refusal, book_refusal, refusal, rows_after, changed}
+use Rattle.docket_rows.specs.Words.{CourtSetup, Rows, Parts, DocketedHearing, CaseRecordView, AreSound, is_hearing, hearing_of, parts_of, part_value, sits, first_judge, hearing_asked, open_case_checks, open_case_refusal, book_refusal, refusal, rows_after, changed}
 use Rattle.docket_laws.proofs.MadeLemmas.{none_of, when-None, option_map-None, nothing_found, may_book}
 use Rattle.docket_laws.proofs.PartsCalendars.{calendar_cancelled, calendar_moved, booking_seen}
 use Rattle.docket_laws.proofs.PartsCases.{case_after_opening}
 use Rattle.docket_laws.proofs.PartsDeadlines.{case_after_start, case_after_act, case_after_grant}
+use Rattle.docket_laws.proofs.PartsFacts.{case_after_fact}
 use Rattle.docket_laws.proofs.PartsHearings.{case_after_cancel, case_after_move}
 use Rattle.docket_laws.proofs.PartsMotions.{case_after_motion, calendar_after_motion}
 use Rattle.docket_laws.proofs.PartsSeen.{hearing_seen}
@@ -120,3 +121,7 @@ parts_after setup rows (Inaccessible day from to) sound h Court = refl
 parts_after setup rows (Inaccessible day from to) sound h (Judge judge) = refl
 parts_after setup rows (Inaccessible day from to) sound h (Room room) = refl
 parts_after setup rows (Inaccessible day from to) sound h (Case n) = refl
+parts_after setup rows (Fact case fact) sound h Court = refl
+parts_after setup rows (Fact case fact) sound h (Judge judge) = refl
+parts_after setup rows (Fact case fact) sound h (Room room) = refl
+parts_after setup rows (Fact case fact) sound h (Case n) = case_value _ _ _ (case_after_fact rows case fact n)

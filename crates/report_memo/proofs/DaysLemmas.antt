@@ -1,5 +1,5 @@
 -- The days by other readings after a row.
-use Rattle.std.proofs.Common.{◌≡◌, ◌∙◌, true, false, Option, Some, None, ap, inl, inr, refl, sym, if◌then◌else◌}
+use Rattle.std.proofs.Common.{◌≡◌, ◌∙◌, false, Option, Some, None, ap, inl, inr, refl, sym, if◌then◌else◌}
 use Rattle.std.proofs.lemmas.Bool.{cases_Bool}
 use Rattle.court_days.specs.Words.{DaysView}
 use Rattle.docket_rows.specs.declared.command.Command.{Command as CommandOf}
@@ -32,6 +32,7 @@ made_same setup docketed (command.MoveHearing s) None is none = rw is refl
 made_same setup docketed (command.Cancel case motion) None is none = rw is refl
 made_same setup docketed (command.Holiday day list) None is none = absurd cc (rw is at none)
 made_same setup docketed (command.Inaccessible day from to) None is none = absurd cc (rw is at none)
+made_same setup docketed (command.Fact case fact) None is none = rw is refl
 
 same_days : (setup : CourtSetup) (docketed : Rows) (work : Work) → changes_days (reply_to setup docketed work) ≡ false → (docketed_then setup docketed work).days ≡ docketed.days
 unfolding step

@@ -1,5 +1,5 @@
 use Rattle.std.proofs.Common.{ap}
-use Rattle.program_streams.specs.Words.{has_failed, watched}
+use Rattle.program_streams.specs.Words.{watched}
 use Rattle.docket.proofs.SessionLemmas.{turn_promised}
 use Rattle.docket.proofs.turn.turn_at.Goals as goal
 
