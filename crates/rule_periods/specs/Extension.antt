@@ -70,7 +70,7 @@ is_no_later _ _ = false
 abbrev pub extension_checks : DaysView → ClockView → DeadlineRowView → Request → List (Option PeriodRefusal)
 extension_checks c clock row request =
     let now = shown_of c clock row in
-    let then = shown_of c clock (with_grant row request.grant) in
+    let anew = shown_of c clock (with_grant row request.grant) in
     let rule = extension_due row in
     let late = not (is_asked_in_time clock now request.asked) in
     (when (not (is_covered c request.asked.day && is_covered_grant c request.grant)) BadDay
@@ -81,8 +81,8 @@ extension_checks c clock row request =
     ∷ when (asks_findings rule && not request.cause) NoGoodCause
     ∷ when (asks_findings rule && late && not request.motion) LateWithoutMotion
     ∷ when (asks_findings rule && late && not request.neglect) LateWithoutNeglect
-    ∷ when (is_beyond then) Beyond
-    ∷ when (not (is_later now then)) NotLonger
+    ∷ when (is_beyond anew) Beyond
+    ∷ when (not (is_later now anew)) NotLonger
     ∷ [])
 
 -- An order needs no findings, and the end may be sooner. In this order: the day of the order or that of the end isn't covered; the
@@ -91,9 +91,9 @@ extension_checks c clock row request =
 abbrev pub reset_checks : DaysView → ClockView → DeadlineRowView → Request → List (Option PeriodRefusal)
 reset_checks c clock row request =
     let now = shown_of c clock row in
-    let then = shown_of c clock (with_grant row request.grant) in
+    let anew = shown_of c clock (with_grant row request.grant) in
     (when (not (is_covered c request.asked.day && is_covered_grant c request.grant)) BadDay
-    ∷ when (is_never (extension_due row) && not (is_no_later now then)) NotExtendable
+    ∷ when (is_never (extension_due row) && not (is_no_later now anew)) NotExtendable
     ∷ when (not (grant_fits (is_in_hours row.period) request.grant)) WrongGrant
     ∷ [])
 
