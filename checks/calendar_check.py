@@ -25,7 +25,7 @@ from lib.asked_days import asked_days, missing_days
 from lib.case_names import asked, called, made_name, read
 from lib.given_docket import LAST_ROW, given_docket
 from lib.made_inputs import INPUTS, made_input
-from lib.memo_lines import closing_of, other_day, other_of, reasons_of
+from lib.memo_lines import closing_of, ended_in, other_day, other_of, reasons_of
 from lib.pages import faults_of, parts_of
 from lib.period_words import SET
 from lib.programs import programs_of, seed_and_count
@@ -54,8 +54,8 @@ NO_TIMES = [
     (["json", "--case", "1:25-cv"], "case <N>", A_CASE),
 ]
 
-Sheet = namedtuple("Sheet", "case filed deadlines motions")
-Item = namedtuple("Item", "day second case kind number line panel")
+Sheet = namedtuple("Sheet", "case filed closed deadlines motions")
+Item = namedtuple("Item", "day second case kind number line panel ended", defaults=(False,))
 Booking = namedtuple("Booking", "day first count case motion room")
 Docket = namedtuple("Docket", "items before calendars")
 
@@ -93,7 +93,7 @@ def period_words(code):
 
 
 def deadline_item(names, case, words, other):
-    """The item of a deadline's line, or none where it was met in time or has no end."""
+    """The item of a deadline's line, or none where it was met in time or has no end. One that was ended is marked."""
     number, code, end = int(words[1]), words[2], words[3]
     if end == "beyond":
         return None
@@ -105,7 +105,7 @@ def deadline_item(names, case, words, other):
     line = "  {}  case {} deadline {}: {}{}{}".format("to " + words[5] if end == "until" else "to midnight",
                                                       called(names, case), number, period_words(code),
                                                       ", filed late" if state == "late" else "", ", " + other if other else "")
-    return Item(day, second, case, 0, number, line, None)
+    return Item(day, second, case, 0, number, line, None, ended_in(words) is not None)
 
 
 def hearing_item(names, case, number, words):
@@ -140,10 +140,12 @@ def docket_of(names, lines, reasons):
 
 
 def due_text(names, court, docket, first, last, judge, case):
+    def is_asked(item):
+        return case in (None, item.case) and (judge is None or judge in (item.panel or docket.before.get(item.case, ())))
+
     def is_chosen(item):
-        if case is not None and item.case != case or not any(day and first <= day <= last for day in (item.day, other_day(item.line))):
-            return False
-        return judge is None or judge in (item.panel or docket.before.get(item.case, ()))
+        return is_asked(item) and not item.ended and any(day and first <= day <= last for day in (item.day, other_day(item.line)))
+    left_out = [item for item in docket.items if item.ended and is_asked(item) and first <= item.day <= last]
     chosen = sorted(filter(is_chosen, docket.items), key=lambda i: (i.day, i.second, i.case, i.kind, i.number))
     lines = ["Due from {} to {}{}{}".format(named(first), named(last), ", judge " + judge if judge is not None else "",
                                             ", case " + called(names, case) if case is not None else ""),
@@ -156,7 +158,7 @@ def due_text(names, court, docket, first, last, judge, case):
             lines += ["", named(item.day)]
         day = item.day
         lines.append(item.line)
-    return lines
+    return lines + (["", "Ended, and so not listed: {}.".format(len(left_out))] if left_out else [])
 
 
 def week_text(names, court, docket, judge, of):
@@ -181,7 +183,7 @@ def sheets_of(lines):
     sheets = []
     for words in (line.split(" ") for line in lines):
         if words[0] == "case":
-            sheets.append(Sheet(int(words[1]), words[3], [], []))
+            sheets.append(Sheet(int(words[1]), words[3].rstrip(","), words[5:], [], []))
         elif words[0] == "deadline":
             sheets[-1].deadlines.append(words)
         elif words[0] == "motion":
@@ -199,7 +201,9 @@ def deadline_cells(words):
         end, state = "until {} {}".format(named(day_of(words[4])), words[5]), words[6:]
     else:
         end, state = "last day " + named(day_of(words[4])), words[5:]
-    done = ": {} {}, {}".format(named(day_of(state[1])), *state[2:]) if len(state) > 1 else ""
+    if state[0] == "ended":
+        return [words[1], period_words(words[2]), end, " ".join(state)]
+    done = ": {} {}, {}".format(named(day_of(state[1])), state[2], " ".join(state[3:])) if len(state) > 1 else ""
     return [words[1], period_words(words[2]), end, state[0] + done]
 
 
@@ -233,6 +237,12 @@ def booking_row(names, b):
              "case {}, motion {}".format(called(names, b.case), b.motion), b.room])
 
 
+def filed_words(sheet):
+    """When a case was filed, and how it was closed, if it was."""
+    closed = ", closed {} {}".format(named(day_of(sheet.closed[0])), sheet.closed[1]) if sheet.closed else ""
+    return "Filed " + named(day_of(sheet.filed)) + closed
+
+
 def page_fault(names, page, text, docket, sheets, reasons, first, last, judge, case):
     """What a page says otherwise than the docket, or what is wrong with its markup, or none."""
     faults = faults_of(page)
@@ -257,7 +267,7 @@ def page_fault(names, page, text, docket, sheets, reasons, first, last, judge, c
         notes = [row[1].all("div")[1].raw() for _, row in found.deadlines]
         others = [row[2].lines()[1:] for _, row in found.deadlines]
         marks = [other_of(reasons[s.case, int(words[1])]) for words in s.deadlines]
-        if (found.title, found.filed) != ("Case " + called(names, s.case), "Filed " + named(day_of(s.filed))) or \
+        if (found.title, found.filed) != ("Case " + called(names, s.case), filed_words(s)) or \
                 cells != [deadline_cells(words) for words in s.deadlines] or \
                 [title for title, _ in found.reasons] != ["Reasons of deadline " + words[1] for words in s.deadlines] or \
                 [note + why for note, (_, why) in zip(notes, found.reasons)] != \

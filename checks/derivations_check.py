@@ -4,8 +4,8 @@
     derivations_check.py DOCKET [SEED [COUNT]]
 
 Rows are made at random from SEED (by default 1) until COUNT deadlines (by default 10000) were shown: ends that are
-computed, and deadlines that are started, set by orders and extended, with acts and hearings, and with holidays and outages that
-are entered meanwhile. Every deadline that an answer or a sheet shows must have its period in words, then reasons that lead to
+computed, and deadlines that are started, set and reset by orders, extended, ended and resumed, with acts and hearings, and with holidays and
+outages that are entered meanwhile. Every deadline that an answer or a sheet shows must have its period in words, then reasons that lead to
 what is shown, by the steps of lib/derivation_steps.py alone, which computes no deadline, and then the other readings that
 give another end, which the second program in plain Python computes (lib/other_readings.py). The lines of an act, of a
 refusal and of what a reader is warned of must be those of lib/note_lines.py. So must those of the examples and of the stored
@@ -20,7 +20,7 @@ import sys
 from collections import Counter
 
 from lib import note_lines, other_readings
-from lib.desk import report_of, set_rows
+from lib.desk import desk_rows, report_of
 from lib.derivation_steps import AFTER, COLUMN, WEEKDAYS, Calendar, Deadline, Line, Wrong, checked, expect, line_of
 from lib.made_inputs import CODES, HOLIDAYS, ZONES, listed, quoted
 from lib.period_words import COUNTING, SET, SUMMONS, heading
@@ -28,8 +28,8 @@ from lib.programs import TOP, programs_of, seed_and_count
 from reference import periods
 from reference.civil import day_of_text, day_text, minute_of_text, minute_text, weekday
 from reference.court_file import court_of, split, table_of
-from reference.docket import STEPS, case_of, deadlines_of, hearing_of, motions_of, opening, step, view
-from reference.rows_in import grant as grant_of, rows_of
+from reference.docket import STEPS, case_of, deadlines_of, ending_of, hearing_of, motions_of, opening, step, view
+from reference.rows_in import grant as grant_of, reset_to, rows_of
 from reference.text_out import sheet_lines, shown_text
 
 # Of the periods of the Rules the number of days, the act, whether they run from service under Rule 5(b)(2), and the day
@@ -50,7 +50,7 @@ def deadline_of(period, date, time, second, kind):
         days, act, served, right_from = RULES[period]
         length, direction = ("d", days), AFTER
     elif period in SET:
-        length, direction, act, served, right_from = ("set", 0), AFTER, period.split("/")[1], False, None
+        length, direction, act, served, right_from = ("at" if time else "set", 0), AFTER, period.split("/")[1], False, None
     else:
         entered, direction, act, start, _ = period.split("/")
         length, served, right_from = (entered[-1], int(entered[:-1])), start == "served", None
@@ -112,17 +112,18 @@ def derivations(data, output):
             fields, text, work = rows[number][1:], answer[2], works[number]
             number += 1
             docket, made = step(court, docket, work) if work[0] in STEPS else (docket, view(court, docket, work))
-            shown = re.fullmatch(r"(?:deadline (\d+) |extended )?((?:last|until|beyond).*)", text)
-            if shown and fields[0] in ("compute", "start", "set", "extend"):
+            shown = re.fullmatch(r"(?:deadline (\d+) |extended |reset |resumed )?((?:last|until|beyond).*)", text)
+            if shown and fields[0] in ("compute", "start", "set", "extend", "reset", "resume"):
                 if fields[0] == "compute":
                     deadline = deadline_of(*fields[1:])
                 elif fields[0] == "set":
-                    deadline = started[fields[1], shown[1]] = deadline_of("set/" + fields[4], fields[2], "", "", "")
+                    deadline = started[fields[1], shown[1]] = deadline_of("set/" + fields[4], fields[2], fields[3], "", "")
                 elif fields[0] == "start":
                     deadline = started[fields[1], shown[1]] = deadline_of(*fields[2:])
                 else:
                     deadline = started[fields[1], fields[2]]
-                    deadline.grants.append(fields[3])
+                    if fields[0] in ("extend", "reset"):
+                        deadline.grants.append(fields[3] if fields[0] == "extend" else order_text(*fields[3:5]))
                 more = note_lines.notes(court, docket, work, made)
                 yield copy(), deadline._replace(grants=list(deadline.grants)), told(), shown[2], more, []
                 continue
@@ -151,14 +152,33 @@ def docket_after(data):
     return file, court, docket, sources
 
 
+def order_text(date, time):
+    return " ".join(["order", date] + [time] * bool(time))
+
+
 def grant_text(grant):
-    return day_text(grant.value) if grant.unit == "until" else "+{}{}".format(grant.value, grant.unit)
+    if grant.unit == "until":
+        return day_text(grant.value)
+    if grant.unit == "reset":
+        return order_text(day_text(grant.value), "")
+    if grant.unit == "reset at":
+        return order_text(day_text(grant.value.day), minute_text(grant.value.minute))
+    return "+{}{}".format(grant.value, grant.unit)
+
+
+def granted(text):
+    """The extension as the second program has it, or what an order sets."""
+    words = text.split(" ")
+    if words[0] != "order":
+        return grant_of(text, None)
+    return reset_to(day_of_text(words[1]), [minute_of_text(time) for time in words[2:]])
 
 
 def of_row(row):
     """The deadline of a docketed row."""
     second = "" if row.second is None else day_text(row.second)
-    deadline = deadline_of(row.period.text, day_text(row.event.day), minute_text(row.event.minute), second, row.kind)
+    time = "" if row.period.unit == "set" else minute_text(row.event.minute)
+    deadline = deadline_of(row.period.text, day_text(row.event.day), time, second, row.kind)
     return deadline._replace(grants=[grant_text(grant) for grant in row.grants])
 
 
@@ -184,7 +204,8 @@ def whole_case(ended, output, case, today):
     for deadline in deadlines_of(docket, case):
         row, block = deadline.row, next(blocks)
         first = sources[case, deadline.number]
-        more = note_lines.act(court, docket, row) + note_lines.ahead(court, docket, row, today)
+        is_due = ending_of(docket, case, deadline.number) is None
+        more = note_lines.act(court, docket, row) + note_lines.ahead(court, docket, row, today if is_due else None)
         more += note_lines.of_deadline(court, docket, row, filed, today)
         shown = shown_text(court, periods.shown(days, court.clock, row))
         yield calendar, of_row(row), block[1:], shown, more, first
@@ -198,9 +219,9 @@ def whole_case(ended, output, case, today):
 
 def asked(deadline):
     """The deadline as the second program has it."""
-    grants = [grant_of(grant, None) for grant in deadline.grants]
+    grants = [granted(grant) for grant in deadline.grants]
     event = periods.Event(deadline.event, deadline.minute)
-    period = periods.set_to(deadline.act) if deadline.text in SET else periods.period_of_text(deadline.text)
+    period = periods.set_to(deadline.act, deadline.length[0] == "at") if deadline.text in SET else periods.period_of_text(deadline.text)
     return periods.Deadline(period, event, deadline.second, deadline.kind, grants, None)
 
 
@@ -383,9 +404,9 @@ def an_input(chance):
     rows += ["1,inaccessible,{},09:00,12:00".format(row.split(",")[6]) for row in rows
              if row.startswith("1,book,") and chance.random() < 0.2]
     lines = [row.encode() + b"\n" for row in rows]
-    # Deadlines that orders set, in some: such rows are entered into a folder
+    # Deadlines and other ends that orders set, and some that are ended and resumed, now and then: such rows are entered into a folder
     if chance.random() < 0.3:
-        lines = set_rows(chance, lines, [1], faulty=False)
+        lines = desk_rows(chance, lines, [1], faulty=False)
     return "\n".join(court).encode() + b"\n%%\n" + b"".join(lines)
 
 
@@ -432,6 +453,10 @@ def older_line(text):
     return text[:18] + "the rule as it reads from {} is applied".format(COUNTING).ljust(COLUMN) + "  ours"
 
 
+# What a row did to a deadline, and what it may be said to have done in its place, in as many letters where there is such a word.
+OTHER_DEEDS = {"started": "resumed", "extended": "started", "reset": "started", "filed": "ended", "ended": "filed", "resumed": "started"}
+
+
 def line_spoiled(text):
     yield "a day too late", other_day(text, 1)
     yield "a day too early", other_day(text, -1)
@@ -455,7 +480,7 @@ def line_spoiled(text):
         number = str(int(found[1]) + 1).zfill(len(found[1]))
         yield "another number", swapped(text, found[0], found[0][:len(found[0]) - len(found[1])] + number)
     yield "passed for in", re.sub(r"^(.{18})in (\d+ days?)      ", r"\1passed \2 ago ", text)
-    yield "another row's deed", re.sub(r"^(.{18})(started|extended|filed) by", lambda found: found[1] + {"started": "extended", "extended": "filed", "filed": "started"}[found[2]] + " by", text)
+    yield "another row's deed", re.sub(r"^(.{18})(started|extended|reset|filed|ended|resumed) by", lambda found: found[1] + OTHER_DEEDS[found[2]] + " by", text)
     yield "a year after for before", re.sub(r"(a year or more) before (\S+) ", r"\1 after \2  ", text)
     yield "as of another day", re.sub(r"as of 2(\d{3})-(\d\d)-(\d\d)$", r"as of 2\1-\2-01" if not text.endswith("-01") else r"as of 2\1-\2-02", text)
     yield "late for undecided", swapped(text, "undecided: the end is beyond", "late, beyond")
@@ -492,6 +517,7 @@ def line_spoiled(text):
     yield "a holiday of the state taken", swapped(text, "legal holiday of the state, passed over", "the time runs to this day")
     yield "hours not continued", swapped(text, "the hours end, and are continued", "the hours end on this day")
     yield "an extension left out", swapped(text, "extended by", "not extended by")
+    yield "an order left out", swapped(text, "reset to", "not reset to")
     yield "a column moved", text[:18 + COLUMN] + " " + text[18 + COLUMN:]
 
 

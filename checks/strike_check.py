@@ -32,7 +32,7 @@ from lib.programs import Ended, programs_of, seed_and_count
 from office_reference import ended as ended_by_reference
 from reference.civil import day_text
 from reference.court_file import court_of
-from reference.docket import STEPS, deadlines_of, hearing_of, motions_of, opening, step, view
+from reference.docket import STEPS, closing_of, deadlines_of, ending_of, hearing_of, motions_of, opening, step, view
 from reference.periods import shown
 from reference.rows_in import rows_of
 from reference.text_out import answer_lines, closing_lines, hearing_line, shown_text
@@ -41,7 +41,8 @@ DIFFERS, FAULT = 7, 3
 WHY = ["--reason", "entered twice"]
 CASES = (1, 2, 3)
 # What a row names by its number.
-NAMED = {"file": "deadline", "extend": "deadline", "book": "motion", "move": "motion", "cancel": "motion"}
+NAMED = {"file": "deadline", "extend": "deadline", "reset": "deadline", "end": "deadline", "resume": "deadline", "book": "motion",
+         "move": "motion", "cancel": "motion"}
 # What of an event says when it was written, and which it is.
 STAMPS = ("DTSTAMP", "LAST-MODIFIED", "SEQUENCE", "UID")
 
@@ -56,9 +57,13 @@ def drawn_row(draw):
         "1,open,{},{}".format(case, day),
         "1,start,{},{},{},,,".format(case, draw.choice(["4m", "12a1Ai", "59b", "59e"]), day),
         "1,start,{},{},{},,,".format(case, draw.choice(["4m", "12a1Ai", "59b", "59e"]), day),
-        "1,set,{},{},,{}".format(case, day, draw.choice(["filing", "service"])),
+        "1,set,{},{},{},{}".format(case, day, draw.choice(["", "09:30"]), draw.choice(["filing", "service"])),
         "1,file,{},{},{},10:00,electronic".format(case, number, day),
         "1,extend,{},{},+7d,{},09:00,yes,yes,yes".format(case, number, day),
+        "1,reset,{},{},{},{},{}".format(case, number, day, draw.choice(["", "", "09:30"]), day),
+        "1,end,{},{},{},{}".format(case, number, draw.choice(["moot", "vacated", "stayed", "suspended", "withdrawn"]), day),
+        "1,resume,{},{},,{}".format(case, number, day),
+        draw.choice(["1,close,{},settled,{}", "1,reopen,{},{}", "1,reopen,{},{}"]).format(case, day),
         "1,motion,{},{},{}".format(case, day, draw.choice(["14", "7", "exparte"])),
         "1,motion,{},{},{}".format(case, day, draw.choice(["14", "7", "exparte"])),
         "1,{},{},{},Ames,R1,{},{:02}:00,1,{}".format(draw.choice(["book", "move"]), case, number, day, draw.randint(8, 16), "2025-03-03"),
@@ -140,7 +145,8 @@ class Replay:
         return self.docket._replace(
             deadlines=[item._replace(number=places["deadline"][item.case, item.number]) for item in self.docket.deadlines],
             motions=[item._replace(number=motion(item, item.number)) for item in self.docket.motions],
-            hearings=[item._replace(motion=motion(item, item.motion)) for item in self.docket.hearings])
+            hearings=[item._replace(motion=motion(item, item.motion)) for item in self.docket.hearings],
+            facts=[item._replace(deadline=item.deadline and places["deadline"][item.case, item.deadline]) for item in self.docket.facts])
 
 
 def is_done(number, answer):
@@ -230,9 +236,14 @@ def check_spoiled(desk, draw):
 
 
 def ends_of(replay, case):
-    """The ends of the deadlines of a case, by their numbers."""
+    """The ends of the deadlines of a case, by their numbers, and why those are due no more that are ended."""
     rows, court = replay.docket, replay.court
-    return {deadline.number: shown_text(court, shown(rows.days, court.clock, deadline.row)) for deadline in deadlines_of(rows, case)}
+    found = {}
+    for deadline in deadlines_of(rows, case):
+        ended = ending_of(rows, case, deadline.number)
+        end = shown_text(court, shown(rows.days, court.clock, deadline.row))
+        found[deadline.number] = end if ended is None else "{}, ended {}".format(end, ended)
+    return found
 
 
 def hearings_in(replay, case):
@@ -255,11 +266,24 @@ def filed_line(case, was, then):
     return "  case {}: {}, now filed {}\n".format(case, "not open" if was is None else "filed " + was, then)
 
 
+def closing_in(replay, case):
+    """How a case was closed, as a shift of it has it."""
+    closed = closing_of(replay.docket, case)
+    return "not closed" if closed is None else "closed {} {}".format(day_text(closed.dated), closed.why)
+
+
+def closing_line(case, now, after):
+    """What the desk has to list of a case that is open before and after and is closed otherwise."""
+    was, then = closing_in(now, case), closing_in(after, case)
+    is_open = filed_in(now, case) and filed_in(after, case)
+    return "  case {}: {}, now {}\n".format(case, was, then) if is_open and was != then else ""
+
+
 def shifts(now, after):
     """What the desk has to list of cases, deadlines and hearings: those that are shown otherwise after a correction than now."""
     text = ""
     for case in CASES:
-        text += filed_line(case, filed_in(now, case), filed_in(after, case))
+        text += filed_line(case, filed_in(now, case), filed_in(after, case)) + closing_line(case, now, after)
         for word, shown_in in (("deadline", ends_of), ("motion", hearings_in)):
             was, then = shown_in(now, case), shown_in(after, case)
             for number in [*was, *(number for number in then if number not in was)]:
@@ -332,14 +356,17 @@ def unsaid(kept):
 def compare_calendars(before, after, kept, replay, what):
     """What a calendar program takes of the calendar after a strike or a restore: no SEQUENCE falls, what an event says otherwise has a
     higher one, and none vanishes, but for a deadline that ends beyond the days covered and what may be left unsaid. The deadlines that
-    rows started once and start no more are cancelled, and no others."""
+    rows started once and start no more are cancelled, those that are ended, and no others."""
     for uid, (old, said) in before.items():
         new, says = after.get(uid, (old, said))
         assert new > old or new == old and said == says, (what, uid, before[uid], after[uid])
         assert uid in after or uid in beyond(replay) or uid in unsaid(kept), (what, uid)
     started = {uid_of(case, number) for word, case, number in replay.given.values() if word == "start"}
     cancelled = {uid for uid, (_, says) in after.items() if "-deadline-" in uid and says.get("STATUS") == "CANCELLED"}
-    assert cancelled == started - {uid_of(item.case, item.number) for item in replay.docket.deadlines}, (what, cancelled)
+    left = replay.docket.deadlines
+    ended = {uid_of(item.case, item.number) for item in left if ending_of(replay.docket, item.case, item.number) is not None}
+    lost = started - {uid_of(item.case, item.number) for item in left}
+    assert cancelled == lost | ended - beyond(replay), (what, cancelled)
 
 
 def report(desk, *words):

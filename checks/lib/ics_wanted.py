@@ -7,7 +7,7 @@ from collections import namedtuple
 
 from lib.case_names import called
 from lib.given_docket import LAST_ROW
-from lib.memo_lines import closing_of, other_day, other_of, reasons_of
+from lib.memo_lines import closing_of, ended_in, other_day, other_of, reasons_of
 from lib.period_words import RULES, SET
 from reference.periods import period_of_text
 from reference.rule6 import FILING
@@ -18,7 +18,8 @@ ACTS = {"filing": "to file", "service": "to serve"}
 OTHER = "other reading "
 STATES = {"timely": ", filed in time", "late": ", filed late"}
 
-Item = namedtuple("Item", "day second case kind number summary description begins ends room panel")
+# `ended` says that it is a deadline that was ended and not resumed.
+Item = namedtuple("Item", "day second case kind number summary description begins ends room panel ended", defaults=(False,))
 Hearing = namedtuple("Hearing", "day first count panel room notice affidavits")
 # A deadline that no row starts any more: its case and number, the code of its period, and the day from which it ran.
 Lost = namedtuple("Lost", "case number code day")
@@ -92,7 +93,9 @@ def deadline_item(names, case, words, closes, other):
         return None
     what, described = period_in_words(code)
     day, state = day_of(words[4]), words[6] if end == "until" else words[5]
-    summary = "Case {} deadline {}: {}{}".format(called(names, case), number, what, STATES.get(state, ""))
+    ended = ended_in(words)
+    summary = "Case {} deadline {}: {}{}{}".format(called(names, case), number, what, STATES.get(state, ""),
+                                                   ", ended " + ended if ended else "")
     if end == "until":
         ending, second = "The time ends at {} on the court's clock".format(words[5]), seconds(words[5])
         begins = (day, second)
@@ -102,7 +105,7 @@ def deadline_item(names, case, words, closes, other):
             ending += "; for filing on paper when the clerk's office closes, at " + closes
     reading = "" if other is None else "\nBy another reading of the Rules: {}.".format(other[len(OTHER):])
     return Item(day, second, case, 0, number, summary, "Period: {}.\n{}.{}".format(described, ending, reading), begins, None, None,
-                None)
+                None, ended is not None)
 
 
 def lost_item(names, lost):
@@ -193,7 +196,7 @@ def revisions_of(rows, answers):
         if not answers.get(number, "refused").startswith("refused"):
             if fields[1] in ("holiday", "inaccessible"):
                 last[0] = number
-            elif fields[1] in ("start", "set", "file", "extend", "book", "move", "cancel"):
+            elif fields[1] in ("start", "set", "file", "extend", "reset", "end", "resume", "close", "reopen", "book", "move", "cancel"):
                 last[int(fields[2])] = number
     return last
 
@@ -220,18 +223,20 @@ def entries_wanted(names, docket, rows, answers, choice, lost=()):
     def has_left(of):
         had = [off for key, (_, off) in histories.items() if key[0] == of]
         return judge is not None and bool(had) and all(had)
+    def cancelled(item):
+        return item._replace(summary="Cancelled: " + item.summary), True
     due = sorted(filter(is_chosen, docket.items), key=lambda i: (i.day, i.second, i.case, i.kind, i.number))
-    entries = [(item, False) for item in due if is_judged(item)]
-    entries += [(item._replace(summary="Off this calendar: " + item.summary), True) for item in due
+    entries = [cancelled(item) if item.ended else (item, False) for item in due if is_judged(item)]
+    entries += [cancelled(item) if item.ended else (item._replace(summary="Off this calendar: " + item.summary), True) for item in due
                 if item.kind == 0 and has_left(item.case)]
     for key in filter(histories.__contains__, named_order(rows, answers)):
         hearing, off = histories[key]
         item = hearing_item(names, *key, hearing)
         if off and is_chosen(item):
-            entries.append((item._replace(summary="Cancelled: " + item.summary), True))
+            entries.append(cancelled(item))
     for item in [lost_item(names, one) for one in lost]:
         if case in (None, item.case) and (judge is None or item.case in {of for of, _ in histories}):
-            entries.append((item._replace(summary="Cancelled: " + item.summary), True))
+            entries.append(cancelled(item))
     return entries
 
 

@@ -38,3 +38,8 @@ def other_day(text):
     """The day of the other reading that a text of a deadline names, or none."""
     found = re.search(r"other reading(?: of the Rules:)? (\d{4}-\d\d-\d\d)", text or "")
     return found and datetime.date.fromisoformat(found[1])
+
+
+def ended_in(words):
+    """Why the deadline is due no more of whose line on a sheet these are the words, or none."""
+    return " ".join(words[words.index("ended") + 1:]) if "ended" in words else None

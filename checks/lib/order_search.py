@@ -81,6 +81,11 @@ class Parts:
             count = self.set_of((word, case), *["court"] * (word == "start"))
             made = self.set_of((word, case, int(first[1]))) if not refusal else 0
             return here | count, self.set_of((word, case)) | made | changed
+        if word in ("close", "reopen"):
+            return here | self.set_of(("facts", case), "court", "hearings"), here | changed
+        if word in ("end", "resume"):
+            deadline, facts = self.set_of(("start", case, work[2])), self.set_of(("facts", case))
+            return here | deadline | facts | self.set_of("court"), facts | changed
         if word in ("file", "extend"):
             deadline = self.set_of(("start", case, work[2]))
             return here | deadline | (self.set_of("court") if refusal != 3 else 0), deadline | changed

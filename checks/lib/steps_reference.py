@@ -14,7 +14,8 @@ Hand = namedtuple("Hand", "command reads")
 # A part that was read, the length of the history then, and the lists as they were then.
 Read = namedtuple("Read", "part length rows")
 
-ABOUT_CASE = {"open": False, "motion": False, "start": True, "file": True, "extend": True}
+ABOUT_CASE = {"open": False, "motion": False, "start": True, "file": True, "extend": True, "end": True, "resume": True, "close": True,
+              "reopen": True}
 
 
 def opening_world(court, clerks):

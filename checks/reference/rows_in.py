@@ -108,15 +108,23 @@ def time_or_none(text, court):
     return 0 if text == "" else minute_of_text(text)
 
 
-def no_time(text, court):
-    """The time of a day that an order sets as a whole."""
-    return 0 if text == "" else None
+def given_time(text, court):
+    """A list of the minute, or an empty one where no time is given."""
+    if text == "":
+        return []
+    minute = minute_of_text(text)
+    return None if minute is None else [minute]
 
 
 def quarter(text, court):
     """A slot of 15 minutes, by its time."""
     minute = minute_of_text(text)
     return minute // 15 if minute is not None and minute % 15 == 0 else None
+
+
+def no_day(text, court):
+    """The day of a deadline that is resumed as it was."""
+    return [] if text == "" else None
 
 
 def date_or_none(text, court):
@@ -204,8 +212,17 @@ COLUMNS = {
     "sheet": [number],
     "calendar": [judge, date],
 }
+WHY = one_of("moot", "vacated", "stayed", "suspended", "withdrawn")
 # The forms that the desk alone takes.
-DESK_COLUMNS = {**COLUMNS, "set": [number, date, no_time, one_of("filing", "service")]}
+DESK_COLUMNS = {
+    **COLUMNS,
+    "set": [number, date, given_time, one_of("filing", "service")],
+    "reset": [number, number, date, given_time, date],
+    "end": [number, number, WHY, date],
+    "resume": [number, number, no_day, date],
+    "close": [number, one_of("dismissed", "judgment", "settled", "transferred", "remanded", "otherwise"), date],
+    "reopen": [number, date],
+}
 WORKS = {
     "open": lambda case, filed: ("open", case, filed),
     "start": lambda case, *rest: ("start", case) + asked_period(*rest),
@@ -220,12 +237,27 @@ WORKS = {
     "inaccessible": lambda day, begin, end: ("inaccessible", day, begin, end),
     "sheet": lambda case: ("sheet", case),
     "calendar": lambda of_judge, day: ("calendar", of_judge, day),
-    "set": lambda case, day, minute, act: ("start", case, set_to(act), Event(day, minute), None, None),
+    "set": lambda case, day, minute, act: ("start", case, set_to(act, bool(minute)), Event(day, only(minute) or 0), None, None),
+    "reset": lambda case, deadline, day, minute, dated: ("extend", case, deadline, order(reset_to(day, minute), dated)),
+    "end": lambda case, deadline, why, dated: ("end", case, deadline, why, dated),
+    "resume": lambda case, deadline, day, dated: ("resume", case, deadline, dated),
+    "close": lambda case, why, dated: ("close", case, why, dated),
+    "reopen": lambda case, dated: ("reopen", case, dated),
 }
 
 
 def asked_period(of_rule, day, minute, second, of_service):
     return of_rule, Event(day, minute), only(second), only(of_service)
+
+
+def reset_to(day, minute):
+    """Another end that an order sets: a day, or a time of it."""
+    return Grant("reset at", Event(day, minute[0])) if minute else Grant("reset", day)
+
+
+def order(grant, dated):
+    """What an order of a day grants: nothing was asked for, and nothing has to be found."""
+    return Request(grant, Event(dated, 0), False, False, False)
 
 
 def request(extension, day, minute, motion, cause, neglect):

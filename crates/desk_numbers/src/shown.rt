@@ -14,6 +14,7 @@ impl MovedNumbers {
         let Sheet {
             case,
             filed,
+            closed,
             deadlines,
             motions,
         } = sheet;
@@ -24,6 +25,7 @@ impl MovedNumbers {
         Sheet {
             case,
             filed,
+            closed,
             deadlines: SheetDeadlines::from_vec(deadlines),
             motions: SheetMotions::from_vec(motions),
         }

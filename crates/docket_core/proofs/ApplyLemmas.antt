@@ -57,9 +57,9 @@ pub record IsInCourt (d : DocketView) (s : Setting) : Type 0 where
 in_court : (d : DocketView) (s : Setting) (line : Option Refusal) (except : Option (ℕ × ℕ)) → length d.judges ≡ d.setup.judges → length d.rooms ≡ d.setup.rooms → first_of (hearing_checks d.setup (parts_held d) s line except) ≡ None → IsInCourt d s
 in_court d s line except judges rooms h =
     let n = none_of (hearing_checks d.setup (parts_held d) s line except) h in
-    let room : nat_lt s.room d.setup.rooms ≡ true = when-not-None _ _ n.1.1.1.0 in
+    let room : nat_lt s.room d.setup.rooms ≡ true = when-not-None _ _ n.1.1.1.1.0 in
     record {
-      judges = λ j beyond. not_sitting d.setup.judges j s.judges (when-not-None _ _ n.1.1.0) (rw judges at beyond);
+      judges = λ j beyond. not_sitting d.setup.judges j s.judges (when-not-None _ _ n.1.1.1.0) (rw judges at beyond);
       room = λ r beyond. grind (arith, nat_tests);
     }
 

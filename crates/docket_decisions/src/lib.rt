@@ -5,6 +5,7 @@ mod answers;
 mod cases;
 mod commands;
 mod deadlines;
+mod facts;
 mod hearings;
 mod holidays;
 mod motions;

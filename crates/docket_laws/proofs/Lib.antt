@@ -1,11 +1,13 @@
 pub mod AlikeLemmas
 pub mod CallerLemmas
+pub mod EndedLemmas
 pub mod LawfulLemmas
 pub mod MadeLemmas
 pub mod PartsAfter
 pub mod PartsCalendars
 pub mod PartsCases
 pub mod PartsDeadlines
+pub mod PartsFacts
 pub mod PartsHearings
 pub mod PartsLists
 pub mod PartsMotions

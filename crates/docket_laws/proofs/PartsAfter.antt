@@ -6,7 +6,7 @@ use Rattle.hearing_slots.specs.declared.booking.Booking.{Booking}
 use Rattle.hearing_slots.specs.declared.need.Need.{Need}
 use Rattle.hearing_slots.proofs.CallerLemmas.{filter_all, find-None}
 use Rattle.docket_rows.specs.declared.command.Command.{Command}
-use Rattle.docket_rows.specs.declared.command.Command.TheVariants.{OpenCase, Start, FileAct, Extend, Motion, Book, MoveHearing, Cancel, Holiday, Inaccessible}
+use Rattle.docket_rows.specs.declared.command.Command.TheVariants.{OpenCase, Start, FileAct, Extend, Motion, Book, MoveHearing, Cancel, Holiday, Inaccessible, Fact}
 use Rattle.docket_rows.specs.declared.hearing.Setting.{Setting}
 use Rattle.docket_rows.specs.declared.part.PartId.{PartId}
 use Rattle.docket_rows.specs.declared.part.PartId.TheVariants.{Court, Judge, Room, Case}
@@ -16,6 +16,7 @@ use Rattle.docket_laws.proofs.MadeLemmas.{none_of, when-None, option_map-None, n
 use Rattle.docket_laws.proofs.PartsCalendars.{calendar_cancelled, calendar_moved, booking_seen}
 use Rattle.docket_laws.proofs.PartsCases.{case_after_opening}
 use Rattle.docket_laws.proofs.PartsDeadlines.{case_after_start, case_after_act, case_after_grant}
+use Rattle.docket_laws.proofs.PartsFacts.{case_after_fact}
 use Rattle.docket_laws.proofs.PartsHearings.{case_after_cancel, case_after_move}
 use Rattle.docket_laws.proofs.PartsMotions.{case_after_motion, calendar_after_motion}
 use Rattle.docket_laws.proofs.PartsSeen.{hearing_seen}
@@ -120,3 +121,7 @@ parts_after setup rows (Inaccessible day from to) sound h Court = refl
 parts_after setup rows (Inaccessible day from to) sound h (Judge judge) = refl
 parts_after setup rows (Inaccessible day from to) sound h (Room room) = refl
 parts_after setup rows (Inaccessible day from to) sound h (Case n) = refl
+parts_after setup rows (Fact case fact) sound h Court = refl
+parts_after setup rows (Fact case fact) sound h (Judge judge) = refl
+parts_after setup rows (Fact case fact) sound h (Room room) = refl
+parts_after setup rows (Fact case fact) sound h (Case n) = case_value _ _ _ (case_after_fact rows case fact n)

@@ -4,7 +4,8 @@ use Rattle.std.specs.Option.{option_map_or}
 use Rattle.court_days.specs.Words.{DaysView}
 use Rattle.docket_rows.specs.declared.answer.Answer.TheVariants as answer
 use Rattle.docket_rows.specs.declared.command.Command.{Command}
-use Rattle.docket_rows.specs.declared.command.Command.TheVariants.{Start, FileAct, Extend, Motion, Book, MoveHearing, Cancel}
+use Rattle.docket_rows.specs.declared.command.Command.TheVariants.{Start, FileAct, Extend, Motion, Book, MoveHearing, Cancel, Fact}
+use Rattle.docket_rows.specs.declared.fact.Fact.TheVariants.{Ended, Resumed, Closed, Reopened}
 use Rattle.docket_rows.specs.declared.part.PartId.{PartId}
 use Rattle.docket_rows.specs.declared.part.PartId.TheVariants.{Court, Judge, Room, Case}
 use Rattle.docket_rows.specs.declared.part.PartValue.TheVariants as value
@@ -68,6 +69,10 @@ module _ (setup : CourtSetup) (p q : Parts) where
   made_rests (FileAct case deadline filing) n agree = rw (days_agree setup p q case [] n agree, case_agrees setup p q case (Court ∷ []) n agree) refl
   made_rests (Extend case deadline request) n agree = rw (days_agree setup p q case [] n agree, case_agrees setup p q case (Court ∷ []) n agree) refl
   made_rests (Motion case served need) n agree = rw (case_agrees setup p q case [] n agree) refl
+  made_rests (Fact case (Resumed deadline dated)) n agree = rw (days_agree setup p q case [] n agree, case_agrees setup p q case (Court ∷ []) n agree) refl
+  made_rests (Fact case (Ended deadline why dated)) n agree = refl
+  made_rests (Fact case (Closed why dated)) n agree = refl
+  made_rests (Fact case (Reopened dated)) n agree = refl
   made_rests _ n agree = refl
 
   pub answered_rests : (command : Command) → p.days.from ≡ q.days.from → p.days.to ≡ q.days.to → AgreeOn setup p q (wanted setup q command) → answered setup p command ≡ answered setup q command

@@ -7,7 +7,7 @@ use Rattle.std.proofs.lemmas.Cmp.{nat_eq_equiv}
 use Rattle.std.proofs.lemmas.List.Folds.{list_any-append}
 use Rattle.rule_periods.specs.Words.{first_of}
 use Rattle.docket_rows.specs.declared.command.Command.{Command}
-use Rattle.docket_rows.specs.declared.command.Command.TheVariants.{OpenCase, Start, FileAct, Extend, Motion, Book, MoveHearing, Cancel, Holiday, Inaccessible}
+use Rattle.docket_rows.specs.declared.command.Command.TheVariants.{OpenCase, Start, FileAct, Extend, Motion, Book, MoveHearing, Cancel, Holiday, Inaccessible, Fact}
 use Rattle.docket_rows.specs.declared.hearing.Hearing.{Hearing}
 use Rattle.docket_rows.specs.declared.hearing.Setting.{Setting}
 use Rattle.docket_rows.specs.declared.part.PartId.{PartId}
@@ -67,7 +67,7 @@ module _ (setup : CourtSetup) where
   has_places : (p : Parts) (s : Setting) (set : Option Refusal) (except : Option (ℕ × ℕ)) → first_of (hearing_checks setup p s set except) ≡ None → HasPlaces s
   has_places p s set except h =
       let n = none_of (hearing_checks setup p s set except) h in
-      record { panel = when-not-None _ _ n.1.1.1.1.0; judges = when-not-None _ _ n.1.1.0; room = when-not-None _ _ n.1.1.1.0 }
+      record { panel = when-not-None _ _ n.1.1.1.1.1.0; judges = when-not-None _ _ n.1.1.1.0; room = when-not-None _ _ n.1.1.1.1.0 }
 
   book_places : (p : Parts) (s : Setting) → book_refusal setup p s ≡ None → HasPlaces s
   unfolding book_refusal
@@ -92,6 +92,7 @@ module _ (setup : CourtSetup) (p : Parts) (settable : (case motion : ℕ) → If
   case_unread (Book s) is n none = rw (other_case n s.case _ is none) refl
   case_unread (MoveHearing s) is n none = rw (other_case n s.case _ is none) refl
   case_unread (Cancel case motion) is n none = rw (other_case n case _ is none) refl
+  case_unread (Fact case fact) is n none = rw (other_case n case (Court ∷ []) is none) refl
   case_unread _ is n none = refl
 
   judge_unread : (command : Command) → refusal setup p command ≡ None → (judge : ℕ) → is_wanted setup p command (Judge judge) ≡ false → judge_written p command judge ≡ None

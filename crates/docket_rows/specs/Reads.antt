@@ -3,7 +3,7 @@ use Rattle.std.specs.Prelude.{ℕ, nat_lt, Bool, not, List, [], ◌∷◌, ◌++
 use Rattle.std.specs.List.{list_any, range_with_len}
 use Rattle.std.specs.Option.{option_map_or}
 use Rattle.docket_rows.specs.declared.command.Command.{Command}
-use Rattle.docket_rows.specs.declared.command.Command.TheVariants.{OpenCase, Start, FileAct, Extend, Motion, Book, MoveHearing, Cancel, Holiday, Inaccessible}
+use Rattle.docket_rows.specs.declared.command.Command.TheVariants.{OpenCase, Start, FileAct, Extend, Motion, Book, MoveHearing, Cancel, Holiday, Inaccessible, Fact}
 use Rattle.docket_rows.specs.declared.hearing.Hearing.{Hearing}
 use Rattle.docket_rows.specs.declared.part.PartId.{PartId}
 use Rattle.docket_rows.specs.declared.part.PartId.TheVariants.{Court, Judge, Room, Case}
@@ -39,6 +39,7 @@ wanted setup parts (MoveHearing s) =
 wanted setup parts (Cancel case motion) = about_case case (calendars_now setup parts case motion)
 wanted setup parts (Holiday day list) = Court ∷ map Judge (range_with_len 0 setup.judges)
 wanted setup parts (Inaccessible day from to) = Court ∷ []
+wanted setup parts (Fact case fact) = about_case case (Court ∷ [])
 
 -- the part is among those read
 abbrev pub is_read : List (PartId × PartValue) → PartId → Bool

@@ -1,14 +1,16 @@
 -- What each command does to the rows, and what it is answered.
-use Rattle.std.specs.Prelude.{ℕ, not, List, [], ◌∷◌, ◌++◌, map, filter, if◌then◌else◌}
+use Rattle.std.specs.Prelude.{ℕ, Bool, true, false, not, List, [], ◌∷◌, ◌++◌, map, filter, if◌then◌else◌}
 use Rattle.std.specs.Option.{option_map_or}
 use Rattle.court_days.specs.Words.{add_holiday, add_outage}
+use Rattle.rule6.specs.declared.timeliness.Shown.{Shown}
 use Rattle.rule6.specs.declared.timeliness.Shown.TheVariants as shown
 use Rattle.rule6.specs.Words.{is_in_time}
-use Rattle.rule_periods.specs.Words.{DeadlineRowView, kept_filing, with_grant, with_filing}
+use Rattle.rule_periods.specs.Words.{DeadlineRowView, is_order, kept_filing, with_grant, with_filing}
 use Rattle.docket_rows.specs.declared.answer.Answer.{Answer}
 use Rattle.docket_rows.specs.declared.answer.Answer.TheVariants as answer
 use Rattle.docket_rows.specs.declared.command.Command.{Command}
-use Rattle.docket_rows.specs.declared.command.Command.TheVariants.{OpenCase, Start, FileAct, Extend, Motion, Book, MoveHearing, Cancel, Holiday, Inaccessible}
+use Rattle.docket_rows.specs.declared.command.Command.TheVariants.{OpenCase, Start, FileAct, Extend, Motion, Book, MoveHearing, Cancel, Holiday, Inaccessible, Fact}
+use Rattle.docket_rows.specs.declared.fact.Fact.TheVariants.{Ended, Resumed, Closed, Reopened}
 use Rattle.docket_rows.specs.declared.hearing.Setting.{Setting}
 use Rattle.docket_rows.specs.CourtSetup.{CourtSetup}
 use Rattle.docket_rows.specs.Hearings.{hearing_asked}
@@ -46,6 +48,12 @@ rows_after rows (MoveHearing s) = with_hearing s (without_hearing s.case s.motio
 rows_after rows (Cancel case motion) = without_hearing case motion rows
 rows_after rows (Holiday day list) = record rows { days = add_holiday rows.days list day }
 rows_after rows (Inaccessible day from to) = record rows { days = add_outage rows.days (record { day = day; from = from; to = to }) }
+rows_after rows (Fact case fact) = record rows { facts = rows.facts ++ record { case = case; fact = fact } ∷ [] }
+
+-- the answer to an extension, and to an order that sets another end: when the time ends now
+abbrev pub ended_answer : (order : Bool) → Shown → Answer
+ended_answer false end = answer.Extended end
+ended_answer true end = answer.Reset end
 
 -- what a command that isn't refused is answered; an act is timely by Rule 6(a)(4)
 abbrev pub answer_if_made : CourtSetup → Parts → Command → Answer
@@ -55,13 +63,18 @@ answer_if_made setup parts (Start case period event second service) =
 answer_if_made setup parts (FileAct case deadline filing) =
     answer.Filed (has_one (λ row. is_in_time setup.clock (shown_now setup parts row) (kept_filing filing)) (deadline_in parts case deadline))
 answer_if_made setup parts (Extend case deadline request) =
-    answer.Extended (option_map_or (λ row. shown_now setup parts (with_grant row request.grant)) (deadline_in parts case deadline) shown.Beyond)
+    ended_answer (is_order request.grant) (option_map_or (λ row. shown_now setup parts (with_grant row request.grant)) (deadline_in parts case deadline) shown.Beyond)
 answer_if_made setup parts (Motion case served need) = answer.MotionEntered (next_motion parts case)
 answer_if_made setup parts (Book s) = answer.Booked
 answer_if_made setup parts (MoveHearing s) = answer.Moved
 answer_if_made setup parts (Cancel case motion) = answer.Cancelled
 answer_if_made setup parts (Holiday day list) = answer.HolidayEntered
 answer_if_made setup parts (Inaccessible day from to) = answer.OutageEntered
+answer_if_made setup parts (Fact case (Ended deadline why dated)) = answer.Ended
+answer_if_made setup parts (Fact case (Resumed deadline dated)) =
+    answer.Resumed (option_map_or (λ row. shown_now setup parts row) (deadline_in parts case deadline) shown.Beyond)
+answer_if_made setup parts (Fact case (Closed why dated)) = answer.Closed
+answer_if_made setup parts (Fact case (Reopened dated)) = answer.Reopened
 
 -- what a command is answered where the parts are these
 unfoldable pub answered : CourtSetup → Parts → Command → Answer

@@ -1,11 +1,12 @@
 -- The deadline or the motion that a command names by its number, and what it does to the hearing of a motion.
 use Rattle.std.specs.Prelude.{ℕ, Bool, true, false, Option, Some, None}
 use Rattle.docket_rows.specs.declared.command.Command.{Command}
-use Rattle.docket_rows.specs.declared.command.Command.TheVariants.{FileAct, Extend, Book, MoveHearing, Cancel}
+use Rattle.docket_rows.specs.declared.command.Command.TheVariants.{FileAct, Extend, Book, MoveHearing, Cancel, Fact}
 use Rattle.docket_rows.specs.declared.command.Counted.{Counted}
 use Rattle.docket_rows.specs.declared.command.Counted.TheVariants.{Deadline, Motion}
 use Rattle.docket_rows.specs.declared.command.HearingOrder.{HearingOrder}
 use Rattle.docket_rows.specs.declared.command.Subject.{Subject}
+use Rattle.docket_rows.specs.Facts.{fact_naming, fact_subject}
 
 -- both are deadlines, or both are motions
 abbrev pub are_alike : Counted → Counted → Bool
@@ -21,6 +22,7 @@ subject_of (Extend case deadline request) = Some (record { case = case; counted 
 subject_of (Book s) = Some (record { case = s.case; counted = Motion; number = s.motion })
 subject_of (MoveHearing s) = Some (record { case = s.case; counted = Motion; number = s.motion })
 subject_of (Cancel case motion) = Some (record { case = case; counted = Motion; number = motion })
+subject_of (Fact case fact) = fact_subject case fact
 subject_of command = None
 
 -- the same command, with this number for what it names
@@ -30,6 +32,7 @@ naming (Extend case deadline request) number = Extend case number request
 naming (Book s) number = Book (record s { motion = number })
 naming (MoveHearing s) number = MoveHearing (record s { motion = number })
 naming (Cancel case motion) number = Cancel case number
+naming (Fact case fact) number = Fact case (fact_naming fact number)
 naming command number = command
 
 -- what a command does to the hearing of a motion: with a setting it sets the hearing so, and without one it takes the

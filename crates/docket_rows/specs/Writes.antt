@@ -6,7 +6,7 @@ use Rattle.court_days.specs.Words.{DaysView, add_holiday, add_outage}
 use Rattle.rule_periods.specs.Words.{DeadlineRowView, with_grant, with_filing}
 use Rattle.hearing_slots.specs.declared.booking.Booking.{Booking}
 use Rattle.docket_rows.specs.declared.command.Command.{Command}
-use Rattle.docket_rows.specs.declared.command.Command.TheVariants.{OpenCase, Start, FileAct, Extend, Motion, Book, MoveHearing, Cancel, Holiday, Inaccessible}
+use Rattle.docket_rows.specs.declared.command.Command.TheVariants.{OpenCase, Start, FileAct, Extend, Motion, Book, MoveHearing, Cancel, Holiday, Inaccessible, Fact}
 use Rattle.docket_rows.specs.declared.hearing.Hearing.{Hearing}
 use Rattle.docket_rows.specs.declared.part.PartId.{PartId}
 use Rattle.docket_rows.specs.declared.part.PartId.TheVariants.{Court, Judge, Room, Case}
@@ -15,6 +15,7 @@ use Rattle.docket_rows.specs.declared.part.PartValue.TheVariants as value
 use Rattle.docket_rows.specs.declared.rebooking.Rebooking.{Rebooking}
 use Rattle.docket_rows.specs.CourtSetup.{CourtSetup}
 use Rattle.docket_rows.specs.Cases.{CaseRecordView, NumberedDeadline, NumberedMotion}
+use Rattle.docket_rows.specs.Facts.{add_fact}
 use Rattle.docket_rows.specs.Hearings.{hearing_asked}
 use Rattle.docket_rows.specs.Parts.{Parts, parts_read, part_value}
 use Rattle.docket_rows.specs.Rebooking.{rebooking_of, changed_by, judge_change, room_change}
@@ -55,6 +56,7 @@ case_of (MoveHearing s) = Some s.case
 case_of (Cancel case motion) = Some case
 case_of (Holiday day list) = None
 case_of (Inaccessible day from to) = None
+case_of (Fact case fact) = Some case
 
 -- an open case after a command about the hearing of a motion in it; another command leaves it as it was
 abbrev pub hearing_after : Command → CaseRecordView → CaseRecordView
@@ -70,11 +72,12 @@ record_after (FileAct case deadline filing) c = change_deadline deadline (λ row
 record_after (Extend case deadline request) c = change_deadline deadline (λ row. with_grant row request.grant) c
 record_after (Motion case served need) c =
     add_motion (record { number = length c.motions + 1; served = served; need = need; hearing = None }) c
+record_after (Fact case fact) c = add_fact fact c
 record_after command c = hearing_after command c
 
 -- a case, open or not, after a command about it
 abbrev pub case_after : Command → Option CaseRecordView → Option CaseRecordView
-case_after (OpenCase case filed) c = Some (record { filed = filed; deadlines = []; motions = [] })
+case_after (OpenCase case filed) c = Some (record { filed = filed; deadlines = []; motions = []; facts = [] })
 case_after command c = option_map (record_after command) c
 
 -- the case, where the command changes it

@@ -17,6 +17,8 @@ pub enum Answer {
     Filed(bool),
     /// The time is extended; when it ends now.
     Extended(Shown),
+    /// An order set another end; when the time ends now.
+    Reset(Shown),
     /// The motion was given this number in its case.
     MotionEntered(u32),
     /// The hearing is booked.
@@ -29,6 +31,14 @@ pub enum Answer {
     HolidayEntered,
     /// The outage of the clerk's office is entered.
     OutageEntered,
+    /// The deadline is ended.
+    Ended,
+    /// The deadline is resumed; when its time ends.
+    Resumed(Shown),
+    /// The case is closed.
+    Closed,
+    /// The case is open again.
+    Reopened,
     /// The command is refused, and changes nothing.
     Refused(Refusal),
 }

@@ -1,8 +1,10 @@
 //! What a clerk can ask of a docket.
 
 ghost use Rattle.std.specs.Prelude.{◌≡◌, IfOk};
+ghost use Rattle.docket_rows.specs.Facts.{fact_subject};
 ghost use Rattle.docket_rows.specs.Subject.{are_alike, naming, order_of, subject_of};
 
+use crate::fact::Fact;
 use crate::hearing::Setting;
 use court_clock::Day;
 use court_days::HolidayList;
@@ -43,13 +45,13 @@ pub enum Command {
         /// The act. A minute of 1,440 or more is kept as 1,439, the last of the day.
         filing: Filing,
     },
-    /// Extends the time of a deadline (Fed. R. Civ. P. 6(b)).
+    /// Extends the time of a deadline (Fed. R. Civ. P. 6(b)), or sets another end by an order.
     Extend {
         /// The number of the case.
         case: u32,
         /// The number of the deadline in its case.
         deadline: u32,
-        /// The extension that is asked, and what the court found.
+        /// The extension that is asked, and what the court found, or what an order sets.
         request: Request,
     },
     /// Enters a motion in a case.
@@ -87,6 +89,13 @@ pub enum Command {
         from: u16,
         /// The first minute after it, 1,440 at the most.
         to: u16,
+    },
+    /// Records a fact of a case.
+    Fact {
+        /// The number of the case.
+        case: u32,
+        /// What is recorded.
+        fact: Fact,
     },
 }
 
@@ -180,6 +189,7 @@ impl Command {
                 (setting.case, Counted::Motion, setting.motion)
             }
             Command::Cancel { case, motion } => (case, Counted::Motion, motion),
+            Command::Fact { case, fact } => return fact_subject(case, fact),
             _ => return None,
         };
         Some(Subject {
@@ -211,7 +221,25 @@ impl Command {
                 case,
                 motion: number,
             },
+            Command::Fact { case, fact } => Command::Fact {
+                case,
+                fact: fact.naming(number),
+            },
             _ => *self,
         }
+    }
+}
+
+/// The deadline that a fact of a case is about, if it is about one.
+fn fact_subject(case: u32, fact: Fact) -> Option<Subject>
+    ensures { result ≡ fact_subject case fact }
+{
+    match fact {
+        Fact::Ended { deadline, .. } | Fact::Resumed { deadline, .. } => Some(Subject {
+            case,
+            counted: Counted::Deadline,
+            number: deadline,
+        }),
+        Fact::Closed { .. } | Fact::Reopened { .. } => None,
     }
 }

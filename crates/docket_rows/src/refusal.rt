@@ -69,6 +69,16 @@ pub enum Refusal {
     WrongGrant,
     /// A judge is named twice in the panel.
     BadPanel,
+    /// The case is closed.
+    CaseIsClosed,
+    /// The case isn't closed.
+    NotClosed,
+    /// A hearing of the case is set for a later day: that of the first motion, by case and motion.
+    HearingAhead(u32, u32),
+    /// The deadline is ended already.
+    AlreadyEnded,
+    /// The deadline isn't ended.
+    NotEnded,
 }
 
 impl Refusal {
@@ -106,6 +116,11 @@ impl Refusal {
             Refusal::NoSuchRoom => 27,
             Refusal::WrongGrant => 28,
             Refusal::BadPanel => 29,
+            Refusal::CaseIsClosed => 30,
+            Refusal::NotClosed => 31,
+            Refusal::HearingAhead(_, _) => 32,
+            Refusal::AlreadyEnded => 33,
+            Refusal::NotEnded => 34,
         }
     }
 
@@ -143,6 +158,11 @@ impl Refusal {
             Refusal::NoSuchRoom => "NoSuchRoom",
             Refusal::WrongGrant => "WrongGrant",
             Refusal::BadPanel => "BadPanel",
+            Refusal::CaseIsClosed => "CaseIsClosed",
+            Refusal::NotClosed => "NotClosed",
+            Refusal::HearingAhead(_, _) => "HearingAhead",
+            Refusal::AlreadyEnded => "AlreadyEnded",
+            Refusal::NotEnded => "NotEnded",
         }
     }
 }

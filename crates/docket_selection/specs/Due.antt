@@ -1,5 +1,5 @@
--- What is due: the deadlines that end within the chosen days, as they are shown or by another reading, those with no timely act or
--- all, and the hearings within them.
+-- What is due: the deadlines that end within the chosen days, as they are shown or by another reading, those with no timely act that
+-- weren't ended or all, and the hearings within them.
 use Rattle.std.specs.Prelude.{◌≡◌, ℕ, ℤ, ◌<◌, ◌≤◌, ◌≤ℤ◌, Bool, false, ◌&&◌, ◌||◌, not, List, ◌++◌, length, filter, slice_index_or, option_map, Option, Some, None, if◌then◌else◌}
 use Rattle.std.specs.List.{filter_map, flat_map}
 use Rattle.std.specs.List.Sorted.{IsPermutation}
@@ -16,7 +16,7 @@ use Rattle.docket_selection.specs.declared.item.DueItem.{DueItem}
 use Rattle.docket_selection.specs.declared.item.Matter.{Matter}
 use Rattle.docket_selection.specs.declared.item.Matter.TheVariants.{Deadline, Hearing}
 use Rattle.docket_selection.specs.Choice.{is_before, is_case_chosen, is_day_chosen, is_end_chosen, is_panel_chosen}
-use Rattle.docket_selection.specs.Items.{deadline_item, hearing_item, is_met, time_of, with_other}
+use Rattle.docket_selection.specs.Items.{deadline_item, hearing_item, is_ended, is_met, time_of, with_other}
 use Rattle.docket_selection.specs.Sheets.{open_sheets}
 
 -- a hearing is chosen by its panel, and a deadline by whether its case has a hearing before the chosen judge
@@ -24,10 +24,10 @@ abbrev pub is_matter_chosen : Choice → (before : Bool) → Matter → Bool
 is_matter_chosen choice before (Deadline d) = before
 is_matter_chosen choice before (Hearing h) = is_panel_chosen choice h.hearing.judges
 
--- the item is chosen whatever its day, and no timely act is recorded unless such deadlines are chosen too
+-- the item is chosen whatever its day; no timely act is recorded, and it wasn't ended, unless such deadlines are chosen too
 abbrev pub is_due_any_day : Choice → (before : Bool) → DueItem → Bool
 is_due_any_day choice before item =
-    is_case_chosen choice item.case && (choice.met || not (is_met item.matter)) && is_matter_chosen choice before item.matter
+    is_case_chosen choice item.case && (choice.met || not (is_met item.matter || is_ended item.matter)) && is_matter_chosen choice before item.matter
 
 -- and its day is chosen
 abbrev pub is_due : Choice → (before : Bool) → DueItem → Bool

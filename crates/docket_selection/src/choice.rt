@@ -22,7 +22,7 @@ pub struct Choice {
     pub from: Day,
     /// The last day.
     pub to: Day,
-    /// Whether deadlines with a timely act are chosen too.
+    /// Whether deadlines with a timely act, and those that were ended, are chosen too.
     pub met: bool,
 }
 

@@ -11,7 +11,7 @@ use crate::choice::{
     Choice, is_before, is_case_chosen, is_day_chosen, is_end_chosen, is_panel_chosen,
 };
 use crate::item::{
-    DueItem, DueTypes, Matter, deadline_item, hearing_item, is_met, time_of, with_other,
+    DueItem, DueTypes, Matter, deadline_item, hearing_item, is_ended, is_met, time_of, with_other,
 };
 use crate::lists::push_if;
 use crate::sheets::sheets_of;
@@ -22,9 +22,9 @@ use docket_rows::{Sheet, SheetDeadline, SheetMotion};
 use reason_notes::{DaysByReading, other_end};
 use std::alloc::{AllocError, Global};
 
-/// The deadlines that end within the chosen days, those with no timely act or all, and the hearings within them, by time. Each
-/// deadline has its end by another reading, where these days are doubtful. One whose other end alone is within the chosen days is
-/// there too, in the place of the end that is shown. `Err` says that memory ran out.
+/// The deadlines that end within the chosen days, those with no timely act that weren't ended or all, and the hearings within them, by
+/// time. Each deadline has its end by another reading, where these days are doubtful. One whose other end alone is within the chosen
+/// days is there too, in the place of the end that is shown. `Err` says that memory ran out.
 pub fn due_of(
     alloc: Global,
     court: &Court,
@@ -194,7 +194,7 @@ fn is_due_any_day(choice: &Choice, before: bool, item: &DueItem) -> bool
     ensures { result ≡ is_due_any_day choice.now before item.now }
 {
     is_case_chosen(choice, item.case)
-        && (choice.met || !is_met(&item.matter))
+        && (choice.met || !(is_met(&item.matter) || is_ended(&item.matter)))
         && is_matter_chosen(choice, before, &item.matter)
 }
 
@@ -209,7 +209,7 @@ fn is_other_chosen(clock: &Clock, choice: &Choice, matter: &Matter) -> bool
 }
 
 /// Whether a hearing is before the chosen judge, or a deadline in a case that has one.
-fn is_matter_chosen(choice: &Choice, before: bool, matter: &Matter) -> bool
+pub(crate) fn is_matter_chosen(choice: &Choice, before: bool, matter: &Matter) -> bool
     ensures { result ≡ is_matter_chosen choice.now before matter.now }
 {
     match matter {

@@ -1,5 +1,6 @@
--- What of sheets is compared: the day on which a case was filed, the ends of its deadlines, and the hearings of its motions.
-use Rattle.std.specs.Prelude.{ℕ, ℤ, List, [], ◌∷◌, Option, Some, None, map}
+-- What of sheets is compared: the day on which a case was filed, the ends of its deadlines and which of them were ended, and the
+-- hearings of its motions.
+use Rattle.std.specs.Prelude.{ℕ, ℤ, List, [], ◌∷◌, ◌++◌, Option, Some, None, map}
 use Rattle.std.specs.List.{flat_map}
 use Rattle.court_clock.specs.Words.{ClockView}
 use Rattle.court_days.specs.Words.{CourtView}
@@ -8,7 +9,7 @@ use Rattle.docket_rows.specs.declared.sheet.SheetHearing.{SheetHearing}
 use Rattle.docket_rows.specs.declared.sheet.SheetMotion.{SheetMotion}
 use Rattle.docket_rows.specs.declared.view.View.{View}
 use Rattle.docket_rows.specs.declared.view.View.TheVariants as view
-use Rattle.office_texts.specs.Words.{hearing_text, shown_text}
+use Rattle.office_texts.specs.Words.{and_ended_text, hearing_text, shown_text}
 use Rattle.docket_shifts.specs.Texts.{NumberedTextView}
 
 -- the day on which the case was filed; none of a case that isn't open
@@ -16,9 +17,9 @@ abbrev pub filed_in : View → Option ℤ
 filed_in (view.Sheet sheet) = Some sheet.filed
 filed_in other = None
 
--- the end of a deadline
+-- the end of a deadline, and why it is due no more, if it was ended
 abbrev pub end_of : ClockView → SheetDeadline → NumberedTextView
-end_of clock d = record { number = d.number; text = shown_text clock d.shown }
+end_of clock d = record { number = d.number; text = shown_text clock d.shown ++ and_ended_text d.ended }
 
 -- those of a sheet; a case that isn't open has none
 abbrev pub ends_in : CourtView → View → List NumberedTextView

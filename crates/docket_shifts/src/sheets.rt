@@ -1,4 +1,5 @@
-//! What of sheets is compared: the day on which a case was filed, the ends of its deadlines, and the hearings of its motions.
+//! What of sheets is compared: the day on which a case was filed, the ends of its deadlines and which of them were ended, and the
+//! hearings of its motions.
 ghost use Rattle.std.specs.Prelude.{◌≡◌, ◌++◌, map, IfOk, OnOk};
 ghost use Rattle.std.specs.List.{flat_map};
 ghost use Rattle.docket_shifts.specs.Sheets.{end_of, ends_in, filed_in, hearing_of, hearings_in};
@@ -7,7 +8,7 @@ use crate::texts::NumberedText;
 use court_clock::Day;
 use court_days::Court;
 use docket_rows::{SheetDeadline, SheetMotion, View};
-use office_texts::{push_hearing, push_shown};
+use office_texts::{push_and_ended, push_hearing, push_shown};
 use std::alloc::{AllocError, Global};
 
 // The day on which the case of a sheet was filed, where the view is one.
@@ -20,7 +21,7 @@ pub(crate) fn filed_in(view: &View) -> Option<Day>
     }
 }
 
-// The end of a deadline, as answers show it.
+// The end of a deadline, as answers show it, and why it is due no more, if it was ended.
 fn end_of(
     alloc: Global,
     court: &Court,
@@ -30,6 +31,7 @@ fn end_of(
 {
     let mut text = String::new(alloc);
     push_shown(&mut text, court.clock(), &deadline.shown)?;
+    push_and_ended(&mut text, deadline.ended)?;
     Ok(NumberedText {
         number: deadline.number,
         text,

@@ -9,6 +9,7 @@ ghost use Rattle.docket_shifts.specs.Compared.{rows_shown};
 ghost use Rattle.docket_shifts.specs.Sheets.{ends_in, hearings_in};
 ghost use Rattle.docket_shifts.specs.Shifts.{case_shifts, kept_line, lines_of, new_line, sheet_shifts, shifts, shifts_from};
 
+use crate::closings::push_closing;
 use crate::compared::Compared;
 use crate::filed::push_filed;
 use crate::line::push_shift;
@@ -170,6 +171,7 @@ fn push_sheets(
         filed_in(was),
         filed_in(is),
     )?;
+    push_closing(alloc, text, after.cases, case, was, is)?;
     push_ends(alloc, text, before, after, case, was, is)?;
     push_hearings(alloc, text, before, after, case, was, is)
 }

@@ -8,7 +8,7 @@ use Rattle.rule6.specs.declared.timeliness.Shown.{Shown}
 use Rattle.rule6.specs.declared.timeliness.Shown.TheVariants as shown
 use Rattle.hearing_slots.specs.declared.booking.Booking.{Booking}
 use Rattle.docket_rows.specs.declared.answer.Answer.{Answer}
-use Rattle.docket_rows.specs.declared.answer.Answer.TheVariants.{Started, Filed, Extended}
+use Rattle.docket_rows.specs.declared.answer.Answer.TheVariants.{Started, Filed, Extended, Resumed, Reset}
 use Rattle.docket_rows.specs.declared.sheet.Sheet.{Sheet}
 use Rattle.docket_rows.specs.declared.sheet.SheetDeadline.{SheetDeadline}
 use Rattle.docket_rows.specs.declared.sheet.SheetHearing.{SheetHearing}
@@ -34,13 +34,15 @@ module _ (a b : ClockView) (same : IsSameCourtClock a b) where
   unfolding answer_text
   answer_text_alike (Started number end) = ap (λ t. codes "deadline " ++ decimal number ++ codes " " ++ t) (shown_text_alike end)
   answer_text_alike (Extended end) = ap (λ t. codes "extended " ++ t) (shown_text_alike end)
+  answer_text_alike (Reset end) = ap (λ t. codes "reset " ++ t) (shown_text_alike end)
+  answer_text_alike (Resumed end) = ap (λ t. codes "resumed " ++ t) (shown_text_alike end)
   answer_text_alike (Filed true) = refl
   answer_text_alike other = refl
 
   deadline_line_alike : (d : SheetDeadline) → deadline_line a d ≡ deadline_line b d
   unfolding deadline_line
   deadline_line_alike d =
-      ap (λ t. codes "deadline " ++ decimal d.number ++ codes " " ++ period_text d.row.period ++ codes " " ++ t ++ codes " " ++ state_text d.state d.row.filed ++ 10 ∷ []) (shown_text_alike d.shown)
+      ap (λ t. codes "deadline " ++ decimal d.number ++ codes " " ++ period_text d.row.period ++ codes " " ++ t ++ codes " " ++ state_text d.state d.row.filed d.ended ++ 10 ∷ []) (shown_text_alike d.shown)
 
   deadline_lines_alike : (ds : List SheetDeadline) → flat_map (deadline_line a) ds ≡ flat_map (deadline_line b) ds
   deadline_lines_alike [] = refl

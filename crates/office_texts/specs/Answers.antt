@@ -3,7 +3,7 @@ use Rattle.std.specs.Prelude.{List, ℕ, true, false, ◌++◌, codes}
 use Rattle.std.specs.Fmt.{decimal}
 use Rattle.court_clock.specs.Words.{ClockView}
 use Rattle.docket_rows.specs.declared.answer.Answer.{Answer}
-use Rattle.docket_rows.specs.declared.answer.Answer.TheVariants.{Opened, Started, Filed, Extended, MotionEntered, Booked, Moved, Cancelled, HolidayEntered, OutageEntered, Refused}
+use Rattle.docket_rows.specs.declared.answer.Answer.TheVariants.{Opened, Started, Filed, Extended, Reset, MotionEntered, Booked, Moved, Cancelled, HolidayEntered, OutageEntered, Ended, Resumed, Closed, Reopened, Refused}
 use Rattle.office_texts.specs.Refusals.{refusal_text}
 use Rattle.office_texts.specs.Shown.{shown_text}
 
@@ -13,10 +13,15 @@ answer_text clock (Started number end) = codes "deadline " ++ decimal number ++ 
 answer_text clock (Filed true) = codes "filed timely"
 answer_text clock (Filed false) = codes "filed late"
 answer_text clock (Extended end) = codes "extended " ++ shown_text clock end
+answer_text clock (Reset end) = codes "reset " ++ shown_text clock end
 answer_text clock (MotionEntered number) = codes "motion " ++ decimal number
 answer_text clock Booked = codes "booked"
 answer_text clock Moved = codes "moved"
 answer_text clock Cancelled = codes "cancelled"
 answer_text clock HolidayEntered = codes "holiday entered"
 answer_text clock OutageEntered = codes "outage entered"
+answer_text clock Ended = codes "ended"
+answer_text clock Closed = codes "closed"
+answer_text clock Reopened = codes "reopened"
+answer_text clock (Resumed end) = codes "resumed " ++ shown_text clock end
 answer_text clock (Refused refusal) = codes "refused " ++ refusal_text refusal

@@ -30,6 +30,10 @@ pub fn push_answer(text: &mut String, clock: &Clock, answer: &Answer) -> Result<
             text.push_str("extended ")?;
             push_shown(text, clock, shown)
         }
+        Answer::Reset(shown) => {
+            text.push_str("reset ")?;
+            push_shown(text, clock, shown)
+        }
         Answer::MotionEntered(number) => {
             text.push_str("motion ")?;
             push_number(text, u64::from(*number))
@@ -39,6 +43,13 @@ pub fn push_answer(text: &mut String, clock: &Clock, answer: &Answer) -> Result<
         Answer::Cancelled => text.push_str("cancelled"),
         Answer::HolidayEntered => text.push_str("holiday entered"),
         Answer::OutageEntered => text.push_str("outage entered"),
+        Answer::Ended => text.push_str("ended"),
+        Answer::Closed => text.push_str("closed"),
+        Answer::Reopened => text.push_str("reopened"),
+        Answer::Resumed(shown) => {
+            text.push_str("resumed ")?;
+            push_shown(text, clock, shown)
+        }
         Answer::Refused(refusal) => {
             text.push_str("refused ")?;
             push_refusal(text, refusal)

@@ -10,7 +10,7 @@ use rule_periods::{Entered, Length, Period};
 use rule6::Act;
 use std::alloc::AllocError;
 
-/// Adds the code of a period that the Rules set, the five words of one that a court enters, or the two of a day that an order sets.
+/// Adds the code of a period that the Rules set, the five words of one that a court enters, or the two of an end that an order sets.
 #[tactic(auto, unfolding(crate::specs::Periods::period_text))]
 pub(crate) fn push_period(text: &mut String, period: &Period) -> Result<(), AllocError>
     ensures { OnOk result (AddsText text.old text.new (period_text period.now)) }
@@ -31,7 +31,7 @@ fn push_entered(text: &mut String, entered: &Entered) -> Result<(), AllocError>
     }
 }
 
-/// Adds the two words of a day that an order sets.
+/// Adds the two words of an end that an order sets.
 fn push_set(text: &mut String, entered: &Entered) -> Result<(), AllocError>
     ensures { OnOk result (AddsText text.old text.new (set_text entered.now)) }
 {
@@ -67,7 +67,7 @@ fn push_length(text: &mut String, length: Length) -> Result<(), AllocError>
             push_number(text, u64::from(hours))?;
             text.push_str("h")
         }
-        Length::ToDay => text.push_str("set"),
+        Length::ToDay | Length::ToTime => text.push_str("set"),
     }
 }
 

@@ -5,12 +5,12 @@ mod motions;
 ghost use Rattle.std.specs.Prelude.{OnOk};
 ghost use Rattle.std.specs.List.{flat_map};
 ghost use Rattle.office_texts.specs.Added.{AddsText};
-ghost use Rattle.office_texts.specs.Sheets.{case_line, deadline_line, motion_lines, sheet_lines};
+ghost use Rattle.office_texts.specs.Sheets.{and_closed_text, case_line, deadline_line, motion_lines, sheet_lines};
 
 use court_clock::Clock;
 use court_days::Court;
-pub use deadlines::push_deadline;
-use docket_rows::{Sheet, SheetDeadline, SheetMotion};
+pub use deadlines::{push_and_ended, push_deadline, push_ended};
+use docket_rows::{Closure, Sheet, SheetDeadline, SheetMotion};
 pub use motions::push_hearing;
 use motions::push_motion;
 use std::alloc::AllocError;
@@ -32,7 +32,22 @@ pub fn push_case(text: &mut String, sheet: &Sheet) -> Result<(), AllocError>
 {
     let case = sheet.case;
     let filed = sheet.filed;
-    write!(text, "case {case} filed {filed}\n")
+    write!(text, "case {case} filed {filed}")?;
+    push_and_closed(text, sheet.closed)?;
+    text.push_str("\n")
+}
+
+/// Adds how a case was closed after what is said of it, if it was. `Err` says that memory ran out.
+pub fn push_and_closed(text: &mut String, closed: Option<Closure>) -> Result<(), AllocError>
+    ensures { OnOk result (AddsText text.old text.new (and_closed_text closed)) }
+{
+    match closed {
+        None => Ok(()),
+        Some(Closure { why, dated }) => {
+            write!(text, ", closed {dated} ")?;
+            text.push_str(why.word())
+        }
+    }
 }
 
 /// Adds a line for each deadline. `Err` says that memory ran out.

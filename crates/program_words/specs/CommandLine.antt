@@ -80,7 +80,9 @@ check_line = with_rule (with_rule (with_rule (new_app (codes "check")) (place_ru
 
 -- the names and the hours that a court has of its own
 abbrev pub with_own : App → App
-with_own line = with_rule (with_rule (with_rule (with_rule line (text_rule (codes "judges"))) (text_rule (codes "rooms"))) (text_rule (codes "opens"))) (text_rule (codes "closes"))
+with_own line =
+    with_rule (with_rule (with_rule (with_rule (with_rule line (text_rule (codes "judges"))) (text_rule (codes "rooms"))) (text_rule (codes "opens"))) (text_rule (codes "closes")))
+    (text_rule (codes "efiling-until"))
 
 abbrev pub write_line : App
 write_line = with_own (with_rule (with_rule (with_rule (new_app (codes "write")) (needed_rule (codes "court"))) (needed_rule (codes "from"))) (needed_rule (codes "to")))

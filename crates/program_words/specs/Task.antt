@@ -148,13 +148,15 @@ pub record IsWriting (given : List Row) (writing : Writing) : Type 0 where
   pub to : option_and_then year_of (first_of (codes "to") given) ≡ Some writing.to
   pub opens : writing.opens ≡ option_and_then minute_of_text (first_of (codes "opens") given)
   pub closes : writing.closes ≡ option_and_then minute_of_text (first_of (codes "closes") given)
+  pub efiling_until : writing.efiling_until ≡ option_and_then minute_of_text (first_of (codes "efiling-until") given)
   pub judges : option_map string_bytes writing.judges ≡ first_of (codes "judges") given
   pub rooms : option_map string_bytes writing.rooms ≡ first_of (codes "rooms") given
 
 abbrev pub writing_faults : List Row → Kinds
 writing_faults given =
     or_else (or_else (faults_reading year_of (first_of (codes "from") given)) (faults_reading year_of (first_of (codes "to") given)))
-    (or_else (faults_if_given minute_of_text (first_of (codes "opens") given)) (faults_if_given minute_of_text (first_of (codes "closes") given)))
+    (or_else (or_else (faults_if_given minute_of_text (first_of (codes "opens") given)) (faults_if_given minute_of_text (first_of (codes "closes") given)))
+    (faults_if_given minute_of_text (first_of (codes "efiling-until") given)))
 
 -- years that are added to a court's file
 pub record IsUpdating (given : List Row) (updating : Updating) : Type 0 where

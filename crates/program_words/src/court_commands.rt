@@ -53,6 +53,8 @@ const OPENS: &str = "When the clerk's office opens (08:30)";
 
 const CLOSES: &str = "When it closes (17:00)";
 
+const EFILING_UNTIL: &str = "To when e-filing runs, by a local rule (midnight)";
+
 const UPDATE: &str = "Add years to a folder's court's file, if no answer changes by it";
 
 const UPDATE_MORE: &str =
@@ -119,7 +121,8 @@ fn with_own<'a>(alloc: Global, command: Command<'a>) -> Result<Command<'a>, Allo
     let command = with_text(alloc, command, "judges", "FILE", JUDGES)?;
     let command = with_text(alloc, command, "rooms", "FILE", ROOMS)?;
     let command = with_text(alloc, command, "opens", "HH:MM", OPENS)?;
-    with_text(alloc, command, "closes", "HH:MM", CLOSES)
+    let command = with_text(alloc, command, "closes", "HH:MM", CLOSES)?;
+    with_text(alloc, command, "efiling-until", "HH:MM", EFILING_UNTIL)
 }
 
 /// The command, which also takes whether a file is taken though answers differ, and how long to wait for others.

@@ -51,6 +51,13 @@ pub(crate) fn push_range(
         Refusal::NoSuchJudge => push_ours(text, NO_JUDGE),
         Refusal::NoSuchRoom => push_ours(text, "the court's file names no such room"),
         Refusal::BadPanel => push_ours(text, "a panel is one to three judges, each once"),
+        Refusal::CaseIsClosed => push_ours(text, "the case is closed; `reopen` opens it again"),
+        Refusal::NotClosed => push_ours(text, "the case isn't closed; `close` closes one"),
+        Refusal::AlreadyEnded => push_ours(
+            text,
+            "the deadline is ended; `resume` takes it up again",
+        ),
+        Refusal::NotEnded => push_ours(text, "the deadline isn't ended; `end` ends one"),
         _ => Ok(()),
     }
 }
@@ -131,6 +138,7 @@ fn push_full(text: &mut String, command: &Command) -> Result<(), AllocError>
         Command::Motion { .. } => push_ours(text, "a case has 64 motions at most"),
         Command::Holiday { .. } => push_ours(text, "a list of holidays has 4096 dates at most"),
         Command::Inaccessible { .. } => push_ours(text, "the docket has 512 outages at most"),
+        Command::Fact { .. } => push_ours(text, "a case has 512 such rows at most"),
         _ => Ok(()),
     }
 }

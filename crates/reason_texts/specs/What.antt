@@ -7,7 +7,7 @@ use Rattle.court_clock.specs.declared.direction.Direction.TheVariants.{After, Be
 use Rattle.court_clock.specs.Words.{ClockView, civil_of}
 use Rattle.court_days.specs.Words.{OutageView}
 use Rattle.rule_periods.specs.declared.grant.Grant.{Grant}
-use Rattle.rule_periods.specs.declared.grant.Grant.TheVariants.{ByDays, ByHours, Until}
+use Rattle.rule_periods.specs.declared.grant.Grant.TheVariants.{ByDays, ByHours, Until, Reset, ResetAt}
 use Rattle.rule6.specs.declared.service.ServiceKind.{ServiceKind}
 use Rattle.rule6.specs.declared.service.ServiceKind.TheVariants.{HandA, LeftB, MailC, ClerkD, ElectronicE, OtherF}
 use Rattle.deadline_reasons.specs.declared.reason.Cause.{Cause}
@@ -15,7 +15,7 @@ use Rattle.deadline_reasons.specs.declared.reason.Cause.TheVariants as cause
 use Rattle.deadline_reasons.specs.declared.reason.Reason.{Reason}
 use Rattle.deadline_reasons.specs.declared.reason.Reason.TheVariants as reason
 use Rattle.reason_texts.specs.Names.{NamedDay, legal_text, name_on}
-use Rattle.reason_texts.specs.Times.{minute_time, time_of_civil}
+use Rattle.reason_texts.specs.Times.{day_end_time, minute_time, time_of_civil}
 
 abbrev pub cause_text : Cause → List ℕ
 cause_text cause.Saturday = codes "Saturday"
@@ -52,11 +52,21 @@ kind_text OtherF = codes "by other means"
 abbrev pub days_or_hours : ℕ → (one many : List ℕ) → List ℕ
 days_or_hours n one many = decimal n ++ (if n == 1 then one else many)
 
--- the date to which a time is extended is in the column before it
+-- what is done: the time is extended, or an order sets another end
+abbrev pub grant_words : Grant → List ℕ
+grant_words (ByDays n) = codes "extended "
+grant_words (ByHours h) = codes "extended "
+grant_words (Until day) = codes "extended "
+grant_words (Reset day) = codes "reset "
+grant_words (ResetAt at) = codes "reset "
+
+-- the date to which a time is extended or reset is in the column before it
 abbrev pub grant_text : Grant → List ℕ
 grant_text (ByDays n) = codes "by " ++ days_or_hours n (codes " day") (codes " days")
 grant_text (ByHours h) = codes "by " ++ days_or_hours h (codes " hour") (codes " hours")
 grant_text (Until day) = codes "to this day"
+grant_text (Reset day) = codes "to this day by an order"
+grant_text (ResetAt at) = codes "to " ++ minute_time at.minute ++ codes " of this day by an order"
 
 -- That the clocks were set forward or back meanwhile. The number is that of the seconds by which the clock is further
 -- ahead at the end of the hours than where they begin. Hours before an event end earlier than they begin.
@@ -78,16 +88,21 @@ hours_text clock direction hours end forward =
 abbrev pub outage_text : OutageView → List ℕ
 outage_text outage = minute_time outage.from ++ codes " to " ++ minute_time outage.to
 
+-- `17:00, e-filing to midnight`: the first time is when the clerk's office is scheduled to close
+abbrev pub end_times : (closes : ℕ) → (until : Option ℕ) → List ℕ
+end_times closes until = minute_time closes ++ codes ", e-filing to " ++ day_end_time until
+
 -- the words that a reason begins with
 abbrev pub first_words : Reason → List ℕ
 first_words (reason.Excluded day) = codes "day of the event, excluded"
 first_words (reason.Set day) = codes "set for this day by an order"
+first_words (reason.SetAt instant) = codes "set by an order for "
 first_words (reason.Counted n day) = codes "day "
 first_words (reason.PassedOver day cause) = []
 first_words (reason.RunsTo day) = codes "the time runs to this day"
 first_words (reason.ThreeAdded kind) = codes "3 days added, served "
-first_words (reason.Extended grant) = codes "extended "
-first_words (reason.NotExtended grant) = codes "not extended "
+first_words (reason.Extended grant) = grant_words grant
+first_words (reason.NotExtended grant) = codes "not "
 first_words (reason.HoursFrom instant) = codes "the event, at "
 first_words (reason.HoursCounted h instant forward) = codes "hour "
 first_words (reason.EndsOn day) = codes "the hours end on this day"
@@ -96,7 +111,7 @@ first_words (reason.SameTime day instant) = codes "the same time, "
 first_words (reason.Inaccessible outage) = codes "clerk's office inaccessible "
 first_words (reason.LastHour outage day second) = codes "clerk's office inaccessible "
 first_words (reason.UntilMidnight day) = codes "last day, to midnight"
-first_words (reason.UntilClosing day minute) = codes "last day, to "
+first_words (reason.UntilClosing day closes until) = codes "last day, to "
 first_words (reason.UntilInstant instant) = codes "the time ends at "
 first_words reason.NotCovered = codes "a day that is needed isn't covered"
 first_words reason.Beyond = codes "beyond the days covered"
@@ -107,13 +122,14 @@ detail_text clock names direction (reason.Counted n day) = decimal n
 detail_text clock names direction (reason.PassedOver day cause) = cause_shown names day cause
 detail_text clock names direction (reason.ThreeAdded kind) = kind_text kind
 detail_text clock names direction (reason.Extended grant) = grant_text grant
-detail_text clock names direction (reason.NotExtended grant) = grant_text grant
+detail_text clock names direction (reason.NotExtended grant) = grant_words grant ++ grant_text grant
+detail_text clock names direction (reason.SetAt instant) = time_of_civil (civil_of clock.zone instant)
 detail_text clock names direction (reason.HoursFrom instant) = time_of_civil (civil_of clock.zone instant)
 detail_text clock names direction (reason.HoursCounted h instant forward) = hours_text clock direction h instant forward
 detail_text clock names direction (reason.SameTime day instant) = time_of_civil (civil_of clock.zone instant)
 detail_text clock names direction (reason.Inaccessible outage) = outage_text outage
 detail_text clock names direction (reason.LastHour outage day second) = outage_text outage
-detail_text clock names direction (reason.UntilClosing day minute) = minute_time minute
+detail_text clock names direction (reason.UntilClosing day closes until) = end_times closes until
 detail_text clock names direction (reason.UntilInstant instant) = time_of_civil (civil_of clock.zone instant)
 detail_text clock names direction r = []
 
@@ -121,8 +137,6 @@ detail_text clock names direction r = []
 abbrev pub last_words : Reason → List ℕ
 last_words (reason.Counted n day) = codes ", every day counted"
 last_words (reason.PassedOver day cause) = codes ", passed over"
--- the first time is when the clerk's office is scheduled to close
-last_words (reason.UntilClosing day minute) = codes ", e-filing to midnight"
 last_words r = []
 
 -- what happened, where the days of holidays have these names and hours are counted in this direction

@@ -21,5 +21,5 @@ pub use note::push_note;
 pub use periods::{event_words, push_heading, rule_section, rule_words};
 pub use section::push_section;
 pub use spaces::push_spaces;
-pub use times::{push_minute, push_second, push_time_at};
+pub use times::{push_day_end, push_minute, push_second, push_time_at};
 pub use what::push_what;

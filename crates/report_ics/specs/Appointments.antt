@@ -1,5 +1,5 @@
 -- What a calendar program shows: what is selected of the docket, and what was taken off the calendar.
-use Rattle.std.specs.Prelude.{ℕ, ℤ, ◌==◌, Bool, true, false, ◌&&◌, ◌||◌, not, List, ◌++◌, Option, Some, None, is_some, length, map, option_to_list, if◌then◌else◌}
+use Rattle.std.specs.Prelude.{ℕ, ℤ, ◌==◌, Bool, true, ◌&&◌, ◌||◌, not, List, ◌++◌, Option, Some, None, is_some, length, map, option_to_list, if◌then◌else◌}
 use Rattle.std.specs.List.{flat_map, list_all, list_any, range_with_len}
 use Rattle.std.specs.Option.{option_and_then}
 use Rattle.docket_rows.specs.Words.{last_case}
@@ -7,14 +7,14 @@ use Rattle.docket_selection.specs.declared.choice.Choice.{Choice}
 use Rattle.docket_selection.specs.declared.item.DueItem.{DueItem}
 use Rattle.docket_selection.specs.declared.item.Matter.{Matter}
 use Rattle.docket_selection.specs.declared.item.Matter.TheVariants.{Deadline, Hearing}
-use Rattle.docket_selection.specs.Words.{is_due, set_item}
+use Rattle.docket_selection.specs.Words.{is_due, is_ended, set_item}
 use Rattle.docket_selection.specs.declared.changes.history.HearingHistory.{HearingHistory}
 use Rattle.docket_selection.specs.Changes.Words.{FollowedChanges, history_of, motions_named, revision_of}
 use Rattle.report_ics.specs.declared.appointment.Appointment.{Appointment}
 
--- an item as it is set
+-- an item as it is set; a deadline that was ended is off
 abbrev pub appointment_of : FollowedChanges → DueItem → Appointment
-appointment_of followed item = record { item = item; revision = revision_of item.case followed.changes; cancelled = false }
+appointment_of followed item = record { item = item; revision = revision_of item.case followed.changes; cancelled = is_ended item.matter }
 
 -- a hearing as it was set last
 abbrev pub item_of : (case number : ℕ) → HearingHistory → DueItem

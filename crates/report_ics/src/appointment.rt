@@ -8,7 +8,7 @@ use crate::left::push_off_deadlines;
 use crate::lost::push_lost;
 use court_clock::{Day, Instant};
 use docket_rows::Hearing;
-use docket_selection::{Choice, DueItem, DueTypes, HearingHistories};
+use docket_selection::{Choice, DueItem, DueTypes, HearingHistories, is_ended};
 use hearing_slots::Panel;
 use std::alloc::{AllocError, Global};
 
@@ -66,13 +66,13 @@ fn push_items(
     Ok(())
 }
 
-/// The item, as it is set.
+/// The item, as it is set; a deadline that was ended is off.
 fn appointment_of(histories: &HearingHistories, item: &DueItem) -> Appointment
     ensures { result ≡ appointment_of histories.now item.now }
 {
     Appointment {
         item: *item,
         revision: histories.revision(item.case),
-        cancelled: false,
+        cancelled: is_ended(&item.matter),
     }
 }

@@ -4,20 +4,20 @@ ghost use Rattle.std.specs.Prelude.{◌≡◌, ◌++◌, OnOk, codes};
 ghost use Rattle.reason_texts.specs.Words.{second_time};
 ghost use Rattle.content_lines.specs.Words.{property, sent, sent_line};
 ghost use Rattle.office_texts.specs.Words.{AddsText};
-ghost use Rattle.report_ics.specs.Events.{affidavits_back, affidavits_front, affidavits_words, closing_words, deadline_name, deadline_words, described, description, end_words, hearing_words, lost_words, midnight_words, name_words, notice_front, off_deadline, off_words, paper_words, place_lines, reading_front, reading_words, rule_front, rule_period_words, state_words, summary, until_back, until_front, what_words, word_lines};
+ghost use Rattle.report_ics.specs.Events.{affidavits_back, affidavits_front, affidavits_words, closing_words, day_words, deadline_name, deadline_words, described, description, end_words, hearing_words, lost_words, midnight_words, minute_front, name_words, notice_front, off_deadline, off_end, off_words, paper_words, place_lines, reading_front, reading_words, rule_front, rule_period_words, state_words, summary, until_back, until_front, what_words, word_lines};
 
 use crate::appointment::Appointment;
 use case_numbers::push_case_text;
 use content_lines::push_property;
 use court_clock::{Clock, Day};
 use court_days::Court;
-use docket_rows::{SheetHearing, State};
+use docket_rows::{Ending, SheetHearing, State};
 use docket_selection::{DueDeadline, Matter};
-use office_texts::{push_number, room_name};
+use office_texts::{push_and_ended, push_number, room_name};
 use reason_texts::{event_words, push_minute, push_second, rule_section, rule_words};
 use report_texts::{Labels, push_given, push_matter, push_period};
 use rule_periods::{Period, RulePeriod};
-use rule6::{Act, Shown};
+use rule6::{Act, Means, Shown, day_end};
 use std::alloc::AllocError;
 use std::fmt::Write;
 
@@ -96,12 +96,21 @@ fn off_words(cancelled: bool, matter: &Matter) -> &'static str
     }
     match matter {
         Matter::Hearing(_) => "Cancelled: ",
-        Matter::Deadline(due) => off_deadline(&due.shown),
+        Matter::Deadline(due) => off_deadline(&due.shown, due.ended),
     }
 }
 
-fn off_deadline(shown: &Shown) -> &'static str
-    ensures { result.now ≡ off_deadline shown.now }
+fn off_deadline(shown: &Shown, ended: Option<Ending>) -> &'static str
+    ensures { result.now ≡ off_deadline shown.now ended }
+{
+    match ended {
+        Some(_) => "Cancelled: ",
+        None => off_end(shown),
+    }
+}
+
+fn off_end(shown: &Shown) -> &'static str
+    ensures { result.now ≡ off_end shown.now }
 {
     match *shown {
         Shown::Beyond => "Cancelled: ",
@@ -132,7 +141,8 @@ fn push_deadline_name(value: &mut String, number: u32, due: &DueDeadline) -> Res
     push_number(value, u64::from(number))?;
     value.push_str(": ")?;
     push_what(value, &due.period)?;
-    value.push_str(state_words(due.state))
+    value.push_str(state_words(due.state))?;
+    push_and_ended(value, due.ended)
 }
 
 /// Adds what is to be done within a period of the Rules, or an entered period in words.
@@ -310,7 +320,7 @@ fn push_end(value: &mut String, clock: &Clock, second: u32, shown: &Shown) -> Re
 {
     match *shown {
         Shown::Last { day: _, act } => {
-            push_midnight(value)?;
+            push_day(value, day_end(clock, act, Means::Electronic))?;
             push_closing(value, clock, act)
         }
         Shown::Until(_) => push_until(value, second),
@@ -339,6 +349,26 @@ fn push_until_back(value: &mut String) -> Result<(), AllocError>
     ensures { OnOk result (AddsText value.old value.new until_back) }
 {
     value.push_str(" on the court's clock")
+}
+
+/// Adds when a last day ends, at this minute or at midnight.
+fn push_day(value: &mut String, end: Option<u16>) -> Result<(), AllocError>
+    ensures { OnOk result (AddsText value.old value.new (day_words end)) }
+{
+    match end {
+        Some(minute) => {
+            push_minute_front(value)?;
+            push_minute(value, minute)
+        }
+        None => push_midnight(value),
+    }
+}
+
+#[tactic(auto, unfolding(crate::specs::Events::minute_front))]
+fn push_minute_front(value: &mut String) -> Result<(), AllocError>
+    ensures { OnOk result (AddsText value.old value.new minute_front) }
+{
+    value.push_str("The time ends on this day, at ")
 }
 
 #[tactic(auto, unfolding(crate::specs::Events::midnight_words))]

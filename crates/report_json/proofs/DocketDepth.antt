@@ -1,5 +1,5 @@
 -- How deep the values of a docket nest.
-use Rattle.std.proofs.Common.{◌≤◌, ◌+◌, ℕ, ℤ, List, [], ◌∷◌, ◌++◌, length, map, codes, slice_get, arith}
+use Rattle.std.proofs.Common.{◌≤◌, ◌+◌, ℕ, ℤ, List, [], ◌∷◌, ◌++◌, Option, Some, None, length, map, codes, slice_get, arith}
 use Rattle.std.specs.List.{range_with_len}
 use Rattle.std.specs.Option.{option_and_then}
 use Rattle.json.specs.Json.{Json, string, max_depth}
@@ -12,11 +12,14 @@ use Rattle.court_days.specs.Words.{CourtView}
 use Rattle.rule6.specs.declared.timeliness.Filing.{Filing}
 use Rattle.rule6.specs.declared.timeliness.Shown.{Shown}
 use Rattle.rule_periods.specs.declared.grant.Grant.{Grant}
+use Rattle.rule_periods.specs.declared.grant.Grant.TheVariants as grant
 use Rattle.rule_periods.specs.declared.period.Entered.{Entered}
 use Rattle.rule_periods.specs.Words.{DeadlineRowView, EventView}
 use Rattle.hearing_slots.specs.declared.booking.Booking.{Booking}
 use Rattle.docket_rows.specs.declared.answer.Answer.{Answer}
-use Rattle.docket_rows.specs.declared.answer.Answer.TheVariants.{Opened, Started, Filed, Extended, MotionEntered, Booked, Moved, Cancelled, HolidayEntered, OutageEntered, Refused}
+use Rattle.docket_rows.specs.declared.answer.Answer.TheVariants.{Opened, Started, Filed, Extended, Reset, MotionEntered, Booked, Moved, Cancelled, HolidayEntered, OutageEntered, Ended, Resumed, Closed, Reopened, Refused}
+use Rattle.docket_rows.specs.declared.fact.Closure.{Closure}
+use Rattle.docket_rows.specs.declared.fact.Ending.{Ending}
 use Rattle.docket_rows.specs.declared.refusal.Refusal.{Refusal}
 use Rattle.docket_rows.specs.declared.sheet.Sheet.{Sheet}
 use Rattle.docket_rows.specs.declared.sheet.SheetDeadline.{SheetDeadline}
@@ -44,13 +47,13 @@ use Rattle.report_json.specs.declared.answers.AnsweredRow.{AnsweredRow}
 use Rattle.report_json.specs.Answers.{answer_fields, answered_value, case_named, day_named, motion_named, refusal_fields, refusal_front, refusal_value, reply_fields, row_fields, view_fields}
 use Rattle.report_json.specs.Bookings.{booked_fields, booking_fields, booking_value, calendar_fields, calendar_value}
 use Rattle.report_json.specs.Cases.{case_fields, name_fields}
-use Rattle.report_json.specs.Deadlines.{deadline_fields, deadline_value, docketed_fields, end_of, event_value, filed_fields, filed_value, last_day_of, outcome_fields, shown_fields, shown_value, started_fields}
-use Rattle.report_json.specs.Document.{answers_from, court_value, court_fields, document_fields, document_value}
+use Rattle.report_json.specs.Deadlines.{deadline_fields, deadline_value, docketed_fields, end_of, ended_fields, event_value, filed_fields, filed_value, last_day_of, outcome_fields, shown_fields, shown_value, started_fields}
+use Rattle.report_json.specs.Document.{answers_from, court_value, court_fields, document_fields, document_value, office_fields, until_fields}
 use Rattle.report_json.specs.Motions.{hearing_fields, hearing_value, motion_fields, motion_value, notice_days_of}
 use Rattle.report_json.specs.Names.{judges_value, name_value, names_from}
-use Rattle.report_json.specs.Periods.{code_of, day_of_grant, days_of_grant, days_of_length, entered_fields, entered_of, entered_value, grant_fields, grant_value, hours_of_grant, hours_of_length, service_value}
+use Rattle.report_json.specs.Periods.{code_of, day_of_grant, days_of_grant, days_of_length, entered_fields, entered_of, entered_value, extension_fields, grant_fields, grant_value, hours_of_grant, hours_of_length, order_fields, service_value}
 use Rattle.report_json.specs.Reasons.{case_value, explained_fields, explained_sheet_fields, explained_value, instant_shown, reason_fields, reason_value, reason_values, reasons_field, why_fields}
-use Rattle.report_json.specs.Sheets.{sheet_docketed, sheet_fields, sheet_value, sheet_with}
+use Rattle.report_json.specs.Sheets.{closed_fields, lists_docketed, sheet_docketed, sheet_fields, sheet_value, sheet_with}
 use Rattle.report_json.specs.Times.{day_value, happened_fields, instant_value}
 use Rattle.report_json.specs.Values.{amount, field, or_null}
 use Rattle.report_json.proofs.DepthLemmas.{AllWithin, FieldsWithin, append_within, array_within, deeper_within, happened_within, instant_within, list_within, name_within, nullable, object_within, span_within}
@@ -58,10 +61,20 @@ use Rattle.report_json.proofs.DepthLemmas.{AllWithin, FieldsWithin, append_withi
 flat : 0 ≤ 0
 flat = omega arith
 
+extension_within : (g : Grant) → FieldsWithin 0 (extension_fields g)
+extension_within g =
+    (nullable amount 0 (λ _. flat) (days_of_grant g), (nullable amount 0 (λ _. flat) (hours_of_grant g), (nullable day_value 0 (λ _. flat) (day_of_grant g), tt)))
+
+order_within : (g : Grant) → FieldsWithin 0 (order_fields g)
+order_within (grant.ByDays n) = tt
+order_within (grant.ByHours n) = tt
+order_within (grant.Until day) = tt
+order_within (grant.Reset day) = (flat, tt)
+order_within (grant.ResetAt at) = (flat, (flat, tt))
+
 grant_within : (g : Grant) → depth (grant_value g) ≤ 1
 unfolding grant_value
-grant_within g =
-    object_within 0 (grant_fields g) (nullable amount 0 (λ _. flat) (days_of_grant g), (nullable amount 0 (λ _. flat) (hours_of_grant g), (nullable day_value 0 (λ _. flat) (day_of_grant g), tt)))
+grant_within g = object_within 0 (grant_fields g) (append_within 0 (extension_fields g) (order_fields g) (extension_within g) (order_within g))
 
 entered_within : (e : Entered) → depth (entered_value e) ≤ 1
 unfolding entered_value
@@ -101,11 +114,15 @@ docketed_within zone d =
     let entered = nullable entered_value 2 (λ e. let h = entered_within e in omega arith) (entered_of d.row.period) in
     (omega arith, (period, (entered, started_within zone d.row)))
 
+ended_within : (n : ℕ) (ended : Option Ending) → FieldsWithin n (ended_fields ended)
+ended_within n (Some why) = (omega arith, tt)
+ended_within n None = tt
+
 outcome_within : (zone : TimeZone) (d : SheetDeadline) → FieldsWithin 2 (outcome_fields zone d)
 unfolding outcome_fields
 outcome_within zone d =
-    append_within 2 (shown_fields zone d.shown) (field (codes "state") (string (state_word d.state)) ∷ field (codes "filed") (or_null (filed_value zone) d.row.filed) ∷ []) (deeper_within 0 2 (shown_fields zone d.shown) (omega arith) (shown_within zone d.shown))
-    (omega arith, (nullable (filed_value zone) 2 (λ f. let h = filed_within zone f in omega arith) d.row.filed, tt))
+    append_within 2 (shown_fields zone d.shown) (field (codes "state") (string (state_word d.state)) ∷ field (codes "filed") (or_null (filed_value zone) d.row.filed) ∷ ended_fields d.ended) (deeper_within 0 2 (shown_fields zone d.shown) (omega arith) (shown_within zone d.shown))
+    (omega arith, (nullable (filed_value zone) 2 (λ f. let h = filed_within zone f in omega arith) d.row.filed, ended_within 2 d.ended))
 
 deadline_within : (zone : TimeZone) (d : SheetDeadline) → depth (deadline_value zone d) ≤ 3
 unfolding deadline_value
@@ -131,17 +148,25 @@ named_within : (n : ℕ) (named : List NamedCase) (case : ℕ) → FieldsWithin 
 unfolding case_fields
 named_within n named case = (omega arith, name_within n (name_of named case))
 
-sheet_with_within : {D : Type 0} (value : D → Json) → ((d : D) → depth (value d) ≤ 3) → (court : CourtView) (named : List NamedCase) (case : ℕ) (filed : ℤ) (deadlines : List D) (motions : List SheetMotion)
-    → FieldsWithin 4 (sheet_with value court named case filed deadlines motions)
+closed_within : (n : ℕ) (closed : Option Closure) → FieldsWithin n (closed_fields closed)
+closed_within n (Some c) = (omega arith, (omega arith, tt))
+closed_within n None = tt
+
+lists_within : {D : Type 0} (value : D → Json) → ((d : D) → depth (value d) ≤ 3) → (court : CourtView) (deadlines : List D) (motions : List SheetMotion) → FieldsWithin 4 (lists_docketed value court deadlines motions)
+unfolding lists_docketed
+lists_within value within court deadlines motions = (array_within value 3 within deadlines, (array_within _ 3 (motion_within court) motions, tt))
+
+sheet_with_within : {D : Type 0} (value : D → Json) → ((d : D) → depth (value d) ≤ 3) → (court : CourtView) (named : List NamedCase) (case : ℕ) (filed : ℤ) (closed : Option Closure) (deadlines : List D) (motions : List SheetMotion)
+    → FieldsWithin 4 (sheet_with value court named case filed closed deadlines motions)
 unfolding sheet_docketed
-sheet_with_within value within court named case filed deadlines motions =
-    append_within 4 (case_fields named case) (sheet_docketed value court filed deadlines motions) (named_within 4 named case)
-    (omega arith, (array_within value 3 within deadlines, (array_within _ 3 (motion_within court) motions, tt)))
+sheet_with_within value within court named case filed closed deadlines motions =
+    append_within 4 (case_fields named case) (sheet_docketed value court filed closed deadlines motions) (named_within 4 named case)
+    (omega arith, append_within 4 (closed_fields closed) (lists_docketed value court deadlines motions) (closed_within 4 closed) (lists_within value within court deadlines motions))
 
 sheet_within : (court : CourtView) (named : List NamedCase) (s : Sheet) → depth (sheet_value court named s) ≤ 5
 unfolding sheet_value
 sheet_within court named s =
-    object_within 4 (sheet_fields court named s) (sheet_with_within (deadline_value court.clock.zone) (deadline_within court.clock.zone) court named s.case s.filed s.deadlines s.motions)
+    object_within 4 (sheet_fields court named s) (sheet_with_within (deadline_value court.clock.zone) (deadline_within court.clock.zone) court named s.case s.filed s.closed s.deadlines s.motions)
 
 reason_within : (clock : ClockView) (course : Course) (r : Reason) → depth (reason_value clock course r) ≤ 1
 unfolding reason_value
@@ -164,7 +189,7 @@ explained_within clock e =
 case_within : (court : CourtView) (named : List NamedCase) (e : ExplainedSheet) → depth (case_value court named e) ≤ 5
 unfolding case_value
 case_within court named e =
-    object_within 4 (explained_sheet_fields court named e) (sheet_with_within (explained_value court.clock) (explained_within court.clock) court named e.case e.filed e.deadlines.items e.motions)
+    object_within 4 (explained_sheet_fields court named e) (sheet_with_within (explained_value court.clock) (explained_within court.clock) court named e.case e.filed e.closed e.deadlines.items e.motions)
 
 booking_within : (court : CourtView) (named : List NamedCase) (b : Booking) → depth (booking_value court named b) ≤ 1
 unfolding booking_value booked_fields
@@ -199,12 +224,17 @@ answer_within zone named Opened = (zero_five, tt)
 answer_within zone named (Started number end) = (zero_five, (zero_five, shown_deep zone end))
 answer_within zone named (Filed timely) = (zero_five, (zero_five, tt))
 answer_within zone named (Extended end) = (zero_five, shown_deep zone end)
+answer_within zone named (Reset end) = (zero_five, shown_deep zone end)
 answer_within zone named (MotionEntered number) = (zero_five, (zero_five, tt))
 answer_within zone named Booked = (zero_five, tt)
 answer_within zone named Moved = (zero_five, tt)
 answer_within zone named Cancelled = (zero_five, tt)
 answer_within zone named HolidayEntered = (zero_five, tt)
 answer_within zone named OutageEntered = (zero_five, tt)
+answer_within zone named Ended = (zero_five, tt)
+answer_within zone named Closed = (zero_five, tt)
+answer_within zone named Reopened = (zero_five, tt)
+answer_within zone named (Resumed end) = (zero_five, shown_deep zone end)
 answer_within zone named (Refused refusal) = (zero_five, (refusal_deep named refusal, tt))
 
 view_within : (court : CourtView) (named : List NamedCase) (v : View) → FieldsWithin 5 (view_fields court named v)
@@ -240,9 +270,15 @@ judges_within : (court : CourtView) → depth (judges_value court) ≤ 1
 unfolding names_from
 judges_within court = array_within (name_value court.judges) 0 (λ j. nullable string 0 (λ _. flat) _) (range_with_len 0 (length court.judges))
 
+until_within : (minute : Option ℕ) → FieldsWithin 1 (until_fields minute)
+until_within (Some minute) = (omega arith, tt)
+until_within None = tt
+
 court_within : (court : CourtView) → depth (court_value court) ≤ 2
 unfolding court_value
-court_within court = object_within 1 (court_fields court) (omega arith, (omega arith, (omega arith, (omega arith, (judges_within court, tt)))))
+court_within court =
+    object_within 1 (court_fields court)
+    (append_within 1 (office_fields court) (until_fields court.clock.efiling_until) (omega arith, (omega arith, (omega arith, (omega arith, (judges_within court, tt))))) (until_within court.clock.efiling_until))
 
 calendar_within : (court : CourtView) (named : List NamedCase) (c : JudgeCalendar) → depth (calendar_value court named c) ≤ 3
 unfolding calendar_value

@@ -1,5 +1,5 @@
 -- The whole: the court, what each row was answered, the sheets of the chosen cases and the calendars of the chosen judges.
-use Rattle.std.specs.Prelude.{◌≡◌, ℕ, List, [], ◌∷◌, ◌++◌, Some, map, codes}
+use Rattle.std.specs.Prelude.{◌≡◌, ℕ, List, [], ◌∷◌, ◌++◌, Option, Some, None, map, codes}
 use Rattle.std.specs.Str.{IsUtf8}
 use Rattle.json.specs.Json.{Json, document}
 use Rattle.json.specs.Print.{print}
@@ -24,14 +24,22 @@ use Rattle.report_json.specs.Times.{day_value, minute_value}
 use Rattle.report_json.specs.Values.{Field, array_of, field, object_of}
 
 -- when the clerk's office opens and closes, the first and the last day of the court's file, and its judges
-abbrev pub court_fields : CourtView → List Field
-court_fields court =
+abbrev pub office_fields : CourtView → List Field
+office_fields court =
     field (codes "opens") (minute_value court.clock.opens)
     ∷ field (codes "closes") (minute_value court.clock.closes)
     ∷ field (codes "from") (day_value court.days.from)
     ∷ field (codes "to") (day_value court.days.to)
     ∷ field (codes "judges") (judges_value court)
     ∷ []
+
+-- the minute to which electronic filing runs on a last day, if the court's file has one
+abbrev pub until_fields : (minute : Option ℕ) → List Field
+until_fields (Some minute) = field (codes "efiling_until") (minute_value minute) ∷ []
+until_fields None = []
+
+abbrev pub court_fields : CourtView → List Field
+court_fields court = office_fields court ++ until_fields court.clock.efiling_until
 
 unfoldable pub court_value : CourtView → Json
 court_value court = object_of (court_fields court)

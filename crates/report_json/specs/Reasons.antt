@@ -5,7 +5,7 @@ use Rattle.court_clock.specs.Words.{ClockView}
 use Rattle.case_numbers.specs.declared.names.NamedCase.{NamedCase}
 use Rattle.court_days.specs.Words.{CourtView}
 use Rattle.deadline_reasons.specs.declared.reason.Reason.{Reason}
-use Rattle.deadline_reasons.specs.declared.reason.Reason.TheVariants.{HoursFrom, HoursCounted, SameTime, UntilInstant}
+use Rattle.deadline_reasons.specs.declared.reason.Reason.TheVariants.{SetAt, HoursFrom, HoursCounted, SameTime, UntilInstant}
 use Rattle.reason_texts.specs.declared.course.Course.{Course}
 use Rattle.reason_texts.specs.Words.{course_after, course_of, day_shown, section_text, what_text}
 use Rattle.docket_selection.specs.declared.explained.explained.ExplainedDeadline.{ExplainedDeadline}
@@ -17,6 +17,7 @@ use Rattle.report_json.specs.Values.{Field, array_of, field, object_of, or_null}
 
 -- the instant that a reason is about, where it is about one
 abbrev pub instant_shown : Reason → Option ℤ
+instant_shown (SetAt instant) = Some instant
 instant_shown (HoursFrom instant) = Some instant
 instant_shown (HoursCounted hours instant forward) = Some instant
 instant_shown (SameTime day instant) = Some instant
@@ -56,7 +57,7 @@ explained_value clock e = object_of (explained_fields clock e)
 
 -- a case, with the reasons of each of its deadlines
 abbrev pub explained_sheet_fields : CourtView → List NamedCase → ExplainedSheet → List Field
-explained_sheet_fields court named e = sheet_with (explained_value court.clock) court named e.case e.filed e.deadlines.items e.motions
+explained_sheet_fields court named e = sheet_with (explained_value court.clock) court named e.case e.filed e.closed e.deadlines.items e.motions
 
 unfoldable pub case_value : CourtView → List NamedCase → ExplainedSheet → Json
 case_value court named e = object_of (explained_sheet_fields court named e)

@@ -7,7 +7,7 @@ ghost use Rattle.docket_rows.specs.Words.{Rows, opening_rows, setup_of};
 ghost use Rattle.docket_core.specs.Words.{StandsFor};
 ghost use Rattle.office_texts.specs.Run.Words.{Holds, docketed_after};
 ghost use Rattle.row_forms.specs.Words.{rows_of};
-ghost use Rattle.report_json.specs.Document.{AreSheetsAfter, IsDocketJson, answers_from, calendars_field, court_fields, court_value, document_fields, document_value};
+ghost use Rattle.report_json.specs.Document.{AreSheetsAfter, IsDocketJson, answers_from, calendars_field, court_fields, court_value, document_fields, document_value, office_fields, until_fields};
 ghost use Rattle.report_json.specs.Values.{Adds, AddsFields, AddsValue, array_of, field};
 
 use crate::answers::AnsweredRow;
@@ -100,13 +100,36 @@ fn push_court_value(
     out.end_object()
 }
 
-/// Writes the hours of the clerk's office, the first and the last day, and the judges.
+/// Writes what the court's file says of the court.
+#[tactic(auto, using(crate::proofs::TokenLemmas::more_fields))]
 fn push_court_fields(
     out: &mut JsonWriter,
     court: &Court,
     labels: &Labels<'_>,
 ) -> Result<(), AllocError>
     ensures { OnOk result (AddsFields out.old out.new (court_fields court.now)) }
+{
+    push_office_fields(out, court, labels)?;
+    push_until(out, court.clock().efiling_until())
+}
+
+/// Writes the minute to which electronic filing runs on a last day, if there is one.
+fn push_until(out: &mut JsonWriter, minute: Option<u16>) -> Result<(), AllocError>
+    ensures { OnOk result (AddsFields out.old out.new (until_fields minute)) }
+{
+    match minute {
+        Some(minute) => out.minute_field("efiling_until", minute),
+        None => Ok(()),
+    }
+}
+
+/// Writes the hours of the clerk's office, the first and the last day, and the judges.
+fn push_office_fields(
+    out: &mut JsonWriter,
+    court: &Court,
+    labels: &Labels<'_>,
+) -> Result<(), AllocError>
+    ensures { OnOk result (AddsFields out.old out.new (office_fields court.now)) }
 {
     let clock = court.clock();
     out.minute_field("opens", clock.opens())?;

@@ -64,7 +64,8 @@ fn instant_shown(reason: &Reason) -> Option<Instant>
     ensures { result ≡ instant_shown reason.now }
 {
     match *reason {
-        Reason::HoursFrom(instant)
+        Reason::SetAt(instant)
+        | Reason::HoursFrom(instant)
         | Reason::HoursCounted(_, instant, _)
         | Reason::SameTime(_, instant)
         | Reason::UntilInstant(instant) => Some(instant),
@@ -173,6 +174,7 @@ impl ToFields for ExplainedSheet {
             labels,
             self.case,
             self.filed,
+            self.closed,
             self.deadlines.as_slice(),
             self.motions.as_slice(),
         )

@@ -1,14 +1,14 @@
 //! The sheets of cases.
 
 ghost use Rattle.std.specs.Prelude.{OnOk};
-ghost use Rattle.report_json.specs.Sheets.{sheet_docketed, sheet_with};
+ghost use Rattle.report_json.specs.Sheets.{closed_fields, lists_docketed, sheet_docketed, sheet_with};
 ghost use Rattle.report_json.specs.Values.{AddsFields};
 
 use crate::to_json::{ToFields, ToJson};
 use crate::writer::JsonWriter;
 use court_clock::Day;
 use court_days::Court;
-use docket_rows::{Sheet, SheetMotion};
+use docket_rows::{Closure, Sheet, SheetMotion};
 use report_texts::Labels;
 use std::alloc::AllocError;
 
@@ -20,28 +20,63 @@ pub(crate) fn push_sheet<D: ToJson>(
     labels: &Labels<'_>,
     case: u32,
     filed: Day,
+    closed: Option<Closure>,
     deadlines: &[D],
     motions: &[SheetMotion],
 ) -> Result<(), AllocError>
-    ensures { OnOk result (AddsFields out.old out.new (sheet_with (D.value court.now labels.now.cases) court.now labels.now.cases case filed deadlines.now motions.now)) }
+    ensures { OnOk result (AddsFields out.old out.new (sheet_with (D.value court.now labels.now.cases) court.now labels.now.cases case filed closed deadlines.now motions.now)) }
 {
     out.case_fields(court, labels, case)?;
-    push_docketed(out, court, labels, filed, deadlines, motions)
+    push_docketed(out, court, labels, filed, closed, deadlines, motions)
 }
 
-/// Writes when a case was filed, its deadlines and its motions.
-#[tactic(auto, unfolding(crate::specs::Sheets::sheet_docketed))]
+/// Writes when a case was filed, how it was closed, its deadlines and its motions.
+#[tactic(auto, unfolding(crate::specs::Sheets::sheet_docketed), using(crate::proofs::TokenLemmas::more_fields))]
 fn push_docketed<D: ToJson>(
     out: &mut JsonWriter,
     court: &Court,
     labels: &Labels<'_>,
     filed: Day,
+    closed: Option<Closure>,
     deadlines: &[D],
     motions: &[SheetMotion],
 ) -> Result<(), AllocError>
-    ensures { OnOk result (AddsFields out.old out.new (sheet_docketed (D.value court.now labels.now.cases) court.now filed deadlines.now motions.now)) }
+    ensures { OnOk result (AddsFields out.old out.new (sheet_docketed (D.value court.now labels.now.cases) court.now filed closed deadlines.now motions.now)) }
 {
     out.field(court, labels, "filed", &filed)?;
+    push_closed(out, court, labels, closed)?;
+    push_lists(out, court, labels, deadlines, motions)
+}
+
+/// Writes since when a case is closed, and how, if it is.
+fn push_closed(
+    out: &mut JsonWriter,
+    court: &Court,
+    labels: &Labels<'_>,
+    closed: Option<Closure>,
+) -> Result<(), AllocError>
+    ensures { OnOk result (AddsFields out.old out.new (closed_fields closed)) }
+{
+    match closed {
+        Some(Closure { why, dated }) => {
+            out.field(court, labels, "closed", &dated)?;
+            out.text_field("closing", why.word())
+        }
+        None => Ok(()),
+    }
+}
+
+/// Writes the deadlines of a case and its motions.
+#[tactic(auto, unfolding(crate::specs::Sheets::lists_docketed))]
+fn push_lists<D: ToJson>(
+    out: &mut JsonWriter,
+    court: &Court,
+    labels: &Labels<'_>,
+    deadlines: &[D],
+    motions: &[SheetMotion],
+) -> Result<(), AllocError>
+    ensures { OnOk result (AddsFields out.old out.new (lists_docketed (D.value court.now labels.now.cases) court.now deadlines.now motions.now)) }
+{
     out.list_field(court, labels, "deadlines", deadlines)?;
     out.list_field(court, labels, "motions", motions)
 }
@@ -63,6 +98,7 @@ impl ToFields for Sheet {
             labels,
             self.case,
             self.filed,
+            self.closed,
             self.deadlines.as_slice(),
             self.motions.as_slice(),
         )

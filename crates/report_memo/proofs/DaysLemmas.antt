@@ -32,6 +32,7 @@ made_same setup docketed (command.MoveHearing s) None is none = rw is refl
 made_same setup docketed (command.Cancel case motion) None is none = rw is refl
 made_same setup docketed (command.Holiday day list) None is none = absurd cc (rw is at none)
 made_same setup docketed (command.Inaccessible day from to) None is none = absurd cc (rw is at none)
+made_same setup docketed (command.Fact case fact) None is none = rw is refl
 
 same_days : (setup : CourtSetup) (docketed : Rows) (work : Work) → changes_days (reply_to setup docketed work) ≡ false → (docketed_then setup docketed work).days ≡ docketed.days
 unfolding step

@@ -3,6 +3,7 @@ use Rattle.std.specs.Prelude.{ℕ, ℤ, List, [], ◌++◌, Option, Some, None}
 use Rattle.std.specs.List.{flat_map}
 use Rattle.court_clock.specs.Words.{ClockView}
 use Rattle.court_days.specs.Words.{CourtView, DaysView}
+use Rattle.docket_rows.specs.declared.fact.Ending.{Ending}
 use Rattle.docket_rows.specs.declared.sheet.Sheet.{Sheet}
 use Rattle.docket_rows.specs.declared.sheet.SheetDeadline.{SheetDeadline}
 use Rattle.docket_rows.specs.declared.sheet.SheetHearing.{SheetHearing}
@@ -24,10 +25,10 @@ use Rattle.report_memo.specs.Reasons.{AreReasons}
 use Rattle.report_memo.specs.Sources.{source_lines}
 use Rattle.report_memo.specs.Texts.{Each, Is, Then}
 
--- how far the end of a deadline lies from a day, where one is given and no act is recorded
-abbrev pub ahead_if_pending : ClockView → (today : Option ℤ) → State → Shown → List ℕ
-ahead_if_pending clock (Some today) Pending shown = ahead_line clock today shown
-ahead_if_pending clock today state shown = []
+-- how far the end of a deadline lies from a day, where one is given, no act is recorded, and it wasn't ended
+abbrev pub ahead_if_pending : ClockView → (today : Option ℤ) → State → Option Ending → Shown → List ℕ
+ahead_if_pending clock (Some today) Pending None shown = ahead_line clock today shown
+ahead_if_pending clock today state ended shown = []
 
 -- what comes before the reasons of a deadline: its line, and on the whole sheet of a case the rows that made it what it is
 abbrev pub source_lines_if : Detail → (number : ℕ) → List ℕ
@@ -41,7 +42,7 @@ first_lines clock detail d = deadline_line clock d ++ source_lines_if detail d.n
 -- or late, how far the end lies from a day, and what a reader is warned of
 abbrev pub whole_lines : CourtView → DaysView → (filed : ℤ) → (today : Option ℤ) → SheetDeadline → List ℕ
 whole_lines court days filed today d =
-    recorded_lines days court.clock (Some d.row) ++ ahead_if_pending court.clock today d.state d.shown ++ deadline_notes days court.clock filed today d.row d.shown
+    recorded_lines days court.clock (Some d.row) ++ ahead_if_pending court.clock today d.state d.ended d.shown ++ deadline_notes days court.clock filed today d.row d.shown
 
 abbrev pub more_lines : CourtView → DaysView → (filed : ℤ) → Detail → SheetDeadline → List ℕ
 more_lines court days filed Reasons d = []

@@ -7,7 +7,7 @@ ghost use Rattle.report_memo.specs.Sheets.{ahead_if_pending, more_lines, motions
 use crate::detail::Detail;
 use court_clock::{Clock, Day};
 use court_days::{Court, Days};
-use docket_rows::{SheetDeadline, SheetHearing, SheetMotion, State};
+use docket_rows::{Ending, SheetDeadline, SheetHearing, SheetMotion, State};
 use office_texts::push_motions;
 use reason_notes::{push_ahead, push_deadline_notes, push_hearing_notes, push_recorded};
 use rule6::Shown;
@@ -48,7 +48,15 @@ fn push_whole(
 {
     let (clock, row) = (court.clock(), &deadline.row);
     push_recorded(alloc, text, days, clock, Some(row))?;
-    push_if_pending(alloc, text, clock, *today, deadline.state, &deadline.shown)?;
+    push_if_pending(
+        alloc,
+        text,
+        clock,
+        *today,
+        deadline.state,
+        deadline.ended,
+        &deadline.shown,
+    )?;
     push_deadline_notes(
         alloc,
         text,
@@ -61,19 +69,20 @@ fn push_whole(
     )
 }
 
-/// Adds how far the end of a deadline lies from a day, where one is given and no act is recorded.
+/// Adds how far the end of a deadline lies from a day, where one is given, no act is recorded, and it wasn't ended.
 fn push_if_pending(
     alloc: Global,
     text: &mut String,
     clock: &Clock,
     today: Option<Day>,
     state: State,
+    ended: Option<Ending>,
     shown: &Shown,
 ) -> Result<(), AllocError>
-    ensures { OnOk result (string_bytes text.new ≡ string_bytes text.old ++ ahead_if_pending clock.now today state shown.now) }
+    ensures { OnOk result (string_bytes text.new ≡ string_bytes text.old ++ ahead_if_pending clock.now today state ended shown.now) }
 {
-    match (today, state) {
-        (Some(today), State::Pending) => push_ahead(alloc, text, clock, today, shown),
+    match (today, state, ended) {
+        (Some(today), State::Pending, None) => push_ahead(alloc, text, clock, today, shown),
         _ => Ok(()),
     }
 }

@@ -8,9 +8,11 @@ use Rattle.court_clock.specs.Words.{ClockView}
 use Rattle.court_days.specs.Words.{CourtView, DaysView}
 use Rattle.rule6.specs.declared.timeliness.Shown.{Shown}
 use Rattle.rule_periods.specs.Words.{DeadlineRowView}
+use Rattle.docket_rows.specs.declared.fact.Closure.{Closure}
 use Rattle.docket_rows.specs.declared.sheet.SheetDeadline.{SheetDeadline}
 use Rattle.docket_rows.specs.declared.sheet.SheetHearing.{SheetHearing}
 use Rattle.docket_rows.specs.declared.sheet.SheetMotion.{SheetMotion}
+use Rattle.docket_rows.specs.Words.{closing_word}
 use Rattle.deadline_reasons.specs.declared.reason.Reason.{Reason}
 use Rattle.reason_texts.specs.Words.{course_of, reason_lines}
 use Rattle.reason_texts.specs.Periods.Words.{heading_lines}
@@ -36,7 +38,7 @@ end_cell clock shown (Some other) = element tag.Cell (text_in tag.Line (ends_wor
 -- the number of a deadline, its period, when its time ends, also by another reading, and whether it was met
 unfoldable pub deadline_row : ClockView → SheetDeadline → (other : Option Shown) → List ℕ
 deadline_row clock d other =
-    element tag.Row (text_in tag.RowHead (decimal d.number) ++ period_cell d.row ++ end_cell clock d.shown other ++ text_in (state_cell d.state) (state_words d.state d.row.filed))
+    element tag.Row (text_in tag.RowHead (decimal d.number) ++ period_cell d.row ++ end_cell clock d.shown other ++ text_in (state_cell d.state) (state_words d.state d.row.filed d.ended))
 
 -- `Reasons of deadline 3`
 unfoldable pub reasons_title : (number : ℕ) → List ℕ
@@ -97,14 +99,19 @@ motion_table court named case (m ∷ motions) =
 unfoldable pub case_title : List NamedCase → (case : ℕ) → List ℕ
 case_title named case = codes "Case " ++ case_text named case
 
+-- `, closed Mon 2025-11-03 settled`, if the case is closed
+abbrev pub closed_words : Option Closure → List ℕ
+closed_words None = []
+closed_words (Some c) = codes ", closed " ++ whole_day c.dated ++ codes " " ++ closing_word c.why
+
 -- `Filed Mon 2025-03-03`
-unfoldable pub filed_words : (filed : ℤ) → List ℕ
-filed_words filed = codes "Filed " ++ whole_day filed
+unfoldable pub filed_words : (filed : ℤ) → Option Closure → List ℕ
+filed_words filed closed = codes "Filed " ++ whole_day filed ++ closed_words closed
 
 -- the sheet of a case
 unfoldable pub case_part : CourtView → DaysByReadingView → LabelsView → ExplainedSheet → List ℕ
 case_part court days labels s =
-    element (tag.CaseSection s.case) (text_in tag.Heading3 (case_title labels.cases s.case) ++ text_in tag.Paragraph (filed_words s.filed) ++ deadline_table days court.clock labels s.case s.deadlines.items ++ motion_table court labels.cases s.case s.motions)
+    element (tag.CaseSection s.case) (text_in tag.Heading3 (case_title labels.cases s.case) ++ text_in tag.Paragraph (filed_words s.filed s.closed) ++ deadline_table days court.clock labels s.case s.deadlines.items ++ motion_table court labels.cases s.case s.motions)
 
 -- a part for each case, or that there is none
 abbrev pub case_parts : CourtView → DaysByReadingView → LabelsView → List ExplainedSheet → List ℕ

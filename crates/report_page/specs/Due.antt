@@ -25,7 +25,7 @@ matter_cell (Hearing h) = tag.Cell
 -- when it ends or takes place, its case, and what it is
 unfoldable pub due_row : CourtView → List NamedCase → DueItem → List ℕ
 due_row court named item =
-    element tag.Row (text_in tag.RowHead (time_words item.second item.matter) ++ case_cell named item.case ++ text_in (matter_cell item.matter) (matter_words court item.number item.matter))
+    element tag.Row (text_in tag.RowHead (time_words court.clock item.second item.matter) ++ case_cell named item.case ++ text_in (matter_cell item.matter) (matter_words court item.number item.matter))
 
 -- a row for the day, unless it is that of the item before
 abbrev pub day_row_if_new : (before : Option ℤ) → (day : ℤ) → List ℕ

@@ -2,13 +2,15 @@
 
 ghost use Rattle.std.specs.Prelude.{◌≡◌, ◌++◌, OnOk, string_bytes};
 ghost use Rattle.std.specs.List.{flat_map};
-ghost use Rattle.report_page.specs.Cases.{case_part, case_parts, case_title, cases_part, filed_words};
+ghost use Rattle.office_texts.specs.Words.{AddsText};
+ghost use Rattle.report_page.specs.Cases.{case_part, case_parts, case_title, cases_part, closed_words, filed_words};
 
 use crate::deadlines::push_deadlines;
 use crate::motions::push_motions;
 use case_numbers::push_case_text;
 use court_clock::Day;
 use court_days::{Court, Days};
+use docket_rows::Closure;
 use docket_selection::ExplainedSheet;
 use page_markup::{Page, Tag};
 use reason_notes::DaysByReading;
@@ -87,7 +89,7 @@ fn push_case(
     page.open(Tag::CaseSection(sheet.case))?;
     set_title(line, labels, sheet.case)?;
     page.text_in(Tag::Heading3, line)?;
-    set_filed(line, sheet.filed)?;
+    set_filed(line, sheet.filed, sheet.closed)?;
     page.text_in(Tag::Paragraph, line)?;
     push_deadlines(
         alloc,
@@ -120,12 +122,28 @@ fn set_title(line: &mut String, labels: &Labels<'_>, case: u32) -> Result<(), Al
     push_case_text(line, labels.cases, case)
 }
 
-/// Makes the line when a case was filed.
+/// Makes the line when a case was filed, and how it was closed, if it was.
 #[tactic(auto, unfolding(crate::specs::Cases::filed_words))]
-fn set_filed(line: &mut String, filed: Day) -> Result<(), AllocError>
-    ensures { OnOk result (string_bytes line.new ≡ filed_words filed) }
+fn set_filed(line: &mut String, filed: Day, closed: Option<Closure>) -> Result<(), AllocError>
+    ensures { OnOk result (string_bytes line.new ≡ filed_words filed closed) }
 {
     line.clear();
     line.push_str("Filed ")?;
-    push_whole_day(line, filed)
+    push_whole_day(line, filed)?;
+    push_closed(line, closed)
+}
+
+/// Adds how a case was closed, if it was.
+fn push_closed(line: &mut String, closed: Option<Closure>) -> Result<(), AllocError>
+    ensures { OnOk result (AddsText line.old line.new (closed_words closed)) }
+{
+    match closed {
+        None => Ok(()),
+        Some(Closure { why, dated }) => {
+            line.push_str(", closed ")?;
+            push_whole_day(line, dated)?;
+            line.push_str(" ")?;
+            line.push_str(why.word())
+        }
+    }
 }

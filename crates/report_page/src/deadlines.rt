@@ -123,7 +123,7 @@ fn push_row(
     page.text_in(Tag::RowHead, line)?;
     push_period_cell(alloc, page, line, &deadline.row)?;
     push_end_cell(page, line, clock, &deadline.shown, other)?;
-    set_state(line, deadline.state, deadline.row.filed())?;
+    set_state(line, deadline.state, deadline.row.filed(), deadline.ended)?;
     page.text_in(state_cell(deadline.state), line)?;
     page.close(Tag::Row)
 }

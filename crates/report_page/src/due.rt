@@ -128,7 +128,7 @@ fn push_row(
 {
     page.open(Tag::Row)?;
     line.clear();
-    push_time(line, item.second, &item.matter)?;
+    push_time(line, court.clock(), item.second, &item.matter)?;
     page.text_in(Tag::RowHead, line)?;
     push_case_cell(page, line, labels, item.case)?;
     line.clear();

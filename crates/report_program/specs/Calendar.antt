@@ -1,5 +1,5 @@
 -- What is written of a docket after all its rows.
-use Rattle.std.specs.Prelude.{◌≡◌, ℕ, ℤ, List, [], ◌++◌, Option, Some, None, codes, map, string_bytes, IsErrAnd, IsOkAnd, IsSome}
+use Rattle.std.specs.Prelude.{◌≡◌, ℕ, ℤ, List, [], ◌++◌, Option, Some, None, codes, length, map, string_bytes, IsErrAnd, IsOkAnd, IsSome}
 use Rattle.std.specs.declared.alloc.Global.{Global}
 use Rattle.std.specs.Prelude.{String}
 use Rattle.office_texts.specs.Names.Words.{called_text}
@@ -13,10 +13,10 @@ use Rattle.docket_rows.specs.declared.query.Query.TheVariants as query
 use Rattle.docket_rows.specs.Words.{CourtSetup, Rows, opening_rows, setup_of, view_of}
 use Rattle.docket_selection.specs.declared.choice.Choice.{Choice}
 use Rattle.docket_selection.specs.declared.item.DueItem.{DueItem}
-use Rattle.docket_selection.specs.Words.{IsDue, chosen_calendars, chosen_sheets, day_bookings, week_days}
+use Rattle.docket_selection.specs.Words.{IsDue, all_left_out, chosen_calendars, chosen_sheets, day_bookings, week_days}
 use Rattle.docket_selection.specs.declared.changes.change.RowChange.{RowChange}
 use Rattle.content_lines.specs.Words.{HasShortLines}
-use Rattle.report_texts.specs.Words.{LabelsView, due_text, numbered_calendar, numbered_day, numbered_item, week_text}
+use Rattle.report_texts.specs.Words.{LabelsView, due_text, left_out_line, numbered_calendar, numbered_day, numbered_item, week_text}
 use Rattle.report_ics.specs.Words.{appointments_of, icalendar_text}
 use Rattle.docket_selection.specs.declared.explained.explained.ExplainedSheet.{ExplainedSheet}
 use Rattle.docket_selection.specs.Explained.Words.{AreExplained}
@@ -47,11 +47,11 @@ pub record IsNumberedDue (setup : CourtSetup) (docketed : Rows) (labels : Labels
   pub due : IsDue setup docketed labels.doubtful choice items
   pub numbers : list ≡ map (numbered_item labels.moved) items
 
--- the text of what is due: a line for each item of the list of what is due
+-- the text of what is due: a line for each item of the list of what is due, and how many deadlines aren't there since they are ended
 pub record IsDueText (court : CourtView) (labels : LabelsView) (docketed : Rows) (choice : Choice) (text : List ℕ) : Type 0 where
   pub list : List DueItem
   pub due : IsNumberedDue (setup_of court) docketed labels choice list
-  pub lines : text ≡ due_text court labels.cases choice list
+  pub lines : text ≡ due_text court labels.cases choice list ++ left_out_line (length (all_left_out (setup_of court) docketed choice))
 
 -- the text of the week of the judge in which the day is: of the bookings that the docket shows on each of its days
 abbrev pub week_text_of : CourtView → LabelsView → (docketed : Rows) → (judge : ℕ) → (day : ℤ) → List ℕ

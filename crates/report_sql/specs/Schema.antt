@@ -1,11 +1,46 @@
 -- The tables: their columns, their keys and their constraints are the constants of the code.
-use Rattle.std.specs.Prelude.{ℕ, ◌==◌, List, ◌++◌, length, if◌then◌else◌}
+use Rattle.std.specs.Prelude.{ℕ, ◌==◌, Bool, true, false, List, [], ◌++◌, length, if◌then◌else◌}
+use Rattle.std.specs.List.{list_any}
 use Rattle.case_numbers.specs.declared.names.NamedCase.{NamedCase}
-use Rattle.report_sql.specs.declared.schema.TheConstants.{NUMBERED_CASES, NAMED_CASES, DEADLINES, GRANTS, MOTIONS, HEARINGS, PANELS, OUTAGES, ANSWERS}
+use Rattle.docket_rows.specs.declared.command.Command.TheVariants as command
+use Rattle.row_forms.specs.declared.numbered.NumberedRow.{NumberedRow}
+use Rattle.row_forms.specs.declared.row.Work.{Work}
+use Rattle.row_forms.specs.declared.row.Work.TheVariants.{Command}
+use Rattle.report_sql.specs.declared.schema.TheConstants.{NUMBERED_CASES, NAMED_CASES, DEADLINES, GRANTS, RESETS, MOTIONS, HEARINGS, PANELS, OUTAGES, CLOSINGS, ENDINGS, ANSWERS, DESK_ANSWERS}
 
 -- a table of names where the court's file has names
 abbrev pub cases_table : List NamedCase → List ℕ
 cases_table named = if length named == 0 then NUMBERED_CASES.now else NAMED_CASES.now
 
-unfoldable pub tables : List NamedCase → List ℕ
-tables named = cases_table named ++ DEADLINES.now ++ GRANTS.now ++ MOTIONS.now ++ HEARINGS.now ++ PANELS.now ++ OUTAGES.now ++ ANSWERS.now
+-- a row records a fact of a case, and so do some of these
+abbrev pub is_fact : Work → Bool
+is_fact (Command (command.Fact case fact)) = true
+is_fact other = false
+
+abbrev pub have_facts : List NumberedRow → Bool
+have_facts rows = list_any (λ (n : NumberedRow). is_fact n.row.work) rows
+
+-- tables of the cases that are closed and of the deadlines that are due no more, where rows record facts of cases; such rows may be
+-- refused with further numbers
+abbrev pub closings_table : (facts : Bool) → List ℕ
+closings_table facts = if facts then CLOSINGS.now else []
+
+abbrev pub endings_table : (facts : Bool) → List ℕ
+endings_table facts = if facts then ENDINGS.now else []
+
+abbrev pub answers_table : (facts : Bool) → List ℕ
+answers_table facts = if facts then DESK_ANSWERS.now else ANSWERS.now
+
+unfoldable pub tables : List NamedCase → (facts : Bool) → List ℕ
+tables named facts =
+    cases_table named
+    ++ DEADLINES.now
+    ++ GRANTS.now
+    ++ RESETS.now
+    ++ MOTIONS.now
+    ++ HEARINGS.now
+    ++ PANELS.now
+    ++ OUTAGES.now
+    ++ closings_table facts
+    ++ endings_table facts
+    ++ answers_table facts

@@ -1,10 +1,12 @@
 //! The tables.
 
 ghost use Rattle.std.specs.Prelude.{◌≡◌, ◌++◌, OnOk};
-ghost use Rattle.report_sql.specs.Schema.{cases_table, tables};
+ghost use Rattle.report_sql.specs.Schema.{answers_table, cases_table, closings_table, endings_table, have_facts, is_fact, tables};
 
 use crate::script::Script;
+use docket_rows::Command;
 use report_texts::Labels;
+use row_forms::{NumberedRow, Work};
 use std::alloc::AllocError;
 
 // The open cases, by their numbers.
@@ -53,6 +55,18 @@ const GRANTS: &str = "CREATE TABLE grants (
   days INTEGER,
   hours INTEGER,
   until_day DATE,
+  PRIMARY KEY (case_number, deadline_number, number),
+  FOREIGN KEY (case_number, deadline_number) REFERENCES deadlines (case_number, number)
+);
+";
+
+// The orders that set another end of a deadline, by their places among its extensions; NULL time: to a day as a whole.
+const RESETS: &str = "CREATE TABLE resets (
+  case_number INTEGER NOT NULL,
+  deadline_number INTEGER NOT NULL,
+  number INTEGER NOT NULL,
+  reset_day DATE NOT NULL,
+  reset_time TIME,
   PRIMARY KEY (case_number, deadline_number, number),
   FOREIGN KEY (case_number, deadline_number) REFERENCES deadlines (case_number, number)
 );
@@ -107,6 +121,24 @@ const OUTAGES: &str = "CREATE TABLE outages (
 );
 ";
 
+// The cases that are closed, and how.
+const CLOSINGS: &str = "CREATE TABLE closings (
+  case_number INTEGER NOT NULL PRIMARY KEY REFERENCES cases (number),
+  closed DATE NOT NULL,
+  how VARCHAR(16) NOT NULL CHECK (how IN ('dismissed', 'judgment', 'settled', 'transferred', 'remanded', 'otherwise'))
+);
+";
+
+// The deadlines that are due no more, and why.
+const ENDINGS: &str = "CREATE TABLE endings (
+  case_number INTEGER NOT NULL,
+  deadline_number INTEGER NOT NULL,
+  why VARCHAR(16) NOT NULL CHECK (why IN ('moot', 'vacated', 'stayed', 'suspended', 'withdrawn', 'case closed')),
+  PRIMARY KEY (case_number, deadline_number),
+  FOREIGN KEY (case_number, deadline_number) REFERENCES deadlines (case_number, number)
+);
+";
+
 // What each row was answered, by its number; NULL refusal: it isn't refused.
 const ANSWERS: &str = "CREATE TABLE answers (
   number INTEGER NOT NULL PRIMARY KEY,
@@ -116,19 +148,85 @@ const ANSWERS: &str = "CREATE TABLE answers (
 );
 ";
 
-/// Adds the statements that make the tables. `Err` says that memory ran out.
+// The same where rows of the desk's own are answered.
+const DESK_ANSWERS: &str = "CREATE TABLE answers (
+  number INTEGER NOT NULL PRIMARY KEY,
+  clerk INTEGER NOT NULL,
+  refusal INTEGER CHECK (refusal BETWEEN 1 AND 34),
+  answer VARCHAR(1000000) NOT NULL
+);
+";
+
+// Whether a row records a fact of a case.
+fn is_fact(work: &Work) -> bool
+    ensures { result ≡ is_fact work.now }
+{
+    match work {
+        Work::Command(Command::Fact { .. }) => true,
+        _ => false,
+    }
+}
+
+// Whether some of these rows do.
+pub(crate) fn have_facts(rows: &[NumberedRow]) -> bool
+    ensures { result ≡ have_facts rows.now }
+{
+    rows.iter().any(|row| is_fact(&row.row.work))
+}
+
+/// Adds the statements that make the tables: `facts` says whether rows record facts of cases. `Err` says that memory ran out.
 #[tactic(auto, unfolding(crate::specs::Schema::tables))]
-pub(crate) fn push_tables(out: &mut Script, labels: &Labels<'_>) -> Result<(), AllocError>
-    ensures { OnOk result (out.new ≡ out.old ++ tables labels.now.cases) }
+pub(crate) fn push_tables(
+    out: &mut Script,
+    labels: &Labels<'_>,
+    facts: bool,
+) -> Result<(), AllocError>
+    ensures { OnOk result (out.new ≡ out.old ++ tables labels.now.cases facts) }
 {
     push_cases(out, labels)?;
     out.statement(DEADLINES)?;
     out.statement(GRANTS)?;
+    out.statement(RESETS)?;
     out.statement(MOTIONS)?;
     out.statement(HEARINGS)?;
     out.statement(PANELS)?;
     out.statement(OUTAGES)?;
-    out.statement(ANSWERS)
+    push_closings(out, facts)?;
+    push_endings(out, facts)?;
+    push_answers(out, facts)
+}
+
+// Adds the table of the cases that are closed, where rows record facts of cases.
+fn push_closings(out: &mut Script, facts: bool) -> Result<(), AllocError>
+    ensures { OnOk result (out.new ≡ out.old ++ closings_table facts) }
+{
+    if facts {
+        out.statement(CLOSINGS)
+    } else {
+        Ok(())
+    }
+}
+
+// Adds the table of the deadlines that are due no more, where rows record facts of cases.
+fn push_endings(out: &mut Script, facts: bool) -> Result<(), AllocError>
+    ensures { OnOk result (out.new ≡ out.old ++ endings_table facts) }
+{
+    if facts {
+        out.statement(ENDINGS)
+    } else {
+        Ok(())
+    }
+}
+
+// Adds the table of answers.
+fn push_answers(out: &mut Script, facts: bool) -> Result<(), AllocError>
+    ensures { OnOk result (out.new ≡ out.old ++ answers_table facts) }
+{
+    if facts {
+        out.statement(DESK_ANSWERS)
+    } else {
+        out.statement(ANSWERS)
+    }
 }
 
 // Adds the table of the open cases, with their names where the court's file has names.

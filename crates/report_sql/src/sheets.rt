@@ -9,7 +9,7 @@ ghost use Rattle.desk_numbers.specs.Words.{numbered_sheet};
 ghost use Rattle.report_sql.specs.Deadlines.{deadline_rows};
 ghost use Rattle.report_sql.specs.Hearings.{motion_rows};
 ghost use Rattle.report_sql.specs.Rows.{AddsValues, numbered};
-ghost use Rattle.report_sql.specs.Script.{case_row, docketed_text, name_values, outage_row, sheet_rows};
+ghost use Rattle.report_sql.specs.Script.{case_row, closing_row, closing_row_if_any, docketed_text, name_values, outage_row, sheet_rows};
 
 use crate::deadlines::push_deadline;
 use crate::hearings::push_motion;
@@ -18,7 +18,7 @@ use court_clock::Clock;
 use court_days::{Court, Outage};
 use desk_numbers::MovedNumbers;
 use docket_core::Docket;
-use docket_rows::{Sheet, SheetDeadline, SheetMotion};
+use docket_rows::{Closure, Sheet, SheetDeadline, SheetMotion};
 use docket_selection::sheets_of;
 use report_texts::{Labels, number_sheets};
 use std::alloc::{AllocError, Global};
@@ -102,6 +102,7 @@ fn push_sheet(
     ensures { OnOk result (out.new ≡ out.old ++ sheet_rows court.now labels.now.cases sheet.now) }
 {
     push_case(out, labels, sheet)?;
+    push_closing_if_any(out, sheet.case, sheet.closed)?;
     push_deadlines(out, court.clock(), sheet.case, sheet.deadlines.as_slice())?;
     push_motions(out, court, sheet.case, sheet.motions.as_slice())
 }
@@ -113,6 +114,31 @@ fn push_case(out: &mut Script, labels: &Labels<'_>, sheet: &Sheet) -> Result<(),
     out.begin_row("cases", u64::from(sheet.case))?;
     out.day(sheet.filed)?;
     push_name(out, labels, sheet.case)?;
+    out.end_row()
+}
+
+/// Adds how a case was closed, if it was.
+fn push_closing_if_any(
+    out: &mut Script,
+    case: u32,
+    closed: Option<Closure>,
+) -> Result<(), AllocError>
+    ensures { OnOk result (out.new ≡ out.old ++ closing_row_if_any case closed) }
+{
+    match closed {
+        Some(closed) => push_closing(out, case, closed),
+        None => Ok(()),
+    }
+}
+
+/// Adds how a case was closed.
+#[tactic(auto, unfolding(crate::specs::Script::closing_row))]
+fn push_closing(out: &mut Script, case: u32, closed: Closure) -> Result<(), AllocError>
+    ensures { OnOk result (out.new ≡ out.old ++ closing_row case closed) }
+{
+    out.begin_row("closings", u64::from(case))?;
+    out.day(closed.dated)?;
+    out.text(closed.why.word())?;
     out.end_row()
 }
 

@@ -1,5 +1,6 @@
 -- What is due, by day.
-use Rattle.std.specs.Prelude.{ℕ, ℤ, Bool, false, List, [], ◌∷◌, ◌++◌, Option, Some, None, codes, if◌then◌else◌}
+use Rattle.std.specs.Prelude.{ℕ, ◌==◌, ℤ, Bool, false, List, [], ◌∷◌, ◌++◌, Option, Some, None, codes, if◌then◌else◌}
+use Rattle.std.specs.Fmt.{decimal}
 use Rattle.std.specs.Option.{option_map_or}
 use Rattle.std.specs.Ordering.{int_eq}
 use Rattle.case_numbers.specs.Words.{case_text}
@@ -55,6 +56,10 @@ lines_after court named before (item ∷ items) = day_line_if_new before item.da
 abbrev pub lines_or_none : CourtView → List NamedCase → List DueItem → List ℕ
 lines_or_none court named [] = codes "\nNothing is due.\n"
 lines_or_none court named (item ∷ items) = lines_after court named None (item ∷ items)
+
+-- how many deadlines aren't listed since they are ended; nothing where there are none
+abbrev pub left_out_line : (count : ℕ) → List ℕ
+left_out_line count = if count == 0 then [] else codes "\nEnded, and so not listed: " ++ decimal count ++ codes ".\n"
 
 -- what was chosen, and then the items by day
 unfoldable pub due_text : CourtView → List NamedCase → Choice → List DueItem → List ℕ

@@ -1,6 +1,6 @@
 -- The words of clauses and definitions, for the crates above, from one place.
 unfoldable pub use Rattle.report_texts.specs.Days.{whole_day}
-pub use Rattle.report_texts.specs.Due.{case_words, is_day_of}
+pub use Rattle.report_texts.specs.Due.{case_words, is_day_of, left_out_line}
 unfoldable pub use Rattle.report_texts.specs.Due.{chosen_words, closing_line, lines_after, due_text}
 pub use Rattle.report_texts.specs.Holidays.{holiday_names, doubtful_days}
 pub use Rattle.report_texts.specs.Labels.{LabelsView, labels_of}

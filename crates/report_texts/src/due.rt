@@ -3,7 +3,7 @@
 ghost use Rattle.std.specs.Prelude.{◌≡◌, None, OnOk};
 ghost use Rattle.office_texts.specs.Words.{AddsText};
 ghost use Rattle.reason_texts.specs.Words.{minute_time};
-ghost use Rattle.report_texts.specs.Due.{case_words, chosen_words, closing_back, closing_front, closing_line, day_line_if_new, due_text, heading, is_day_of, judge_words, lines_after, lines_or_none};
+ghost use Rattle.report_texts.specs.Due.{case_words, chosen_words, closing_back, closing_front, closing_line, day_line_if_new, due_text, heading, is_day_of, judge_words, left_out_line, lines_after, lines_or_none};
 
 use crate::days::push_whole_day;
 use crate::items::push_item;
@@ -12,7 +12,7 @@ use case_numbers::push_case_text;
 use court_clock::{Clock, Day};
 use court_days::Court;
 use docket_selection::{Choice, DueItem};
-use office_texts::judge_name;
+use office_texts::{judge_name, push_number};
 use reason_texts::push_minute;
 use std::alloc::AllocError;
 
@@ -131,6 +131,18 @@ fn push_lines(
         return text.push_str("\nNothing is due.\n");
     }
     push_items(text, court, labels, items)
+}
+
+/// Adds how many deadlines aren't listed since they are ended, if there are some. `Err` says that memory ran out.
+pub fn push_left_out(text: &mut String, count: u64) -> Result<(), AllocError>
+    ensures { OnOk result (AddsText text.old text.new (left_out_line count)) }
+{
+    if count == 0 {
+        return Ok(());
+    }
+    text.push_str("\nEnded, and so not listed: ")?;
+    push_number(text, count)?;
+    text.push_str(".\n")
 }
 
 /// Adds each item, with the day before the first of each day.

@@ -16,7 +16,7 @@ mod selected;
 mod week;
 
 pub use days::push_whole_day;
-pub use due::{is_day_of, push_chosen, push_closing, push_due};
+pub use due::{is_day_of, push_chosen, push_closing, push_due, push_left_out};
 pub use holidays::{HolidayNames, holiday_names};
 pub use items::{push_matter, push_room, push_span, push_time};
 pub use judges::push_panel;

@@ -9,10 +9,10 @@ use std::alloc::{AllocError, Global};
 use strsim::osa_distance;
 
 /// The headings of columns.
-const HEADINGS: [&str; 24] = [
+const HEADINGS: [&str; 26] = [
     "clerk", "command", "case", "deadline", "motion", "period", "date", "time", "second", "kind",
     "means", "grant", "cause", "neglect", "need", "list", "from", "to", "judge", "room", "slots",
-    "notice", "act", "note",
+    "notice", "act", "why", "dated", "note",
 ];
 
 /// The word from which a text that is folded differs by no more than a slip: a letter that is added, lost or another, or two
@@ -109,6 +109,23 @@ fn nearest_in(
         Column::Holidays => nearest_of(alloc, word, &["federal", "state"]),
         Column::Need => nearest_of(alloc, word, &["exparte"]),
         Column::Act => nearest_of(alloc, word, &["filing", "service"]),
+        Column::Closing => nearest_of(
+            alloc,
+            word,
+            &[
+                "dismissed",
+                "judgment",
+                "settled",
+                "transferred",
+                "remanded",
+                "otherwise",
+            ],
+        ),
+        Column::Why => nearest_of(
+            alloc,
+            word,
+            &["moot", "vacated", "stayed", "suspended", "withdrawn"],
+        ),
         _ => Ok(None),
     }
 }

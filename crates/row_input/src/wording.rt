@@ -31,8 +31,11 @@ fn held(column: Column) -> &'static str {
         Column::Room => "a room of the court's file",
         Column::Slots => "half hours, as 2, or quarter hours, as 3q",
         Column::Notice => "the day on which notice was served, as 2025-09-02",
-        Column::SetTime => "nothing, since an order sets a day as a whole",
         Column::Act => "filing or service",
+        Column::Dated => "the day of the order, as 2025-09-02",
+        Column::Why => "moot, vacated, stayed, suspended or withdrawn",
+        Column::Closing => "dismissed, judgment, settled, transferred, remanded or otherwise",
+        Column::ResumeDay => "nothing, since the deadline has its days as before",
     }
 }
 
@@ -44,7 +47,7 @@ pub(crate) fn expected(flaw: Flaw) -> &'static str {
         Flaw::Excess => "nothing, since the row has no column for it",
         Flaw::NoCommand => commands_listed(),
         Flaw::NoHeading => {
-            "a heading: clerk, command, case, deadline, motion, period, date, time, second, kind, means, grant, cause, neglect, need, list, from, to, judge, room, slots, notice, act or note"
+            "a heading: clerk, command, case, deadline, motion, period, date, time, second, kind, means, grant, cause, neglect, need, list, from, to, judge, room, slots, notice, act, why, dated or note"
         }
         Flaw::TwiceNamed => "another heading, since a column before it has this one",
     }

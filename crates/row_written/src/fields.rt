@@ -14,8 +14,8 @@ use case_numbers::case_read;
 use court_clock::Day;
 use court_days::Court;
 use row_fields::{
-    DateOrder, Said, act_said, answer_said, bare, date_said, folded, list_said, means_said,
-    rule_said, section_said, service_said, time_said,
+    DateOrder, Said, act_said, answer_said, bare, closing_said, date_said, folded, list_said,
+    means_said, rule_said, section_said, service_said, time_said, why_said,
 };
 use row_forms::Column;
 use std::alloc::{AllocError, Global};
@@ -182,6 +182,8 @@ fn word_said(alloc: Global, column: Column, text: &str) -> Result<Said<String>, 
         Column::Holidays => list_said(word.as_str()),
         Column::ServiceOrNone => service_said(word.as_str()),
         Column::Act => act_said(word.as_str()),
+        Column::Why => why_said(word.as_str()),
+        Column::Closing => closing_said(word.as_str()),
         _ => section_said(word.as_str()),
     };
     owned(alloc, said)
@@ -232,7 +234,7 @@ fn may_be_empty(column: Column) -> bool
 {
     matches!(
         column,
-        Column::TimeOrNone | Column::SecondOrNone | Column::ServiceOrNone | Column::SetTime
+        Column::TimeOrNone | Column::SecondOrNone | Column::ServiceOrNone | Column::ResumeDay
     )
 }
 
@@ -252,7 +254,9 @@ fn filled_said(
         Column::Deadline => deadline_said(alloc, text),
         Column::Motion => motion_said(alloc, text),
         Column::Case => case_said(alloc, text),
-        Column::Date | Column::SecondOrNone | Column::Notice => day_said(alloc, order, text),
+        Column::Date | Column::SecondOrNone | Column::Notice | Column::Dated => {
+            day_said(alloc, order, text)
+        }
         Column::Time | Column::Start | Column::TimeOrNone | Column::From => {
             minute_said(alloc, text)
         }
@@ -264,15 +268,17 @@ fn filled_said(
         | Column::Cause
         | Column::Neglect
         | Column::Holidays
-        | Column::Act => word_said(alloc, column, text),
+        | Column::Act
+        | Column::Why
+        | Column::Closing => word_said(alloc, column, text),
         Column::Grant => grant_said(alloc, order, text),
         Column::Need => need_said(alloc, text),
         Column::Judge => name_said(alloc, court, Named::Judges, text),
         Column::Judges => panel_said(alloc, court, text),
         Column::Room => name_said(alloc, court, Named::Rooms, text),
         Column::Slots => slots_said(alloc, text),
-        // An order sets a day as a whole.
-        Column::SetTime => Ok(Said::Unknown),
+        // A deadline that is resumed has its days as before.
+        Column::ResumeDay => Ok(Said::Unknown),
     }
 }
 

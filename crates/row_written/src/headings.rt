@@ -73,6 +73,8 @@ pub fn heading_said(word: &str) -> Option<&'static str>
         "slots" => Some("slots"),
         "notice" | "noticeserved" => Some("notice"),
         "act" => Some("act"),
+        "dated" | "orderdated" | "orderdate" | "dateoforder" => Some("dated"),
+        "why" | "reason" => Some("why"),
         "note" | "notes" | "remarks" | "comment" | "comments" => Some("note"),
         _ => None,
     }

@@ -161,6 +161,7 @@ complete -c docket -n '__fish_seen_subcommand_from court; and __fish_seen_subcom
 complete -c docket -n '__fish_seen_subcommand_from court; and __fish_seen_subcommand_from write' -l rooms -r -d 'A file with the rooms'\'' names, one a line'
 complete -c docket -n '__fish_seen_subcommand_from court; and __fish_seen_subcommand_from write' -l opens -x -d 'When the clerk'\''s office opens (08:30)'
 complete -c docket -n '__fish_seen_subcommand_from court; and __fish_seen_subcommand_from write' -l closes -x -d 'When it closes (17:00)'
+complete -c docket -n '__fish_seen_subcommand_from court; and __fish_seen_subcommand_from write' -l efiling-until -x -d 'To when e-filing runs, by a local rule (midnight)'
 complete -c docket -n '__fish_seen_subcommand_from court; and __fish_seen_subcommand_from write' -s h -l help -d 'Print help'
 complete -c docket -n '__fish_seen_subcommand_from court; and __fish_seen_subcommand_from update' -l to -x -d 'The last year'
 complete -c docket -n '__fish_seen_subcommand_from court; and __fish_seen_subcommand_from update' -l accept -d 'Take it though answers change'

@@ -1,5 +1,5 @@
 -- The history of a motion ends in the hearing that the docket has for it.
-use Rattle.std.proofs.Common.{◌≡◌, ◌<◌, ◌+◌, ◌∙◌, ◌==◌, ◌&&◌, ℕ, true, false, not, List, [], ◌∷◌, ◌++◌, length, nat_le, get_or, fold, find, filter, All, AllPairs, Option, Some, None, option_map, option_to_list, if◌then◌else◌, append-nil, refl, sym, ap, arith, inl, inr}
+use Rattle.std.proofs.Common.{◌≡◌, ◌<◌, ◌+◌, ◌∙◌, ◌==◌, ◌&&◌, ℕ, Bool, true, false, not, List, [], ◌∷◌, ◌++◌, length, nat_le, get_or, fold, find, filter, All, AllPairs, Option, Some, None, option_map, option_to_list, if◌then◌else◌, append-nil, refl, sym, ap, arith, inl, inr}
 use Rattle.std.specs.Option.{option_map_or}
 use Rattle.std.proofs.Math.Seq.{get_or-append_seam}
 use Rattle.std.proofs.lemmas.Bool.Decides.{nat_tests}
@@ -8,13 +8,17 @@ use Rattle.std.proofs.lemmas.List.{get_or_append_left, length-append}
 use Rattle.std.proofs.lemmas.List.Elements.{filter_passes}
 use Rattle.std.proofs.lemmas.List.Sums.{fold-append}
 use Rattle.hearing_slots.proofs.CallerLemmas.{find_absent, find_here, find_other, find-filter}
+use Rattle.rule6.specs.declared.timeliness.Shown.{Shown}
+use Rattle.rule_periods.specs.declared.grant.Request.{Request}
+use Rattle.rule_periods.specs.Words.{is_order}
 use Rattle.docket_rows.specs.declared.answer.Answer.TheVariants as answer
 use Rattle.docket_rows.specs.declared.command.Command.{Command}
-use Rattle.docket_rows.specs.declared.command.Command.TheVariants.{OpenCase, Start, FileAct, Extend, Motion, Book, MoveHearing, Cancel, Holiday, Inaccessible}
+use Rattle.docket_rows.specs.declared.command.Command.TheVariants.{OpenCase, Start, FileAct, Extend, Motion, Book, MoveHearing, Cancel, Holiday, Inaccessible, Fact}
+use Rattle.docket_rows.specs.declared.fact.Fact.TheVariants.{Ended, Resumed, Closed, Reopened}
 use Rattle.docket_rows.specs.declared.hearing.Hearing.{Hearing}
 use Rattle.docket_rows.specs.declared.hearing.Setting.{Setting}
 use Rattle.docket_rows.specs.declared.refusal.Refusal.{Refusal}
-use Rattle.docket_rows.specs.Words.{AreSound, CourtSetup, DocketedHearing, Rows, answered, answer_if_made, hearing_asked, hearing_of, is_hearing, opening_rows, parts_of, refusal, rows_after, rows_from, step}
+use Rattle.docket_rows.specs.Words.{AreSound, CourtSetup, DocketedHearing, Rows, answered, answer_if_made, ended_answer, hearing_asked, hearing_of, is_hearing, opening_rows, parts_of, refusal, rows_after, rows_from, step}
 use Rattle.docket_laws.proofs.CallerLemmas.{can_book, can_move, count_of, sound_after, sound_opening, sound_step}
 use Rattle.docket_selection.specs.declared.changes.change.HearingChange.{HearingChange}
 use Rattle.docket_selection.specs.declared.changes.change.RowChange.{RowChange}
@@ -122,13 +126,20 @@ module _ (judge : Option ℕ) (case motion : ℕ) where
   abbrev next_history : Option HearingHistory → RowChange → Option HearingHistory
   next_history before c = follow judge case motion before c.change
 
+  -- after an extension, or an order that sets another end
+  extended_ends : (row : ℕ) (before : Option HearingHistory) (of deadline : ℕ) (request : Request) (order : Bool) (end : Shown) (docketed : Option Hearing) → last_hearing before ≡ hearing_before judge docketed
+      → last_hearing (fold next_history before (option_to_list (change_made row (Extend of deadline request) (ended_answer order end)))) ≡ hearing_before judge docketed
+  extended_ends row before of deadline request true end docketed ends = ends
+  extended_ends row before of deadline request false end docketed ends = ends
+
   -- after a command that isn't refused, and after any
   made_ends : (setup : CourtSetup) (rows : Rows) (row : ℕ) (before : Option HearingHistory) → AreSound setup rows → last_hearing before ≡ hearing_before judge (hearing_of rows case motion) → (command : Command) → refusal setup (parts_of rows) command ≡ None
       → last_hearing (fold next_history before (option_to_list (change_made row command (answer_if_made setup (parts_of rows) command)))) ≡ hearing_before judge (hearing_of (rows_after rows command) case motion)
   made_ends setup rows row before sound ends (OpenCase of filed) free = ends
   made_ends setup rows row before sound ends (Start of period event second service) free = ends
   made_ends setup rows row before sound ends (FileAct of deadline filing) free = ends
-  made_ends setup rows row before sound ends (Extend of deadline request) free = ends
+  made_ends setup rows row before sound ends (Extend of deadline request) free =
+      extended_ends row before of deadline request (is_order request.grant) _ (hearing_of rows case motion) ends
   made_ends setup rows row before sound ends (Motion of served need) free = ends
   made_ends setup rows row before sound ends (Book s) free =
       let few = count_of s.first s.count (can_book setup (parts_of rows) s free).fits in
@@ -142,6 +153,10 @@ module _ (judge : Option ℕ) (case motion : ℕ) where
       followed_ends before (record { case = of_case; motion = of_motion; hearing = None }) (hearing_of rows case motion) _ (after_taking rows.hearings of_case of_motion case motion) ends
   made_ends setup rows row before sound ends (Holiday day list) free = ends
   made_ends setup rows row before sound ends (Inaccessible day from to) free = ends
+  made_ends setup rows row before sound ends (Fact of (Ended deadline why dated)) free = ends
+  made_ends setup rows row before sound ends (Fact of (Resumed deadline dated)) free = ends
+  made_ends setup rows row before sound ends (Fact of (Closed why dated)) free = ends
+  made_ends setup rows row before sound ends (Fact of (Reopened dated)) free = ends
 
   step_ends : (setup : CourtSetup) (rows : Rows) (row : ℕ) (before : Option HearingHistory) → AreSound setup rows → last_hearing before ≡ hearing_before judge (hearing_of rows case motion) → (command : Command)
       → last_hearing (fold next_history before (option_to_list (change_made row command (step setup rows command).1))) ≡ hearing_before judge (hearing_of (step setup rows command).0 case motion)

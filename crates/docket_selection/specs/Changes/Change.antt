@@ -4,7 +4,7 @@ use Rattle.std.specs.Prelude.{ℕ, nat_le, Option, Some, None, option_map, if◌
 use Rattle.docket_rows.specs.declared.answer.Answer.{Answer}
 use Rattle.docket_rows.specs.declared.answer.Answer.TheVariants.{Refused}
 use Rattle.docket_rows.specs.declared.command.Command.{Command}
-use Rattle.docket_rows.specs.declared.command.Command.TheVariants.{OpenCase, Start, FileAct, Extend, Motion, Holiday, Inaccessible}
+use Rattle.docket_rows.specs.declared.command.Command.TheVariants.{OpenCase, Start, FileAct, Extend, Motion, Holiday, Inaccessible, Fact}
 use Rattle.docket_rows.specs.declared.command.HearingOrder.{HearingOrder}
 use Rattle.docket_rows.specs.declared.hearing.Setting.{Setting}
 use Rattle.docket_rows.specs.Words.{hearing_asked, order_of}
@@ -25,9 +25,9 @@ order_made order = option_map_or setting_made order.setting (Some (record { case
 abbrev pub hearing_change : Command → Option HearingChange
 hearing_change command = option_and_then order_made (order_of command)
 
--- What a command asks for changes of what calendars show: a deadline of a case, which is started or extended or for which an act is
--- recorded; the court's days, by a holiday or an outage, on which the end of any deadline may rest; or the hearing of a motion. A case
--- that is opened and a motion that is entered are in no calendar.
+-- What a command asks for changes of what calendars show: a deadline of a case, which is started, extended, ended or resumed, or for
+-- which an act is recorded; the court's days, by a holiday or an outage, on which the end of any deadline may rest; or the hearing of a
+-- motion. A case that is opened and a motion that is entered are in no calendar.
 abbrev pub change_asked : Command → Option Change
 change_asked (OpenCase case filed) = None
 change_asked (Start case period event second service) = Some (Deadline case)
@@ -36,6 +36,7 @@ change_asked (Extend case deadline request) = Some (Deadline case)
 change_asked (Motion case served need) = None
 change_asked (Holiday day list) = Some Days
 change_asked (Inaccessible day from to) = Some Days
+change_asked (Fact case fact) = Some (Deadline case)
 change_asked command = option_map Hearing (hearing_change command)
 
 -- what the row of that number changed, by a command that was so answered: nothing where it was refused, and else what it asks for

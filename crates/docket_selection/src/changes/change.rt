@@ -21,7 +21,7 @@ pub struct HearingChange {
 pub enum Change {
     /// The court's days: a holiday or an outage was entered.
     Days,
-    /// A deadline of the case of that number: it was started or extended, or an act was recorded for it.
+    /// A deadline of the case of that number: it was started, extended, ended or resumed, or an act was recorded for it.
     Deadline(u32),
     /// The hearing of a motion.
     Hearing(HearingChange),
@@ -54,7 +54,8 @@ fn change_asked(command: &Command) -> Option<Change>
     match command {
         Command::Start { case, .. }
         | Command::FileAct { case, .. }
-        | Command::Extend { case, .. } => Some(Change::Deadline(*case)),
+        | Command::Extend { case, .. }
+        | Command::Fact { case, .. } => Some(Change::Deadline(*case)),
         Command::Holiday { .. } | Command::Inaccessible { .. } => Some(Change::Days),
         Command::OpenCase { .. } | Command::Motion { .. } => None,
         Command::Book(_) | Command::MoveHearing(_) | Command::Cancel { .. } => {

@@ -3,7 +3,7 @@ ghost use Rattle.std.specs.Prelude.{OnOk};
 ghost use Rattle.office_texts.specs.Words.{AddsText};
 ghost use Rattle.office_texts.specs.Named.Named.{named_case_line, named_sheet};
 
-use crate::{push_deadlines, push_motions};
+use crate::{push_and_closed, push_deadlines, push_motions};
 use case_numbers::{Cases, push_case_text};
 use court_days::Court;
 use docket_rows::Sheet;
@@ -32,5 +32,7 @@ pub fn push_case_line(text: &mut String, cases: &Cases, sheet: &Sheet) -> Result
     let filed = sheet.filed;
     text.push_str("case ")?;
     push_case_text(text, cases, sheet.case)?;
-    write!(text, " filed {filed}\n")
+    write!(text, " filed {filed}")?;
+    push_and_closed(text, sheet.closed)?;
+    text.push_str("\n")
 }

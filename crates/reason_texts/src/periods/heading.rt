@@ -103,7 +103,7 @@ fn push_length(text: &mut String, length: Length) -> Result<(), AllocError>
     match length {
         Length::Days(n) => push_counted(text, n, "day"),
         Length::Hours(h) => push_counted(text, h, "hour"),
-        Length::ToDay => text.push_str("set by an order"),
+        Length::ToDay | Length::ToTime => text.push_str("set by an order"),
     }
 }
 

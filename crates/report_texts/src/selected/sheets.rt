@@ -14,6 +14,7 @@ fn number_sheet(alloc: Global, moved: &MovedNumbers, sheet: &mut Sheet)
     let empty = Sheet {
         case: sheet.case,
         filed: sheet.filed,
+        closed: sheet.closed,
         deadlines: SheetDeadlines::from_vec(Vec::new(alloc)),
         motions: SheetMotions::from_vec(Vec::new(alloc)),
     };

@@ -58,10 +58,16 @@ pub enum Column {
     Slots,
     /// The day on which notice was served.
     Notice,
-    /// The time of day of a day that an order sets, which is empty.
-    SetTime,
     /// What has to be done in time.
     Act,
+    /// The day of an order.
+    Dated,
+    /// Why a deadline is due no more.
+    Why,
+    /// How a case was closed.
+    Closing,
+    /// The day on which a deadline that is resumed begins anew, which is empty.
+    ResumeDay,
 }
 
 /// The column of that number, counted from 0.
@@ -82,8 +88,8 @@ pub fn name_of(column: Column) -> &'static str
         Column::Deadline => "deadline",
         Column::Motion | Column::ByMotion => "motion",
         Column::Period => "period",
-        Column::Date => "date",
-        Column::Time | Column::Start | Column::TimeOrNone | Column::SetTime => "time",
+        Column::Date | Column::ResumeDay => "date",
+        Column::Time | Column::Start | Column::TimeOrNone => "time",
         Column::SecondOrNone => "second",
         Column::ServiceOrNone => "kind",
         Column::Means => "means",
@@ -99,6 +105,8 @@ pub fn name_of(column: Column) -> &'static str
         Column::Slots => "slots",
         Column::Notice => "notice",
         Column::Act => "act",
+        Column::Dated => "dated",
+        Column::Why | Column::Closing => "why",
     }
 }
 
@@ -117,7 +125,7 @@ pub fn mark_of(word: &str, column: Column) -> &str
         Column::Date => "DATE",
         Column::Time => "TIME",
         Column::Start => "START",
-        Column::TimeOrNone | Column::SetTime => "[TIME]",
+        Column::TimeOrNone => "[TIME]",
         Column::SecondOrNone => "[SECOND]",
         Column::ServiceOrNone => "[KIND]",
         Column::Means => "MEANS",
@@ -134,6 +142,9 @@ pub fn mark_of(word: &str, column: Column) -> &str
         Column::Slots => "SLOTS",
         Column::Notice => "NOTICE",
         Column::Act => "ACT",
+        Column::Dated => "DATED",
+        Column::Why | Column::Closing => "WHY",
+        Column::ResumeDay => "[DAY]",
     }
 }
 
@@ -143,6 +154,6 @@ pub fn may_be_empty(column: Column) -> bool
 {
     matches!(
         column,
-        Column::TimeOrNone | Column::SecondOrNone | Column::ServiceOrNone | Column::SetTime
+        Column::TimeOrNone | Column::SecondOrNone | Column::ServiceOrNone | Column::ResumeDay
     )
 }

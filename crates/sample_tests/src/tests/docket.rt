@@ -3,7 +3,7 @@
 use super::{court, day};
 use court_days::HolidayList;
 use docket_core::Docket;
-use docket_rows::{Answer, Command, Query, Refusal, Setting, Sheet, View};
+use docket_rows::{Answer, Closing, Command, Ending, Fact, Query, Refusal, Setting, Sheet, View};
 use hearing_slots::{Need, Panel};
 use rule_periods::{Event, Period, RulePeriod};
 use rule6::{Act, Shown};
@@ -108,6 +108,88 @@ fn shows_the_holiday(rt: &impl Abort, alloc: Global, docket: &mut Docket) -> Res
 fn a_deadline_is_shown_by_the_days_as_docketed(rt: HostRuntime) -> Result<(), Fail> {
     let mut docket = opening(rt.alloc())?;
     shows_the_holiday(&rt, rt.alloc(), &mut docket)
+}
+
+/// Records a fact of case 1.
+fn fact(fact: Fact) -> Command {
+    Command::Fact { case: 1, fact }
+}
+
+/// Ends the deadline of case 1, and resumes it, each in vain once more.
+fn ends_and_resumes(rt: &impl Abort, alloc: Global, docket: &mut Docket) -> Result<(), Fail> {
+    let (deadline, dated) = (1, day(rt, "2025-03-10"));
+    let why = Ending::Moot;
+    let end = fact(Fact::Ended {
+        deadline,
+        why,
+        dated,
+    });
+    let resume = fact(Fact::Resumed { deadline, dated });
+    let end_shown = last(rt, "2025-03-24");
+    gives(rt, alloc, docket, &open_case(rt), &Answer::Opened)?;
+    gives(
+        rt,
+        alloc,
+        docket,
+        &start(rt),
+        &Answer::Started(1, end_shown),
+    )?;
+    gives(rt, alloc, docket, &end, &Answer::Ended)?;
+    gives(
+        rt,
+        alloc,
+        docket,
+        &end,
+        &Answer::Refused(Refusal::AlreadyEnded),
+    )?;
+    gives(rt, alloc, docket, &resume, &Answer::Resumed(end_shown))?;
+    gives(
+        rt,
+        alloc,
+        docket,
+        &resume,
+        &Answer::Refused(Refusal::NotEnded),
+    )
+}
+
+/// Closes case 1, which then takes no other row, and reopens it.
+fn closes_and_reopens(rt: &impl Abort, alloc: Global, docket: &mut Docket) -> Result<(), Fail> {
+    let dated = day(rt, "2025-03-10");
+    let why = Closing::Settled;
+    let close = fact(Fact::Closed { why, dated });
+    let reopen = fact(Fact::Reopened { dated });
+    let shut = Answer::Refused(Refusal::CaseIsClosed);
+    gives(rt, alloc, docket, &open_case(rt), &Answer::Opened)?;
+    gives(
+        rt,
+        alloc,
+        docket,
+        &reopen,
+        &Answer::Refused(Refusal::NotClosed),
+    )?;
+    gives(rt, alloc, docket, &close, &Answer::Closed)?;
+    gives(rt, alloc, docket, &start(rt), &shut)?;
+    gives(rt, alloc, docket, &close, &shut)?;
+    gives(rt, alloc, docket, &reopen, &Answer::Reopened)?;
+    gives(
+        rt,
+        alloc,
+        docket,
+        &start(rt),
+        &Answer::Started(1, last(rt, "2025-03-24")),
+    )
+}
+
+#[test]
+fn a_case_is_closed_and_reopened(rt: HostRuntime) -> Result<(), Fail> {
+    let mut docket = opening(rt.alloc())?;
+    closes_and_reopens(&rt, rt.alloc(), &mut docket)
+}
+
+#[test]
+fn a_deadline_is_ended_and_resumed(rt: HostRuntime) -> Result<(), Fail> {
+    let mut docket = opening(rt.alloc())?;
+    ends_and_resumes(&rt, rt.alloc(), &mut docket)
 }
 
 /// A motion that was served on 29 August 2025.

@@ -1,0 +1,28 @@
+-- The cases of the parts after a fact is recorded.
+use Rattle.std.proofs.Common.{◌≡◌, ℕ, true, false, ◌==◌, List, [], ◌∷◌, ◌++◌, map, find, option_map, ap, sym, ◌∙◌}
+use Rattle.std.specs.Option.{option_or}
+use Rattle.std.proofs.lemmas.Bool.{eq-eqb, ne_eqb}
+use Rattle.docket_rows.specs.declared.command.Command.TheVariants as command
+use Rattle.docket_rows.specs.declared.fact.Fact.{Fact}
+use Rattle.docket_rows.specs.Words.{Rows, DocketedFact, is_case, is_fact_in, fact_shown, case_shown, parts_of, add_fact, case_written, rows_after}
+use Rattle.docket_laws.proofs.PartsLists.{filter-push_other, map_filter-push}
+use Rattle.docket_laws.proofs.PartsCases.{written_at, number_found, shown_same, shown_changed}
+
+-- one more fact of a case
+pub case_after_fact : (rows : Rows) (case : ℕ) (fact : Fact) (n : ℕ) → (parts_of (rows_after rows (command.Fact case fact))).case n ≡ option_or (case_written (parts_of rows) (command.Fact case fact) n) ((parts_of rows).case n)
+unfolding parts_of
+case_after_fact rows case fact =
+    let f : DocketedFact = record { case = case; fact = fact } in
+    let after = record rows { facts = rows.facts ++ f ∷ [] } in
+    written_at
+    (λ n. option_map (case_shown after) (find (is_case n) rows.cases))
+    (λ n. option_map (case_shown rows) (find (is_case n) rows.cases))
+    (λ n. option_map (add_fact fact) (option_map (case_shown rows) (find (is_case n) rows.cases)))
+    case
+    (shown_changed (case_shown after) (case_shown rows) (add_fact fact) (find (is_case case) rows.cases) (λ c found.
+    let here : (case == c.case) ≡ true = eq-eqb case c.case (sym (number_found rows.cases case c found)) in
+    ap (λ (fs : List Fact). record (case_shown rows c) { facts = fs })
+    (map_filter-push fact_shown (is_fact_in c.case) rows.facts f here)))
+    (λ n differ. shown_same (case_shown after) (case_shown rows) (find (is_case n) rows.cases) (λ c found.
+    let other : (case == c.case) ≡ false = ne_eqb case c.case (λ e. differ (sym (number_found rows.cases n c found) ∙ sym e)) in
+    ap (λ (fs : List DocketedFact). record (case_shown rows c) { facts = map fact_shown fs }) (filter-push_other (is_fact_in c.case) rows.facts f other)))

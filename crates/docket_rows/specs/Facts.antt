@@ -1,0 +1,74 @@
+-- What the facts that are recorded of a case come to, and what each is about.
+use Rattle.std.specs.Prelude.{ℕ, ◌==◌, is_some, List, [], ◌∷◌, ◌++◌, codes, fold, Option, Some, None, if◌then◌else◌}
+use Rattle.docket_rows.specs.declared.command.Counted.TheVariants.{Deadline}
+use Rattle.docket_rows.specs.declared.command.Subject.{Subject}
+use Rattle.docket_rows.specs.declared.fact.Closing.{Closing}
+use Rattle.docket_rows.specs.declared.fact.Closing.TheVariants.{Dismissed, Judgment, Settled, Transferred, Remanded, Otherwise}
+use Rattle.docket_rows.specs.declared.fact.Closure.{Closure}
+use Rattle.docket_rows.specs.declared.fact.Ending.{Ending}
+use Rattle.docket_rows.specs.declared.fact.Ending.TheVariants.{Moot, Vacated, Stayed, Suspended, Withdrawn, CaseClosed}
+use Rattle.docket_rows.specs.declared.fact.Fact.{Fact}
+use Rattle.docket_rows.specs.declared.fact.Fact.TheVariants.{Ended, Resumed, Closed, Reopened}
+use Rattle.docket_rows.specs.Cases.{CaseRecordView}
+
+-- the case with one fact more
+abbrev pub add_fact : Fact → CaseRecordView → CaseRecordView
+add_fact fact c = record c { facts = c.facts ++ fact ∷ [] }
+
+-- how the case was closed and not reopened, after one fact more
+abbrev pub closed_then : Option Closure → Fact → Option Closure
+closed_then before (Ended deadline why dated) = before
+closed_then before (Resumed deadline dated) = before
+closed_then before (Closed why dated) = Some (record { why = why; dated = dated })
+closed_then before (Reopened dated) = None
+
+-- how the case was closed, if it was and wasn't reopened
+unfoldable pub closing_in : List Fact → Option Closure
+closing_in facts = fold closed_then None facts
+
+-- why the deadline of that number was ended and not resumed, after one fact more
+abbrev pub ended_then : (number : ℕ) → Option Ending → Fact → Option Ending
+ended_then number before (Ended deadline why dated) = if deadline == number then Some why else before
+ended_then number before (Resumed deadline dated) = if deadline == number then None else before
+ended_then number before (Closed why dated) = before
+ended_then number before (Reopened dated) = before
+
+-- why the deadline of that number was ended, if it was and wasn't resumed
+abbrev pub ended_in : List Fact → (number : ℕ) → Option Ending
+ended_in facts number = fold (ended_then number) None facts
+
+-- why the deadline of that number is due no more, if it isn't: its case is closed, or it was ended
+unfoldable pub ending_in : List Fact → (number : ℕ) → Option Ending
+ending_in facts number = if is_some (closing_in facts) then Some CaseClosed else ended_in facts number
+
+-- the word by which texts name why a deadline was ended
+abbrev pub ending_word : Ending → List ℕ
+ending_word Moot = codes "moot"
+ending_word Vacated = codes "vacated"
+ending_word Stayed = codes "stayed"
+ending_word Suspended = codes "suspended"
+ending_word Withdrawn = codes "withdrawn"
+ending_word CaseClosed = codes "case closed"
+
+-- the word by which texts name how a case was closed
+abbrev pub closing_word : Closing → List ℕ
+closing_word Dismissed = codes "dismissed"
+closing_word Judgment = codes "judgment"
+closing_word Settled = codes "settled"
+closing_word Transferred = codes "transferred"
+closing_word Remanded = codes "remanded"
+closing_word Otherwise = codes "otherwise"
+
+-- the deadline that a fact of a case is about, if it is about one
+abbrev pub fact_subject : (case : ℕ) → Fact → Option Subject
+fact_subject case (Ended deadline why dated) = Some (record { case = case; counted = Deadline; number = deadline })
+fact_subject case (Resumed deadline dated) = Some (record { case = case; counted = Deadline; number = deadline })
+fact_subject case (Closed why dated) = None
+fact_subject case (Reopened dated) = None
+
+-- the same fact of the deadline of that number; one of no deadline stays as it is
+abbrev pub fact_naming : Fact → (number : ℕ) → Fact
+fact_naming (Ended deadline why dated) number = Ended number why dated
+fact_naming (Resumed deadline dated) number = Resumed number dated
+fact_naming (Closed why dated) number = Closed why dated
+fact_naming (Reopened dated) number = Reopened dated
