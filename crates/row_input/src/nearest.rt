@@ -121,6 +121,18 @@ fn nearest_in(
                 "otherwise",
             ],
         ),
+        Column::Ruling => nearest_of(
+            alloc,
+            word,
+            &[
+                "granted",
+                "denied",
+                "in part",
+                "moot",
+                "withdrawn",
+                "reserved",
+            ],
+        ),
         Column::Why => nearest_of(
             alloc,
             word,
