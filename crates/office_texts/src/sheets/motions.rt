@@ -50,8 +50,8 @@ pub fn push_ruled(text: &mut String, ruled: DatedRuling) -> Result<(), AllocErro
     write!(text, " {dated}")
 }
 
-/// Adds how a motion was ruled on after what is said of it, if it was.
-fn push_and_ruled(text: &mut String, ruled: Option<DatedRuling>) -> Result<(), AllocError>
+/// Adds how a motion was ruled on after what is said of it, if it was. `Err` says that memory ran out.
+pub fn push_and_ruled(text: &mut String, ruled: Option<DatedRuling>) -> Result<(), AllocError>
     ensures { OnOk result (AddsText text.old text.new (and_ruled_text ruled)) }
 {
     match ruled {
