@@ -26,8 +26,8 @@ abbrev pub hearing_change : Command → Option HearingChange
 hearing_change command = option_and_then order_made (order_of command)
 
 -- What a command asks for changes of what calendars show: a deadline of a case, which is started, extended, ended or resumed, or for
--- which an act or a fact of the case is recorded; the court's days, by a holiday or an outage, on which the end of any deadline may rest; or the hearing of a
--- motion. A case that is opened and a motion that is entered are in no calendar.
+-- which an act is recorded, or a fact of the case; the court's days, by a holiday or an outage, on which the end of any deadline may
+-- rest; or the hearing of a motion. A case that is opened and a motion that is entered are in no calendar.
 abbrev pub change_asked : Command → Option Change
 change_asked (OpenCase case filed) = None
 change_asked (Start case period event second service) = Some (Deadline case)
