@@ -220,8 +220,8 @@ fn push_cases(
 }
 
 /// Adds a line for each case that is open before or after alone, for each deadline that ends otherwise after than before and for each
-/// motion that is heard or ruled on otherwise, with both: by the cases, and in each first what there was before, in its order, then what is new. `Err`
-/// says that memory ran out.
+/// motion that is heard or ruled on otherwise, with both: by the cases, and in each first what there was before, in its order, then what
+/// is new. `Err` says that memory ran out.
 pub fn push_shifts(
     alloc: Global,
     text: &mut String,
