@@ -208,14 +208,17 @@ def deadline_cells(words):
 
 
 def motion_cells(words, hearing):
-    need = "ex parte" if words[5] == "exparte" else "{} {}".format(words[5], UNITS["d"][words[5] != "1"])
+    """What the row of a motion says: how it was ruled on, if it was, is below the day on which it was served."""
+    days, how = words[5].rstrip(","), words[6:-1]
+    need = "ex parte" if days == "exparte" else "{} {}".format(days, UNITS["d"][days != "1"])
+    ruled = ["{} {}".format(" ".join(how), named(day_of(words[-1])))] if how else []
     lines = ["not set"]
     if hearing:
         first = minutes(hearing[2])
         lines = ["{} {}-{}".format(named(day_of(hearing[1])), clock(first), clock(first + 15 * quarters(hearing[3]))),
                  "before {}, room {}".format(hearing[4], hearing[5]), "notice served " + named(day_of(hearing[7])),
                  "opposing affidavits: none" if hearing[9] == "none" else "opposing affidavits by " + named(day_of(hearing[9]))]
-    return [[words[1]], [named(day_of(words[3]))], [need], lines]
+    return [[words[1]], [named(day_of(words[3])), *ruled], [need], lines]
 
 
 def due_rows(text):

@@ -55,6 +55,7 @@ TABLES = {
     "outages": ("number, outage_day, begins, ends", "number"),
     "closings": ("case_number, closed, how", "case_number"),
     "endings": ("case_number, deadline_number, why", "case_number, deadline_number"),
+    "rulings": ("case_number, motion_number, ruled, how", "case_number, motion_number"),
     "answers": ("number, clerk, refusal, answer", "number"),
 }
 # Where docs/clerk/REPORTS.md asks sqlite3.
@@ -169,8 +170,16 @@ def clock(minute):
 
 
 def has_endings(rows):
-    """Whether some of these rows end a deadline or close a case, or take that back: then there are tables of what is ended and closed."""
-    return any(row.split(",")[1] in ("end", "resume", "close", "reopen") for row in rows)
+    """Whether some of these rows end a deadline or close a case, take that back, or rule on a motion: then there are tables of what is
+    ended and closed."""
+    return any(row.split(",")[1] in ("end", "resume", "close", "reopen", "rule") for row in rows)
+
+
+def tables_of(rows):
+    """The tables that there are where these are the rows."""
+    ruled = any(row.split(",")[1] == "rule" for row in rows)
+    without = set() if has_endings(rows) else {"closings", "endings"}
+    return [table for table in TABLES if table not in without and (ruled or table != "rulings")]
 
 
 def due_text(database, names, closes, first, last, endings):
@@ -253,6 +262,7 @@ def wanted_rows(whole, rows, answers, given):
                     found["grants"].append((*key, or_empty(g["days"]), or_empty(g["hours"]), or_empty(g["until"])))
         for m in sheet["motions"]:
             found["motions"].append((case, str(m["number"]), m["served"], or_empty(m["notice_days"])))
+            found["rulings"] += [(case, str(m["number"]), m["ruled"], m["ruling"])] if "ruling" in m else []
             h = m["hearing"]
             if h is not None:
                 found["hearings"].append((case, str(m["number"]), h["room"], h["day"], time_of(h["time"]), str(h["minutes"]),
@@ -294,10 +304,9 @@ def names_fault(database, names, whole):
     return None if found == wanted else "names of cases: found {}, wanted {}".format(found, wanted)
 
 
-def table_fault(database, wanted, endings):
-    for table, (columns, order) in TABLES.items():
-        if table in ("closings", "endings") and not endings:
-            continue
+def table_fault(database, wanted, tables):
+    for table in tables:
+        columns, order = TABLES[table]
         columns = columns.format(starts_at=database.seconds("starts_at"), ends_at=database.seconds("ends_at"))
         found = rows_of(database, "SELECT {} FROM {} ORDER BY {}".format(columns, table, order))
         if found != wanted[table]:
@@ -324,7 +333,7 @@ def is_in_order(script):
     last = {}
     for table, first, rest in re.findall(r"^INSERT INTO (\w+) VALUES \((\d+)((?:, \d+)*)", script, re.MULTILINE):
         key = (int(first), *[int(part) for part in rest.split(", ")[1:]][:2])
-        key = key[:{"cases": 1, "closings": 1, "outages": 1, "answers": 1, "deadlines": 2, "motions": 2, "hearings": 2, "endings": 2}.get(table, 3)]
+        key = key[:{"cases": 1, "closings": 1, "outages": 1, "answers": 1, "deadlines": 2, "motions": 2, "hearings": 2, "endings": 2, "rulings": 2}.get(table, 3)]
         if last.get(table, ()) >= key:
             return False
         last[table] = key
@@ -355,7 +364,7 @@ def differs(chance, given, databases):
     of = chance.choice([b["day"] for c in whole["calendars"] for b in c["bookings"]] or [first])
     due = due_alone(given.report(["due", "--from", first, "--to", last]).output.decode(), first, last)
     for database in databases:
-        fault = database.load(found.output) or table_fault(database, wanted, endings) or zone_fault(database, given.plain) or \
+        fault = database.load(found.output) or table_fault(database, wanted, tables_of(rows)) or zone_fault(database, given.plain) or \
             names_fault(database, given.names, whole)
         if fault:
             return "{}: {}".format(database.name, fault)

@@ -7,8 +7,8 @@ COUNT dockets (100 without it) are entered. Then one to five rows of each are st
 entered in between, and sometimes with another court's file. In the replay the number of a deadline or a motion belongs to the
 row that gave it: the row gives the same whenever it is decided again, also after it was restored, and a row that gives one for
 the first time gives the next after all that were ever given in its case. After each strike and each restore these are compared
-with it: the row that the desk shows, the answers that it lists as changed, each deadline and hearing that it lists as another than
-before, the sheets of all cases and the calendars of all judges, the answers to
+with it: the row that the desk shows, the answers that it lists as changed, each deadline, hearing and ruling that it lists as another
+than before, the sheets of all cases and the calendars of all judges, the answers to
 later rows, what clerk_office makes of the rows that the desk writes, which counts deadlines and motions by their places (or the
 second program, where it doesn't take them all), and
 the reports of the folder, which show the numbers of rows, deadlines and motions that `enter` answered. Without --accept a
@@ -32,7 +32,7 @@ from lib.programs import Ended, programs_of, seed_and_count
 from office_reference import ended as ended_by_reference
 from reference.civil import day_text
 from reference.court_file import court_of
-from reference.docket import STEPS, closing_of, deadlines_of, ending_of, hearing_of, motions_of, opening, step, view
+from reference.docket import STEPS, Ruling, closing_of, deadlines_of, ending_of, hearing_of, motions_of, opening, ruling_of, step, view
 from reference.periods import shown
 from reference.rows_in import rows_of
 from reference.text_out import answer_lines, closing_lines, hearing_line, shown_text
@@ -42,7 +42,7 @@ WHY = ["--reason", "entered twice"]
 CASES = (1, 2, 3)
 # What a row names by its number.
 NAMED = {"file": "deadline", "extend": "deadline", "reset": "deadline", "end": "deadline", "resume": "deadline", "book": "motion",
-         "move": "motion", "cancel": "motion"}
+         "move": "motion", "cancel": "motion", "rule": "motion"}
 # What of an event says when it was written, and which it is.
 STAMPS = ("DTSTAMP", "LAST-MODIFIED", "SEQUENCE", "UID")
 
@@ -68,6 +68,7 @@ def drawn_row(draw):
         "1,motion,{},{},{}".format(case, day, draw.choice(["14", "7", "exparte"])),
         "1,{},{},{},Ames,R1,{},{:02}:00,1,{}".format(draw.choice(["book", "move"]), case, number, day, draw.randint(8, 16), "2025-03-03"),
         "1,cancel,{},{}".format(case, number),
+        "1,rule,{},{},{},{}".format(case, number, draw.choice(["granted", "denied", "in part", "moot", "withdrawn", "reserved"]), day),
         "1,holiday,{},state".format(day),
         "1,sheet,{}".format(case),
     ]).encode() + b"\n"
@@ -142,11 +143,16 @@ class Replay:
 
         def motion(item, number):
             return places["motion"][item.case, number]
+
+        def fact(item):
+            if isinstance(item, Ruling):
+                return item._replace(motion=motion(item, item.motion))
+            return item._replace(deadline=item.deadline and places["deadline"][item.case, item.deadline])
         return self.docket._replace(
             deadlines=[item._replace(number=places["deadline"][item.case, item.number]) for item in self.docket.deadlines],
             motions=[item._replace(number=motion(item, item.number)) for item in self.docket.motions],
             hearings=[item._replace(motion=motion(item, item.motion)) for item in self.docket.hearings],
-            facts=[item._replace(deadline=item.deadline and places["deadline"][item.case, item.deadline]) for item in self.docket.facts])
+            facts=[fact(item) for item in self.docket.facts])
 
 
 def is_done(number, answer):
@@ -247,9 +253,15 @@ def ends_of(replay, case):
 
 
 def hearings_in(replay, case):
-    """The hearings of a case, by the numbers of their motions."""
-    found = {motion.number: hearing_of(replay.docket, case, motion.number) for motion in motions_of(replay.docket, case)}
-    return {number: hearing_line(replay.court, replay.docket, hearing) for number, hearing in found.items() if hearing is not None}
+    """The hearings of a case, by the numbers of their motions, and how these were ruled on."""
+    found = {}
+    for motion in motions_of(replay.docket, case):
+        hearing, ruled = hearing_of(replay.docket, case, motion.number), ruling_of(replay.docket, case, motion.number)
+        texts = [] if hearing is None else [hearing_line(replay.court, replay.docket, hearing)]
+        texts += [] if ruled is None else ["{} {}".format(ruled.how, day_text(ruled.dated))]
+        if texts:
+            found[motion.number] = ", ".join(texts)
+    return found
 
 
 def filed_in(replay, case):
@@ -280,7 +292,7 @@ def closing_line(case, now, after):
 
 
 def shifts(now, after):
-    """What the desk has to list of cases, deadlines and hearings: those that are shown otherwise after a correction than now."""
+    """What the desk has to list of cases, deadlines and motions: those that are shown otherwise after a correction than now."""
     text = ""
     for case in CASES:
         text += filed_line(case, filed_in(now, case), filed_in(after, case)) + closing_line(case, now, after)

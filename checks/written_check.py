@@ -48,7 +48,9 @@ WORDS = {"electronic": ["electronic", "ECF", "Electronically"], "paper": ["paper
          "moot": ["moot", "Moot", "mooted"], "vacated": ["vacated", "Vacated", "vacate"], "stayed": ["stayed", "STAYED", "stay"],
          "suspended": ["suspended", "Suspended", "suspend"], "withdrawn": ["withdrawn", "Withdrawn", "withdrew"],
          "dismissed": ["dismissed", "Dismissed", "dismissal"], "judgment": ["judgment", "Judgement"], "settled": ["settled", "Settlement"],
-         "transferred": ["transferred", "Transfer"], "remanded": ["remanded", "REMAND"], "otherwise": ["otherwise", "Other"]}
+         "transferred": ["transferred", "Transfer"], "remanded": ["remanded", "REMAND"], "otherwise": ["otherwise", "Other"],
+         "granted": ["granted", "Granted", "grant"], "denied": ["denied", "Denied", "deny"], "in part": ["in part", "In Part", "granted in part"],
+         "reserved": ["reserved", "Reserved", "under advisement"]}
 # The columns of each command, by what they hold.
 FORMS = {
     "open": "clerk command case date",
@@ -70,6 +72,7 @@ FORMS = {
     "resume": "clerk command case deadline date! dated",
     "close": "clerk command case why. dated",
     "reopen": "clerk command case dated",
+    "rule": "clerk command case motion ruling dated",
 }
 NAMES = sorted({column.strip("?!.") for form in FORMS.values() for column in form.split()})
 
@@ -109,6 +112,7 @@ def drawn(draw, column, clear):
         "list": lambda: draw.choice(["federal", "state"]), "act": lambda: draw.choice(["filing", "service"]),
         "date!": lambda: "",
         "why": lambda: draw.choice(["moot", "vacated", "stayed", "suspended", "withdrawn"]),
+        "ruling": lambda: draw.choice(["granted", "denied", "in part", "moot", "withdrawn", "reserved"]),
         "why.": lambda: draw.choice(["dismissed", "judgment", "settled", "transferred", "remanded", "otherwise"]),
     }[column]()
 

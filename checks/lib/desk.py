@@ -16,7 +16,7 @@ TOGETHER, KEEP_REFUSED, FAULTS = "--all-or-nothing", "--keep-refused", 3
 # that has a fault.
 FAULTY, FAULT_LINE = 8, re.compile(rb"\d+ (?:\d+|-) fault ")
 # A row that the desk takes, and clerk_office doesn't.
-ROW_OF_DESK = re.compile(rb'(?m)^"?[0-9]+"?,"?(?:set|reset|end|resume|close|reopen)"?,')
+ROW_OF_DESK = re.compile(rb'(?m)^"?[0-9]+"?,"?(?:set|reset|end|resume|close|reopen|rule)"?,')
 # What a session says first of each that was cut off before it.
 CUT_OFF = re.compile(rb"docket: a session of [^\n]* was cut off; the last row that is kept is row (\d+): see 'docket log [^\n]* --row \1'\n")
 # A court's file that is short, so that a journal's bytes are mostly those of its rows.
@@ -168,8 +168,8 @@ def set_rows(draw, rows, cases, faulty=True):
 
 
 def fact_rows(draw, rows, cases, faulty=True):
-    """The rows with some put among them that end one of the first deadlines of a case, or resume it, and a few that close a case or reopen
-    it. Some have a fault, unless none is to have one."""
+    """The rows with some put among them that end one of the first deadlines of a case, or resume it, some that rule on one of its first
+    motions, and a few that close a case or reopen it. Some have a fault, unless none is to have one."""
     days = re.findall(rb"\d{4}-\d\d-\d\d", b"".join(rows)) or [b"2025-09-07"]
     reasons = [b"moot", b"vacated", b"stayed", b"suspended", b"withdrawn"] + [b"settled"] * faulty
     rows = list(rows)
@@ -177,6 +177,10 @@ def fact_rows(draw, rows, cases, faulty=True):
         subject, dated = b"%d,%d" % (draw.choice(cases), draw.randint(1, 4)), draw.choice(days)
         day = dated if faulty and draw.random() < 0.1 else b""
         row = draw.choice([b"1,end,%s,%s,%s\n" % (subject, draw.choice(reasons), dated), b"1,resume,%s,%s,%s\n" % (subject, day, dated)])
+        rows.insert(draw.randint(min(len(rows), 4), len(rows)), row)
+    rulings = [b"granted", b"denied", b"in part", b"moot", b"withdrawn", b"reserved"] + [b"vacated"] * faulty
+    for _ in range(draw.randint(0, 6)):
+        row = b"1,rule,%d,%d,%s,%s\n" % (draw.choice(cases), draw.randint(1, 4), draw.choice(rulings), draw.choice(days))
         rows.insert(draw.randint(min(len(rows), 4), len(rows)), row)
     ways = [b"dismissed", b"judgment", b"settled", b"transferred", b"remanded", b"otherwise"] + [b"moot"] * faulty
     for _ in range(draw.choice([0, 0, 1, 2])):

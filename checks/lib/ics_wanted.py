@@ -170,10 +170,10 @@ def histories_of(rows, answers, judge):
     for number, row in rows.items():
         fields = row.split(",")
         answer = answers.get(number, "")
-        if fields[1] not in ("book", "move", "cancel") or answer.startswith("refused"):
+        if not (fields[1] in ("book", "move", "cancel") or answer.startswith("ruled, hearing of ")) or answer.startswith("refused"):
             continue
         key = int(fields[2]), int(fields[3])
-        if fields[1] != "cancel" and (judge is None or judge in fields[4].split("+")):
+        if fields[1] in ("book", "move") and (judge is None or judge in fields[4].split("+")):
             known[key] = Hearing(day_of(fields[6]), seconds(fields[7]) // 900, quarters(fields[8]), fields[4], fields[5],
                                  fields[9], None), False
         elif key in known:
@@ -196,7 +196,7 @@ def revisions_of(rows, answers):
         if not answers.get(number, "refused").startswith("refused"):
             if fields[1] in ("holiday", "inaccessible"):
                 last[0] = number
-            elif fields[1] in ("start", "set", "file", "extend", "reset", "end", "resume", "close", "reopen", "book", "move", "cancel"):
+            elif fields[1] in ("start", "set", "file", "extend", "reset", "end", "resume", "close", "reopen", "rule", "book", "move", "cancel"):
                 last[int(fields[2])] = number
     return last
 
@@ -282,7 +282,7 @@ def rows_of(given, text):
     found = {}
     for place, row in enumerate(rows, 1):
         fields = row.split(",")
-        if fields[1] in ("book", "move", "cancel"):
+        if fields[1] in ("book", "move", "cancel", "rule"):
             fields[3] = str(given.numbers.of("motion", fields[2], fields[3]))
         found[given.numbers.of_row(place)] = ",".join(fields)
     return found

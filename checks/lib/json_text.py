@@ -49,7 +49,8 @@ def sheet_lines(sheet):
         yield "deadline {} {} {} {}".format(d["number"], period(d), shown(d), state(d, done))
     for m in sheet["motions"]:
         need = "exparte" if m["notice_days"] is None else m["notice_days"]
-        yield "motion {} served {} need {}".format(m["number"], m["served"], need)
+        ruled = ", {ruling} {ruled}".format(**m) if "ruling" in m else ""
+        yield "motion {} served {} need {}{}".format(m["number"], m["served"], need, ruled)
         h = m["hearing"]
         if h is not None:
             yield "hearing {} {} {} notice {} affidavits {}".format(span(h), "+".join(h["judges"]), h["room"], h["notice"],
@@ -64,6 +65,8 @@ def answer_lines(a):
         yield "filed timely" if a["timely"] else "filed late"
     elif kind in ("extended", "reset", "resumed"):
         yield kind + " " + shown(a)
+    elif kind == "ruled":
+        yield "ruled" if a["hearing_cancelled"] is None else "ruled, hearing of {} cancelled".format(a["hearing_cancelled"])
     elif kind == "motion":
         yield "motion {}".format(a["number"])
     elif kind == "refused":

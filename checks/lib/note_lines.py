@@ -328,6 +328,7 @@ MOST = {"start": "a case has {} deadlines at most".format(DEADLINES),
         "resume": "a case has {} such rows at most".format(FACTS),
         "close": "a case has {} such rows at most".format(FACTS),
         "reopen": "a case has {} such rows at most".format(FACTS),
+        "rule": "a case has {} such rows at most".format(FACTS),
         "holiday": "a list of holidays has {} dates at most".format(DATES),
         "inaccessible": "the docket has {} outages at most".format(OUTAGES)}
 

@@ -86,10 +86,19 @@ class Parts:
         if word in ("end", "resume"):
             deadline, facts = self.set_of(("start", case, work[2])), self.set_of(("facts", case))
             return here | deadline | facts | self.set_of("court"), facts | changed
+        if word == "rule":
+            return self.of_ruling(work, first, here | self.set_of(("motion", case, work[2])), changed)
         if word in ("file", "extend"):
             deadline = self.set_of(("start", case, work[2]))
             return here | deadline | (self.set_of("court") if refusal != 3 else 0), deadline | changed
         return self.of_hearing(work, refusal, here | self.set_of(("motion", case, work[2])), changed)
+
+    def of_ruling(self, work, first, there, changed):
+        """A ruling changes the hearing of its motion where it took it off."""
+        motion = work[1:3]
+        hearing, facts, times = self.set_of(("hearing",) + motion), self.set_of(("facts", motion[0])), self.times.get(motion, 0)
+        taken = hearing | times | self.set_of("hearings") if first[0] == "ruled," else 0
+        return there | hearing | facts | times | self.set_of("court"), facts | changed | taken
 
     def of_hearing(self, work, refusal, there, changed):
         motion = work[1:3]

@@ -88,6 +88,12 @@ def spoiled():
         way(name + " as how a case is closed", put(close, "settled", why))
     way("how a case is closed left out", put(close, "settled,", ""))
     way("a deadline in a row that reopens a case", "1,reopen,12,2,2025-11-03")
+    # motions that are ruled on
+    rule = "1,rule,12,2,granted,2025-11-03"
+    for name, ruling in [("another word", "settled"), ("a misspelt word", "grantd"), ("nothing", "")]:
+        way(name + " as how a motion is ruled on", put(rule, "granted", ruling))
+    way("how a motion is ruled on left out", put(rule, "granted,", ""))
+    way("a day of a ruling that is none", put(rule, "2025-11-03", "9/31/2025"))
     # numbers
     for name, case in [("a real case number", "1:25-cv-01234-ABC"), ("a leading zero", "012"), ("a hash before it", "#12"), ("a word before it", "case 12"),
                        ("a number as spreadsheets write it", "7.0"), ("a blank in it", "1 2"), ("a dot in it", "1.2"), ("a dot before it", ".5"), ("a dot after it", "7."),

@@ -18,6 +18,8 @@ Hearing = namedtuple("Hearing", "case motion judges room day first count notice"
 # That a deadline of a case was ended, and why, or that it was resumed: then `why` is None. Where `deadline` is None it is the case
 # that was closed, and how, or reopened. `dated` is the day of the order or the paper
 Fact = namedtuple("Fact", "case deadline why dated")
+# How a motion of a case was ruled on: it is among the facts
+Ruling = namedtuple("Ruling", "case motion how dated")
 
 CASES = 4096
 DEADLINES = MOTIONS = 64
@@ -87,7 +89,7 @@ def hearing_of(rows, case, motion):
 
 def last_fact(rows, case, number):
     """The last fact of a deadline, or of the case itself where the number is None, unless it resumed or reopened it."""
-    found = next((fact for fact in reversed(rows.facts) if (fact.case, fact.deadline) == (case, number)), None)
+    found = next((fact for fact in reversed(rows.facts) if isinstance(fact, Fact) and (fact.case, fact.deadline) == (case, number)), None)
     return found if found is not None and found.why is not None else None
 
 
@@ -102,6 +104,11 @@ def ending_of(rows, case, number):
         return "case closed"
     found = last_fact(rows, case, number)
     return None if found is None else found.why
+
+
+def ruling_of(rows, case, number):
+    """The last ruling on a motion. None where there is none."""
+    return next((fact for fact in reversed(rows.facts) if isinstance(fact, Ruling) and (fact.case, fact.motion) == (case, number)), None)
 
 
 def replaced(items, old, new):
@@ -207,6 +214,18 @@ def reopen(court, rows, case, dated):
     refuse(closing_of(rows, case) is None, 31)
     refuse(not covered(rows.days, dated), 5)
     return with_fact(rows, Fact(case, None, None, dated)), ("reopened",)
+
+
+def rule(court, rows, case, number, how, dated):
+    """A ruling, of whatever kind, takes the hearing off if it is on a later day."""
+    refuse_shut(rows, case)
+    refuse(motion_of(rows, case, number) is None, 4)
+    refuse(not covered(rows.days, dated), 5)
+    after = with_fact(rows, Ruling(case, number, how, dated))
+    old = hearing_of(rows, case, number)
+    if old is None or old.day <= dated:
+        return after, ("ruled", None)
+    return after._replace(hearings=[hearing for hearing in after.hearings if hearing is not old]), ("ruled", old.day)
 
 
 def with_fact(rows, fact):
@@ -338,6 +357,6 @@ def calendar_of(rows, judge):
 
 
 STEPS = {"open": open_case, "start": start, "file": file_act, "extend": extend, "end": end, "resume": resume, "close": close,
-         "reopen": reopen, "motion": motion, "book": book, "move": move, "cancel": cancel, "holiday": holiday,
+         "reopen": reopen, "rule": rule, "motion": motion, "book": book, "move": move, "cancel": cancel, "holiday": holiday,
          "inaccessible": inaccessible}
 VIEWS = {"sheet": sheet, "calendar": calendar, "compute": compute}

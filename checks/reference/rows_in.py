@@ -222,6 +222,7 @@ DESK_COLUMNS = {
     "resume": [number, number, no_day, date],
     "close": [number, one_of("dismissed", "judgment", "settled", "transferred", "remanded", "otherwise"), date],
     "reopen": [number, date],
+    "rule": [number, number, one_of("granted", "denied", "in part", "moot", "withdrawn", "reserved"), date],
 }
 WORKS = {
     "open": lambda case, filed: ("open", case, filed),
@@ -243,6 +244,7 @@ WORKS = {
     "resume": lambda case, deadline, day, dated: ("resume", case, deadline, dated),
     "close": lambda case, why, dated: ("close", case, why, dated),
     "reopen": lambda case, dated: ("reopen", case, dated),
+    "rule": lambda case, motion, ruling, dated: ("rule", case, motion, ruling, dated),
 }
 
 

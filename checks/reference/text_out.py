@@ -1,6 +1,6 @@
 """The text of a run: a line for each answer, the lines of sheets, and those of calendars."""
 from .civil import civil, day_text, minute_text
-from .docket import SLOT, calendar_of, case_of, closing_of, deadlines_of, ending_of, hearing_of, motions_of
+from .docket import SLOT, calendar_of, case_of, closing_of, deadlines_of, ending_of, hearing_of, motions_of, ruling_of
 from .periods import shown
 from .rule6 import BEYOND, is_timely, notice_day
 
@@ -23,6 +23,8 @@ def answer_lines(court, rows, answer):
         return ["filed timely" if rest[0] else "filed late"]
     if word in ("extended", "reset", "resumed"):
         return [word + " " + shown_text(court, rest[0])]
+    if word == "ruled":
+        return ["ruled" if rest[0] is None else "ruled, hearing of {} cancelled".format(day_text(rest[0]))]
     if word == "motion":
         return ["motion {}".format(rest[0])]
     if word == "computed":
@@ -92,7 +94,9 @@ def sheet_lines(court, rows, number):
     lines += [deadline_line(court, rows, deadline) for deadline in deadlines_of(rows, number)]
     for motion in motions_of(rows, number):
         need = "exparte" if motion.need is None else motion.need
-        lines.append("motion {} served {} need {}".format(motion.number, day_text(motion.served), need))
+        ruled = ruling_of(rows, number, motion.number)
+        how = "" if ruled is None else ", {} {}".format(ruled.how, day_text(ruled.dated))
+        lines.append("motion {} served {} need {}{}".format(motion.number, day_text(motion.served), need, how))
         hearing = hearing_of(rows, number, motion.number)
         if hearing is not None:
             lines.append(hearing_line(court, rows, hearing))

@@ -14,7 +14,7 @@ use Rattle.docket_rows.specs.declared.command.Command.TheVariants.{OpenCase, Sta
 use Rattle.docket_rows.specs.declared.command.Counted.{Counted}
 use Rattle.docket_rows.specs.declared.command.Counted.TheVariants.{Deadline, Motion as CountedMotion}
 use Rattle.docket_rows.specs.declared.fact.Fact.{Fact as FactOf}
-use Rattle.docket_rows.specs.declared.fact.Fact.TheVariants.{Ended, Resumed, Closed, Reopened}
+use Rattle.docket_rows.specs.declared.fact.Fact.TheVariants.{Ended, Resumed, Closed, Reopened, Ruled}
 use Rattle.docket_rows.specs.declared.query.Query.TheVariants as query
 use Rattle.docket_rows.specs.declared.refusal.Refusal.{Refusal as RefusalOf}
 use Rattle.docket_rows.specs.declared.refusal.Refusal.TheVariants.{NoSuchCase}
@@ -83,21 +83,21 @@ same_hearing : (court : CourtView) (days : DaysView) (named : List NamedCase) (c
 same_hearing court days named case number None = refl
 same_hearing court days named case number (Some h) = alike named case CountedMotion number (hearing_text court (sheet_hearing days h))
 
-same_hearings : (court : CourtView) (days : DaysView) (named : List NamedCase) (case : ℕ) (numbers : ℕ → ℕ) (ms : List NumberedMotion)
-    → flat_map (motion_shift court days named case) (map (λ (m : SheetMotion). record m { number = numbers m.number }) (map (sheet_motion days) ms)) ≡ []
-same_hearings court days named case numbers [] = refl
-same_hearings court days named case numbers (m ∷ ms) =
-    ap (λ (l : List ℕ). l ++ flat_map (motion_shift court days named case) (map (λ (s : SheetMotion). record s { number = numbers s.number }) (map (sheet_motion days) ms)))
+same_hearings : (court : CourtView) (days : DaysView) (facts : List FactOf) (named : List NamedCase) (case : ℕ) (numbers : ℕ → ℕ) (ms : List NumberedMotion)
+    → flat_map (motion_shift court days named case) (map (λ (m : SheetMotion). record m { number = numbers m.number }) (map (sheet_motion days facts) ms)) ≡ []
+same_hearings court days facts named case numbers [] = refl
+same_hearings court days facts named case numbers (m ∷ ms) =
+    ap (λ (l : List ℕ). l ++ flat_map (motion_shift court days named case) (map (λ (s : SheetMotion). record s { number = numbers s.number }) (map (sheet_motion days facts) ms)))
     (same_hearing court days named case (numbers m.number) m.hearing)
-    ∙ same_hearings court days named case numbers ms
+    ∙ same_hearings court days facts named case numbers ms
 
 -- nor has a sheet, nor all of them
 unmoved_sheet : (court : CourtView) (parts : Parts) (moved : List Moved) (named : List NamedCase) (case : ℕ) (c : CaseRecordView)
     → sheet_shifts court parts.days named (numbered_view moved (view.Sheet (sheet_of (setup_of court) parts case c))) ≡ []
 unmoved_sheet court parts moved named case c =
-    ap (λ (l : List ℕ). l ++ flat_map (motion_shift court parts.days named case) (map (λ (m : SheetMotion). record m { number = number_in moved case CountedMotion m.number }) (map (sheet_motion parts.days) c.motions)))
+    ap (λ (l : List ℕ). l ++ flat_map (motion_shift court parts.days named case) (map (λ (m : SheetMotion). record m { number = number_in moved case CountedMotion m.number }) (map (sheet_motion parts.days c.facts) c.motions)))
     (unmoved court parts c.facts named case (number_in moved case Deadline) c.deadlines)
-    ∙ same_hearings court parts.days named case (number_in moved case CountedMotion) c.motions
+    ∙ same_hearings court parts.days c.facts named case (number_in moved case CountedMotion) c.motions
 
 unmoved_view : (court : CourtView) (parts : Parts) (moved : List Moved) (named : List NamedCase) (case : ℕ) (refused : Option RefusalOf) (there : Option CaseRecordView)
     → sheet_shifts court parts.days named (numbered_view moved (option_map_or view.Refused refused (option_map_or (λ c. view.Sheet (sheet_of (setup_of court) parts case c)) there (view.Refused NoSuchCase)))) ≡ []
@@ -139,6 +139,7 @@ made_taken setup parts (Fact case (Ended deadline why dated)) = refl
 made_taken setup parts (Fact case (Resumed deadline dated)) = refl
 made_taken setup parts (Fact case (Closed why dated)) = refl
 made_taken setup parts (Fact case (Reopened dated)) = refl
+made_taken setup parts (Fact case (Ruled motion how dated)) = refl
 
 refused_leaves : (setup : CourtSetup) (docketed : Rows) (command : CommandOf) → came_of (step setup docketed command).1 ≡ Refused → (step setup docketed command).0 ≡ docketed
 unfolding step answered

@@ -1,18 +1,23 @@
 //! Recording a fact of a case.
 
-ghost use Rattle.std.specs.Prelude.{◌≡◌, ◌≤◌, ◌+◌, int_lt, length};
+ghost use Rattle.std.specs.Prelude.{◌≡◌, ◌<◌, ◌≤◌, ◌+◌, int_lt, is_ok, length, option_map, if◌then◌else◌};
 ghost use Rattle.std.specs.Option.{option_map_or};
 ghost use Rattle.rule6.specs.declared.timeliness.Shown.TheVariants.{Beyond};
 ghost use Rattle.docket_rows.specs.declared.command.Command.TheVariants as command;
 ghost use Rattle.docket_rows.specs.declared.hearing.Hearing.{Hearing};
-ghost use Rattle.docket_rows.specs.Words.{answer_if_made, close_refusal, deadline_in, end_refusal, ending_in, facts_in, first_ahead, has_one, motions_in, numbered_motions, refusal, reopen_refusal, resume_refusal, shown_now};
+ghost use Rattle.docket_rows.specs.Words.{add_fact, answer_if_made, changed_by_fact, close_refusal, deadline_in, end_refusal, ending_in, facts_in, first_ahead, has_one, hearing_ahead, hearing_set, most_facts, motions_in, numbered_motions, refusal, reopen_refusal, resume_refusal, rule_refusal, shown_now, without_ahead};
 
 use crate::rules::DocketRules;
-use crate::seen::{deadline_in, has_case, is_beyond, is_closed, shown_now};
+use crate::seen::{
+    deadline_in, has_case, hearing_in, if_ahead, is_beyond, is_closed, motion_in, shown_now,
+};
 use crate::sight::Sight;
 use court_clock::Day;
-use docket_rows::{Answer, Ending, Fact, MOST_FACTS, MotionRecord, Refusal, ending_in};
+use docket_rows::{
+    Answer, CaseRecord, Ending, Fact, Hearing, MOST_FACTS, MotionRecord, Refusal, ending_in,
+};
 use rule6::Shown;
+use std::alloc::AllocError;
 
 /// How many facts are recorded of the case.
 fn facts_count<S: Sight>(sight: &S, case: u32) -> usize
@@ -89,6 +94,7 @@ pub(crate) fn fact_refusal<S: Sight>(
         Fact::Resumed { deadline, dated } => resume_refusal(rules, sight, case, deadline, dated),
         Fact::Closed { dated, .. } => close_refusal(sight, case, dated),
         Fact::Reopened { dated } => reopen_refusal(sight, case, dated),
+        Fact::Ruled { motion, dated, .. } => rule_refusal(sight, case, motion, dated),
     }
 }
 
@@ -202,6 +208,29 @@ fn reopen_refusal<S: Sight>(sight: &S, case: u32, dated: Day) -> Option<Refusal>
     None
 }
 
+/// Why the motion can't be ruled on, if it can't.
+#[tactic(auto, unfolding(docket_rows::specs::Words::rule_refusal))]
+fn rule_refusal<S: Sight>(sight: &S, case: u32, motion: u32, dated: Day) -> Option<Refusal>
+    ensures { result ≡ rule_refusal (S.parts sight.now) case motion dated }
+{
+    if !has_case(sight, case) {
+        return Some(Refusal::NoSuchCase);
+    }
+    if is_closed(sight, case) {
+        return Some(Refusal::CaseIsClosed);
+    }
+    let Some(_motion) = motion_in(sight, case, motion) else {
+        return Some(Refusal::NoSuchMotion);
+    };
+    if !sight.days().covered(dated) {
+        return Some(Refusal::BadDay);
+    }
+    if facts_count(sight, case) >= MOST_FACTS {
+        return Some(Refusal::Full);
+    }
+    None
+}
+
 /// What a fact is answered that isn't refused.
 pub(crate) fn answer_to_fact<S: Sight>(
     rules: &DocketRules,
@@ -218,6 +247,19 @@ pub(crate) fn answer_to_fact<S: Sight>(
         }
         Fact::Closed { .. } => Answer::Closed,
         Fact::Reopened { .. } => Answer::Reopened,
+        Fact::Ruled { motion, dated, .. } => {
+            Answer::Ruled(day_taken_off(sight, case, motion, dated))
+        }
+    }
+}
+
+/// The day of the hearing that a ruling takes off the calendar, if it takes one off.
+fn day_taken_off<S: Sight>(sight: &S, case: u32, motion: u32, dated: Day) -> Option<Day>
+    ensures { result ≡ option_map (λ (h : Hearing). h.day) (hearing_ahead (S.parts sight.now) case motion dated) }
+{
+    match if_ahead(dated, hearing_in(sight, case, motion)) {
+        Some(hearing) => Some(hearing.day),
+        None => None,
     }
 }
 
@@ -229,4 +271,45 @@ fn shown_if_resumed<S: Sight>(rules: &DocketRules, sight: &S, case: u32, deadlin
         Some(row) => shown_now(rules, sight, row.row()),
         None => Shown::Beyond,
     }
+}
+
+/// The hearing that is set for a motion of the case.
+fn hearing_set(case: &CaseRecord, motion: u32) -> Option<Hearing>
+    ensures { result ≡ hearing_set motion case.now }
+{
+    match case.motion(motion) {
+        Some(motion) => motion.hearing,
+        None => None,
+    }
+}
+
+/// Takes the hearing of a motion out of the case, where it is after the day. It takes no memory.
+fn take_out_ahead(case: &mut CaseRecord, motion: u32, day: Day)
+    ensures { case.new ≡ without_ahead motion day case.old }
+{
+    if if_ahead(day, hearing_set(case, motion)).is_some() {
+        case.set_hearing(motion, None);
+    }
+}
+
+/// Changes what a fact changes of its case beside the list of facts: a ruling takes a later hearing of its motion out. It takes no
+/// memory.
+fn change_by_fact(case: &mut CaseRecord, fact: &Fact)
+    ensures { case.new ≡ changed_by_fact fact.now case.old }
+{
+    match *fact {
+        Fact::Ended { .. } | Fact::Resumed { .. } => {}
+        Fact::Closed { .. } | Fact::Reopened { .. } => {}
+        Fact::Ruled { motion, dated, .. } => take_out_ahead(case, motion, dated),
+    }
+}
+
+/// Records a fact of an open case. An error leaves the case as it was.
+pub(crate) fn record_fact(case: &mut CaseRecord, fact: &Fact) -> Result<(), AllocError>
+    requires { length case.old.facts < most_facts }
+    ensures { case.new ≡ (if is_ok result then changed_by_fact fact.now (add_fact fact.now case.old) else case.old) }
+{
+    case.add_fact(*fact)?;
+    change_by_fact(case, fact);
+    Ok(())
 }

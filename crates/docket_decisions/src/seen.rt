@@ -2,10 +2,11 @@
 
 ghost use Rattle.std.specs.Prelude.{◌≡◌, length, option_copied, option_map};
 ghost use Rattle.rule_periods.specs.Words.{is_beyond};
-ghost use Rattle.docket_rows.specs.Words.{is_case_number, has_case, deadlines_in, deadline_in, motions_in, motion_in, hearing_in, is_closed, shown_now};
+ghost use Rattle.docket_rows.specs.Words.{is_case_number, has_case, deadlines_in, deadline_in, motions_in, motion_in, hearing_in, if_ahead, is_closed, shown_now};
 
 use crate::rules::DocketRules;
 use crate::sight::Sight;
+use court_clock::Day;
 use docket_rows::{Hearing, LAST_CASE, MotionRecord, closing_in};
 use rule_periods::{DeadlineRow, DocketRow, shown};
 use rule6::Shown;
@@ -87,6 +88,22 @@ pub fn hearing_in<S: Sight>(sight: &S, case: u32, motion: u32) -> Option<Hearing
 {
     match motion_in(sight, case, motion) {
         Some(motion) => motion.hearing,
+        None => None,
+    }
+}
+
+/// The hearing, if there is one and it is after the day.
+pub fn if_ahead(day: Day, hearing: Option<Hearing>) -> Option<Hearing>
+    ensures { result ≡ if_ahead day hearing }
+{
+    match hearing {
+        Some(hearing) => {
+            if day.number() < hearing.day.number() {
+                Some(hearing)
+            } else {
+                None
+            }
+        }
         None => None,
     }
 }

@@ -11,6 +11,7 @@ pub mod PartsFacts
 pub mod PartsHearings
 pub mod PartsLists
 pub mod PartsMotions
+pub mod PartsRulings
 pub mod PartsSame
 pub mod PartsSeen
 pub mod PartsStep
@@ -22,3 +23,4 @@ pub mod ReadsParts
 pub mod ReadsSame
 pub mod ReadsUnread
 pub mod ReadsWritten
+pub mod RulingLemmas

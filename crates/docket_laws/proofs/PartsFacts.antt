@@ -1,19 +1,18 @@
--- The cases of the parts after a fact is recorded.
-use Rattle.std.proofs.Common.{◌≡◌, ℕ, true, false, ◌==◌, List, [], ◌∷◌, ◌++◌, map, find, option_map, ap, sym, ◌∙◌}
+-- The cases of the parts with one more fact.
+use Rattle.std.proofs.Common.{◌≡◌, ℕ, true, false, ◌==◌, List, [], ◌∷◌, ◌++◌, map, find, None, option_map, if◌then◌else◌, ap, sym, ◌∙◌}
 use Rattle.std.specs.Option.{option_or}
 use Rattle.std.proofs.lemmas.Bool.{eq-eqb, ne_eqb}
-use Rattle.docket_rows.specs.declared.command.Command.TheVariants as command
 use Rattle.docket_rows.specs.declared.fact.Fact.{Fact}
-use Rattle.docket_rows.specs.Words.{Rows, DocketedFact, is_case, is_fact_in, fact_shown, case_shown, parts_of, add_fact, case_written, rows_after}
+use Rattle.docket_rows.specs.Words.{Rows, DocketedFact, is_case, is_fact_in, fact_shown, case_shown, parts_of, add_fact, with_fact}
 use Rattle.docket_laws.proofs.PartsLists.{filter-push_other, map_filter-push}
 use Rattle.docket_laws.proofs.PartsCases.{written_at, number_found, shown_same, shown_changed}
 
 -- one more fact of a case
-pub case_after_fact : (rows : Rows) (case : ℕ) (fact : Fact) (n : ℕ) → (parts_of (rows_after rows (command.Fact case fact))).case n ≡ option_or (case_written (parts_of rows) (command.Fact case fact) n) ((parts_of rows).case n)
+pub case_with_fact : (rows : Rows) (case : ℕ) (fact : Fact) (n : ℕ) → (parts_of (with_fact case fact rows)).case n ≡ option_or (if n == case then option_map (add_fact fact) ((parts_of rows).case n) else None) ((parts_of rows).case n)
 unfolding parts_of
-case_after_fact rows case fact =
+case_with_fact rows case fact =
     let f : DocketedFact = record { case = case; fact = fact } in
-    let after = record rows { facts = rows.facts ++ f ∷ [] } in
+    let after = with_fact case fact rows in
     written_at
     (λ n. option_map (case_shown after) (find (is_case n) rows.cases))
     (λ n. option_map (case_shown rows) (find (is_case n) rows.cases))

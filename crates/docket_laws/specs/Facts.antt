@@ -1,10 +1,13 @@
--- What facts of cases come to: without them nothing is closed or ended, and a closed case ends its deadlines.
-use Rattle.std.specs.Prelude.{◌≡◌, ℕ, Bool, true, false, not, List, [], Some, None}
+-- What facts of cases come to: without them nothing is closed or ended, a closed case ends its deadlines, and a ruling leaves no later
+-- hearing.
+use Rattle.std.specs.Prelude.{◌≡◌, ℕ, ℤ, Bool, true, false, not, List, [], Some, None}
 use Rattle.std.specs.List.{list_all}
 use Rattle.docket_rows.specs.declared.command.Command.{Command}
 use Rattle.docket_rows.specs.declared.command.Command.TheVariants.{Fact}
 use Rattle.docket_rows.specs.declared.fact.Ending.TheVariants.{CaseClosed}
-use Rattle.docket_rows.specs.Words.{CourtSetup, Rows, DocketedDeadline, ending_in, facts_of, is_closed, parts_of}
+use Rattle.docket_rows.specs.declared.fact.Fact.TheVariants.{Ruled}
+use Rattle.docket_rows.specs.declared.fact.Ruling.{Ruling}
+use Rattle.docket_rows.specs.Words.{CourtSetup, Rows, DocketedDeadline, ending_in, facts_of, hearing_of, if_ahead, is_closed, parts_of, refusal, step}
 use Rattle.docket_laws.specs.Lawful.{deadline_on_sheet, docket_after}
 
 -- the command records a fact of a case
@@ -22,3 +25,10 @@ pub record WithoutFactsNothingIsEnded : Type 0 where
 -- each deadline on the sheet of a closed case is ended
 abbrev pub ClosedCasesEndTheirDeadlines : Type 0
 ClosedCasesEndTheirDeadlines = (setup : CourtSetup) (rows : Rows) (d : DocketedDeadline) → is_closed (parts_of rows) d.case ≡ true → (deadline_on_sheet setup rows d).ended ≡ Some CaseClosed
+
+-- A ruling that isn't refused leaves its motion no hearing after its day. A hearing of that day or before stays, and so do those of other
+-- motions, whether the ruling is refused or not.
+pub record RulingsLeaveNoLaterHearing : Type 0 where
+  pub none_later : (setup : CourtSetup) (rows : Rows) (case motion : ℕ) (how : Ruling) (dated : ℤ) → refusal setup (parts_of rows) (Fact case (Ruled motion how dated)) ≡ None → if_ahead dated (hearing_of (step setup rows (Fact case (Ruled motion how dated))).0 case motion) ≡ None
+  pub earlier_stays : (setup : CourtSetup) (rows : Rows) (case motion : ℕ) (how : Ruling) (dated : ℤ) → if_ahead dated (hearing_of rows case motion) ≡ None → (step setup rows (Fact case (Ruled motion how dated))).0.hearings ≡ rows.hearings
+  pub others_stay : (setup : CourtSetup) (rows : Rows) (case motion : ℕ) (how : Ruling) (dated : ℤ) (n k : ℕ) → ((n ≡ case) × (k ≡ motion) → ⊥) → hearing_of (step setup rows (Fact case (Ruled motion how dated))).0 n k ≡ hearing_of rows n k

@@ -1,14 +1,17 @@
 -- What the facts that are recorded of a case come to, and what each is about.
 use Rattle.std.specs.Prelude.{ℕ, ◌==◌, is_some, List, [], ◌∷◌, ◌++◌, codes, fold, Option, Some, None, if◌then◌else◌}
-use Rattle.docket_rows.specs.declared.command.Counted.TheVariants.{Deadline}
+use Rattle.docket_rows.specs.declared.command.Counted.TheVariants.{Deadline, Motion}
 use Rattle.docket_rows.specs.declared.command.Subject.{Subject}
 use Rattle.docket_rows.specs.declared.fact.Closing.{Closing}
 use Rattle.docket_rows.specs.declared.fact.Closing.TheVariants.{Dismissed, Judgment, Settled, Transferred, Remanded, Otherwise}
 use Rattle.docket_rows.specs.declared.fact.Closure.{Closure}
+use Rattle.docket_rows.specs.declared.fact.DatedRuling.{DatedRuling}
 use Rattle.docket_rows.specs.declared.fact.Ending.{Ending}
 use Rattle.docket_rows.specs.declared.fact.Ending.TheVariants.{Moot, Vacated, Stayed, Suspended, Withdrawn, CaseClosed}
 use Rattle.docket_rows.specs.declared.fact.Fact.{Fact}
-use Rattle.docket_rows.specs.declared.fact.Fact.TheVariants.{Ended, Resumed, Closed, Reopened}
+use Rattle.docket_rows.specs.declared.fact.Fact.TheVariants.{Ended, Resumed, Closed, Reopened, Ruled}
+use Rattle.docket_rows.specs.declared.fact.Ruling.{Ruling}
+use Rattle.docket_rows.specs.declared.fact.Ruling.TheVariants as ruling
 use Rattle.docket_rows.specs.Cases.{CaseRecordView}
 
 -- the case with one fact more
@@ -21,6 +24,7 @@ closed_then before (Ended deadline why dated) = before
 closed_then before (Resumed deadline dated) = before
 closed_then before (Closed why dated) = Some (record { why = why; dated = dated })
 closed_then before (Reopened dated) = None
+closed_then before (Ruled motion how dated) = before
 
 -- how the case was closed, if it was and wasn't reopened
 unfoldable pub closing_in : List Fact → Option Closure
@@ -32,6 +36,7 @@ ended_then number before (Ended deadline why dated) = if deadline == number then
 ended_then number before (Resumed deadline dated) = if deadline == number then None else before
 ended_then number before (Closed why dated) = before
 ended_then number before (Reopened dated) = before
+ended_then number before (Ruled motion how dated) = before
 
 -- why the deadline of that number was ended, if it was and wasn't resumed
 abbrev pub ended_in : List Fact → (number : ℕ) → Option Ending
@@ -40,6 +45,18 @@ ended_in facts number = fold (ended_then number) None facts
 -- why the deadline of that number is due no more, if it isn't: its case is closed, or it was ended
 unfoldable pub ending_in : List Fact → (number : ℕ) → Option Ending
 ending_in facts number = if is_some (closing_in facts) then Some CaseClosed else ended_in facts number
+
+-- how the motion of that number was ruled on last, after one fact more
+abbrev pub ruled_then : (number : ℕ) → Option DatedRuling → Fact → Option DatedRuling
+ruled_then number before (Ended deadline why dated) = before
+ruled_then number before (Resumed deadline dated) = before
+ruled_then number before (Closed why dated) = before
+ruled_then number before (Reopened dated) = before
+ruled_then number before (Ruled motion how dated) = if motion == number then Some (record { ruling = how; dated = dated }) else before
+
+-- how the motion of that number was ruled on, if it was: the last ruling counts
+unfoldable pub ruling_in : List Fact → (number : ℕ) → Option DatedRuling
+ruling_in facts number = fold (ruled_then number) None facts
 
 -- the word by which texts name why a deadline was ended
 abbrev pub ending_word : Ending → List ℕ
@@ -59,16 +76,27 @@ closing_word Transferred = codes "transferred"
 closing_word Remanded = codes "remanded"
 closing_word Otherwise = codes "otherwise"
 
--- the deadline that a fact of a case is about, if it is about one
+-- the word by which texts name how a motion was ruled on
+abbrev pub ruling_word : Ruling → List ℕ
+ruling_word ruling.Granted = codes "granted"
+ruling_word ruling.Denied = codes "denied"
+ruling_word ruling.InPart = codes "in part"
+ruling_word ruling.Moot = codes "moot"
+ruling_word ruling.Withdrawn = codes "withdrawn"
+ruling_word ruling.Reserved = codes "reserved"
+
+-- the deadline or the motion that a fact of a case is about, if it is about one
 abbrev pub fact_subject : (case : ℕ) → Fact → Option Subject
 fact_subject case (Ended deadline why dated) = Some (record { case = case; counted = Deadline; number = deadline })
 fact_subject case (Resumed deadline dated) = Some (record { case = case; counted = Deadline; number = deadline })
 fact_subject case (Closed why dated) = None
 fact_subject case (Reopened dated) = None
+fact_subject case (Ruled motion how dated) = Some (record { case = case; counted = Motion; number = motion })
 
--- the same fact of the deadline of that number; one of no deadline stays as it is
+-- the same fact of the deadline or the motion of that number; one of neither stays as it is
 abbrev pub fact_naming : Fact → (number : ℕ) → Fact
 fact_naming (Ended deadline why dated) number = Ended number why dated
 fact_naming (Resumed deadline dated) number = Resumed number dated
 fact_naming (Closed why dated) number = Closed why dated
 fact_naming (Reopened dated) number = Reopened dated
+fact_naming (Ruled motion how dated) number = Ruled number how dated

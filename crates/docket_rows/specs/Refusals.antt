@@ -16,7 +16,7 @@ use Rattle.hearing_slots.specs.declared.need.Need.{Need}
 use Rattle.hearing_slots.specs.Words.{is_on}
 use Rattle.docket_rows.specs.declared.command.Command.{Command}
 use Rattle.docket_rows.specs.declared.command.Command.TheVariants.{OpenCase, Start, FileAct, Extend, Motion, Book, MoveHearing, Cancel, Holiday, Inaccessible, Fact}
-use Rattle.docket_rows.specs.declared.fact.Fact.TheVariants.{Ended, Resumed, Closed, Reopened}
+use Rattle.docket_rows.specs.declared.fact.Fact.TheVariants.{Ended, Resumed, Closed, Reopened, Ruled}
 use Rattle.docket_rows.specs.declared.hearing.Setting.{Setting}
 use Rattle.docket_rows.specs.declared.query.Query.{Query}
 use Rattle.docket_rows.specs.declared.query.Query.TheVariants.{Sheet, JudgeDay, Compute}
@@ -115,6 +115,17 @@ abbrev pub reopen_checks : Parts → (case : ℕ) → (dated : ℤ) → List (Op
 reopen_checks parts case dated =
     (when (not (has_case parts case)) NoSuchCase
     ∷ when (not (is_closed parts case)) NotClosed
+    ∷ when (not (is_covered parts.days dated)) BadDay
+    ∷ when (nat_le most_facts (length (facts_in parts case))) Full
+    ∷ [])
+
+-- Rulings: a motion may be ruled on again, and a hearing that is set is no reason to refuse
+
+abbrev pub rule_checks : Parts → (case motion : ℕ) → (dated : ℤ) → List (Option Refusal)
+rule_checks parts case motion dated =
+    (when (not (has_case parts case)) NoSuchCase
+    ∷ when (is_closed parts case) CaseIsClosed
+    ∷ when (is_none (motion_in parts case motion)) NoSuchMotion
     ∷ when (not (is_covered parts.days dated)) BadDay
     ∷ when (nat_le most_facts (length (facts_in parts case))) Full
     ∷ [])
@@ -222,6 +233,9 @@ close_refusal parts case dated = first_of (close_checks parts case dated)
 unfoldable pub reopen_refusal : Parts → (case : ℕ) → (dated : ℤ) → Option Refusal
 reopen_refusal parts case dated = first_of (reopen_checks parts case dated)
 
+unfoldable pub rule_refusal : Parts → (case motion : ℕ) → (dated : ℤ) → Option Refusal
+rule_refusal parts case motion dated = first_of (rule_checks parts case motion dated)
+
 unfoldable pub motion_refusal : Parts → (case : ℕ) → (served : ℤ) → Need → Option Refusal
 motion_refusal parts case served need = first_of (motion_checks parts case served need)
 
@@ -255,6 +269,7 @@ refusal setup parts (Fact case (Ended deadline why dated)) = end_refusal parts c
 refusal setup parts (Fact case (Resumed deadline dated)) = resume_refusal setup parts case deadline dated
 refusal setup parts (Fact case (Closed why dated)) = close_refusal parts case dated
 refusal setup parts (Fact case (Reopened dated)) = reopen_refusal parts case dated
+refusal setup parts (Fact case (Ruled motion how dated)) = rule_refusal parts case motion dated
 
 -- Queries
 

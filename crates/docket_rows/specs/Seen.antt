@@ -1,5 +1,5 @@
 -- What the parts show of a case: its deadlines, its motions and their hearings, and what is recorded of it.
-use Rattle.std.specs.Prelude.{ℕ, ◌+◌, ◌==◌, ℤ, int_lt, nat_le, Bool, false, ◌&&◌, is_some, List, [], length, find, Option, None, option_map}
+use Rattle.std.specs.Prelude.{ℕ, ◌+◌, ◌==◌, ℤ, int_lt, nat_le, Bool, false, ◌&&◌, is_some, List, [], length, find, Option, Some, None, option_map, if◌then◌else◌}
 use Rattle.std.specs.Option.{option_map_or, option_and_then}
 use Rattle.rule6.specs.declared.service.ServiceKind.{ServiceKind}
 use Rattle.rule6.specs.declared.timeliness.Shown.{Shown}
@@ -58,6 +58,15 @@ is_heard_after day m = has_one (λ (h : Hearing). int_lt day h.day) m.hearing
 -- the number of the first of the motions that has one
 abbrev pub first_ahead : (day : ℤ) → List NumberedMotion → Option ℕ
 first_ahead day motions = option_map (λ (m : NumberedMotion). m.number) (find (is_heard_after day) motions)
+
+-- a hearing, if there is one and it is after the day
+abbrev pub if_ahead : (day : ℤ) → Option Hearing → Option Hearing
+if_ahead day None = None
+if_ahead day (Some h) = if int_lt day h.day then Some h else None
+
+-- the hearing of the motion that a ruling of that day takes off the calendar, if it takes one off
+abbrev pub hearing_ahead : Parts → (case motion : ℕ) → (day : ℤ) → Option Hearing
+hearing_ahead parts case motion day = if_ahead day (hearing_in parts case motion)
 
 -- deadlines and motions are numbered from 1 in their case
 abbrev pub next_deadline : Parts → (case : ℕ) → ℕ

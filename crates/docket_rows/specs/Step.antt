@@ -1,5 +1,5 @@
 -- What each command does to the rows, and what it is answered.
-use Rattle.std.specs.Prelude.{ℕ, Bool, true, false, not, List, [], ◌∷◌, ◌++◌, map, filter, if◌then◌else◌}
+use Rattle.std.specs.Prelude.{ℕ, ℤ, Bool, true, false, not, is_some, List, [], ◌∷◌, ◌++◌, map, filter, option_map, if◌then◌else◌}
 use Rattle.std.specs.Option.{option_map_or}
 use Rattle.court_days.specs.Words.{add_holiday, add_outage}
 use Rattle.rule6.specs.declared.timeliness.Shown.{Shown}
@@ -10,14 +10,16 @@ use Rattle.docket_rows.specs.declared.answer.Answer.{Answer}
 use Rattle.docket_rows.specs.declared.answer.Answer.TheVariants as answer
 use Rattle.docket_rows.specs.declared.command.Command.{Command}
 use Rattle.docket_rows.specs.declared.command.Command.TheVariants.{OpenCase, Start, FileAct, Extend, Motion, Book, MoveHearing, Cancel, Holiday, Inaccessible, Fact}
-use Rattle.docket_rows.specs.declared.fact.Fact.TheVariants.{Ended, Resumed, Closed, Reopened}
+use Rattle.docket_rows.specs.declared.fact.Fact.{Fact as FactOf}
+use Rattle.docket_rows.specs.declared.fact.Fact.TheVariants.{Ended, Resumed, Closed, Reopened, Ruled}
+use Rattle.docket_rows.specs.declared.hearing.Hearing.{Hearing}
 use Rattle.docket_rows.specs.declared.hearing.Setting.{Setting}
 use Rattle.docket_rows.specs.CourtSetup.{CourtSetup}
 use Rattle.docket_rows.specs.Hearings.{hearing_asked}
-use Rattle.docket_rows.specs.Parts.{Parts, parts_of}
+use Rattle.docket_rows.specs.Parts.{Parts, hearing_of, parts_of}
 use Rattle.docket_rows.specs.Refusals.{refusal}
-use Rattle.docket_rows.specs.Rows.{Rows, DocketedDeadline, is_deadline, is_hearing}
-use Rattle.docket_rows.specs.Seen.{has_one, deadline_in, next_deadline, next_motion, started, shown_now}
+use Rattle.docket_rows.specs.Rows.{Rows, DocketedDeadline, DocketedHearing, is_deadline, is_hearing}
+use Rattle.docket_rows.specs.Seen.{has_one, deadline_in, hearing_ahead, if_ahead, next_deadline, next_motion, started, shown_now}
 
 -- the row with a change, if it is that deadline's
 abbrev pub with_deadline : (case number : ℕ) → (DeadlineRowView → DeadlineRowView) → DocketedDeadline → DocketedDeadline
@@ -32,6 +34,23 @@ with_hearing s rows = record rows { hearings = rows.hearings ++ record { case = 
 
 abbrev pub without_hearing : (case motion : ℕ) → Rows → Rows
 without_hearing case motion rows = record rows { hearings = filter (λ h. not (is_hearing case motion h)) rows.hearings }
+
+-- the rows with one more fact of a case
+abbrev pub with_fact : (case : ℕ) → FactOf → Rows → Rows
+with_fact case fact rows = record rows { facts = rows.facts ++ record { case = case; fact = fact } ∷ [] }
+
+-- the hearings without that of the motion, where it is after the day; one of that day or before stays
+abbrev pub hearings_until : (case motion : ℕ) → (day : ℤ) → Rows → List DocketedHearing
+hearings_until case motion day rows =
+    if is_some (if_ahead day (hearing_of rows case motion)) then (without_hearing case motion rows).hearings else rows.hearings
+
+-- what a fact changes of the rows beside the list of facts: a ruling takes a later hearing of its motion out
+abbrev pub rows_by_fact : (case : ℕ) → FactOf → Rows → Rows
+rows_by_fact case (Ended deadline why dated) rows = rows
+rows_by_fact case (Resumed deadline dated) rows = rows
+rows_by_fact case (Closed why dated) rows = rows
+rows_by_fact case (Reopened dated) rows = rows
+rows_by_fact case (Ruled motion how dated) rows = record rows { hearings = hearings_until case motion dated rows }
 
 -- the rows after a command that isn't refused
 abbrev pub rows_after : Rows → Command → Rows
@@ -48,7 +67,7 @@ rows_after rows (MoveHearing s) = with_hearing s (without_hearing s.case s.motio
 rows_after rows (Cancel case motion) = without_hearing case motion rows
 rows_after rows (Holiday day list) = record rows { days = add_holiday rows.days list day }
 rows_after rows (Inaccessible day from to) = record rows { days = add_outage rows.days (record { day = day; from = from; to = to }) }
-rows_after rows (Fact case fact) = record rows { facts = rows.facts ++ record { case = case; fact = fact } ∷ [] }
+rows_after rows (Fact case fact) = rows_by_fact case fact (with_fact case fact rows)
 
 -- the answer to an extension, and to an order that sets another end: when the time ends now
 abbrev pub ended_answer : (order : Bool) → Shown → Answer
@@ -75,6 +94,8 @@ answer_if_made setup parts (Fact case (Resumed deadline dated)) =
     answer.Resumed (option_map_or (λ row. shown_now setup parts row) (deadline_in parts case deadline) shown.Beyond)
 answer_if_made setup parts (Fact case (Closed why dated)) = answer.Closed
 answer_if_made setup parts (Fact case (Reopened dated)) = answer.Reopened
+answer_if_made setup parts (Fact case (Ruled motion how dated)) =
+    answer.Ruled (option_map (λ (h : Hearing). h.day) (hearing_ahead parts case motion dated))
 
 -- what a command is answered where the parts are these
 unfoldable pub answered : CourtSetup → Parts → Command → Answer

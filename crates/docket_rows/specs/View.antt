@@ -23,7 +23,7 @@ use Rattle.docket_rows.specs.declared.view.View.{View}
 use Rattle.docket_rows.specs.declared.view.View.TheVariants as view
 use Rattle.docket_rows.specs.CourtSetup.{CourtSetup}
 use Rattle.docket_rows.specs.Cases.{CaseRecordView, NumberedDeadline, NumberedMotion}
-use Rattle.docket_rows.specs.Facts.{closing_in, ending_in}
+use Rattle.docket_rows.specs.Facts.{closing_in, ending_in, ruling_in}
 use Rattle.docket_rows.specs.Parts.{Parts, parts_of}
 use Rattle.docket_rows.specs.Refusals.{query_refusal}
 use Rattle.docket_rows.specs.Rows.{Rows}
@@ -50,9 +50,15 @@ sheet_deadline setup parts facts d = record {
 abbrev pub sheet_hearing : DaysView → Hearing → SheetHearing
 sheet_hearing days h = record { hearing = h; affidavits = notice_of days h.day 7 }
 
-abbrev pub sheet_motion : DaysView → NumberedMotion → SheetMotion
-sheet_motion days m =
-    record { number = m.number; served = m.served; need = m.need; hearing = option_map (sheet_hearing days) m.hearing }
+-- a motion of a case of which these facts are recorded
+abbrev pub sheet_motion : DaysView → List Fact → NumberedMotion → SheetMotion
+sheet_motion days facts m = record {
+  number = m.number;
+  served = m.served;
+  need = m.need;
+  hearing = option_map (sheet_hearing days) m.hearing;
+  ruling = ruling_in facts m.number;
+}
 
 -- the sheet of a case
 abbrev pub sheet_of : CourtSetup → Parts → (case : ℕ) → CaseRecordView → Sheet
@@ -61,7 +67,7 @@ sheet_of setup parts case c = record {
   filed = c.filed;
   closed = closing_in c.facts;
   deadlines = map (sheet_deadline setup parts c.facts) c.deadlines;
-  motions = map (sheet_motion parts.days) c.motions;
+  motions = map (sheet_motion parts.days c.facts) c.motions;
 }
 
 -- what a query that isn't refused shows

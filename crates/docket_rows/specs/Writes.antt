@@ -1,5 +1,5 @@
 -- Which parts a command writes, and what it writes into them.
-use Rattle.std.specs.Prelude.{ℕ, ◌+◌, ◌==◌, is_none, List, [], ◌∷◌, ◌++◌, length, map, Option, Some, None, option_map, unwrap_or, if◌then◌else◌}
+use Rattle.std.specs.Prelude.{ℕ, ℤ, ◌+◌, ◌==◌, is_none, is_some, List, [], ◌∷◌, ◌++◌, find, length, map, Option, Some, None, option_map, unwrap_or, if◌then◌else◌}
 use Rattle.std.specs.List.{filter_map}
 use Rattle.std.specs.Option.{option_and_then}
 use Rattle.court_days.specs.Words.{DaysView, add_holiday, add_outage}
@@ -7,6 +7,8 @@ use Rattle.rule_periods.specs.Words.{DeadlineRowView, with_grant, with_filing}
 use Rattle.hearing_slots.specs.declared.booking.Booking.{Booking}
 use Rattle.docket_rows.specs.declared.command.Command.{Command}
 use Rattle.docket_rows.specs.declared.command.Command.TheVariants.{OpenCase, Start, FileAct, Extend, Motion, Book, MoveHearing, Cancel, Holiday, Inaccessible, Fact}
+use Rattle.docket_rows.specs.declared.fact.Fact.{Fact as FactOf}
+use Rattle.docket_rows.specs.declared.fact.Fact.TheVariants.{Ended, Resumed, Closed, Reopened, Ruled}
 use Rattle.docket_rows.specs.declared.hearing.Hearing.{Hearing}
 use Rattle.docket_rows.specs.declared.part.PartId.{PartId}
 use Rattle.docket_rows.specs.declared.part.PartId.TheVariants.{Court, Judge, Room, Case}
@@ -20,7 +22,7 @@ use Rattle.docket_rows.specs.Hearings.{hearing_asked}
 use Rattle.docket_rows.specs.Parts.{Parts, parts_read, part_value}
 use Rattle.docket_rows.specs.Rebooking.{rebooking_of, changed_by, judge_change, room_change}
 use Rattle.docket_rows.specs.Refusals.{refusal}
-use Rattle.docket_rows.specs.Seen.{started}
+use Rattle.docket_rows.specs.Seen.{if_ahead, started}
 
 -- the case with one more deadline, with a change of a deadline, with one more motion, and with a motion's hearing set
 -- or taken out
@@ -37,6 +39,23 @@ add_motion m c = record c { motions = c.motions ++ m ∷ [] }
 abbrev pub set_hearing : (motion : ℕ) → Option Hearing → CaseRecordView → CaseRecordView
 set_hearing motion h c =
     record c { motions = map (λ (m : NumberedMotion). if m.number == motion then record m { hearing = h } else m) c.motions }
+
+-- the hearing that is set for a motion of the case
+abbrev pub hearing_set : (motion : ℕ) → CaseRecordView → Option Hearing
+hearing_set motion c =
+    option_and_then (λ (m : NumberedMotion). m.hearing) (find (λ (m : NumberedMotion). m.number == motion) c.motions)
+
+-- the case without the hearing of a motion, where that is after the day
+abbrev pub without_ahead : (motion : ℕ) → (day : ℤ) → CaseRecordView → CaseRecordView
+without_ahead motion day c = if is_some (if_ahead day (hearing_set motion c)) then set_hearing motion None c else c
+
+-- what a fact changes of its case beside the list of facts: a ruling takes a later hearing of its motion out
+abbrev pub changed_by_fact : FactOf → CaseRecordView → CaseRecordView
+changed_by_fact (Ended deadline why dated) c = c
+changed_by_fact (Resumed deadline dated) c = c
+changed_by_fact (Closed why dated) c = c
+changed_by_fact (Reopened dated) c = c
+changed_by_fact (Ruled motion how dated) c = without_ahead motion dated c
 
 -- the days, where the command changes them
 abbrev pub days_written : DaysView → Command → Option DaysView
@@ -72,7 +91,7 @@ record_after (FileAct case deadline filing) c = change_deadline deadline (λ row
 record_after (Extend case deadline request) c = change_deadline deadline (λ row. with_grant row request.grant) c
 record_after (Motion case served need) c =
     add_motion (record { number = length c.motions + 1; served = served; need = need; hearing = None }) c
-record_after (Fact case fact) c = add_fact fact c
+record_after (Fact case fact) c = changed_by_fact fact (add_fact fact c)
 record_after command c = hearing_after command c
 
 -- a case, open or not, after a command about it

@@ -3,6 +3,7 @@
 ghost use Rattle.std.specs.Prelude.{◌≡◌, IfOk};
 
 use crate::refusal::Refusal;
+use court_clock::Day;
 use rule6::Shown;
 use std::alloc::AllocError;
 
@@ -39,6 +40,8 @@ pub enum Answer {
     Closed,
     /// The case is open again.
     Reopened,
+    /// The motion is ruled on; the day of its hearing, where that was later than the ruling and is off the calendar.
+    Ruled(Option<Day>),
     /// The command is refused, and changes nothing.
     Refused(Refusal),
 }

@@ -2,7 +2,7 @@
 
 ghost use Rattle.std.specs.Prelude.{◌≡◌, IfOk};
 ghost use Rattle.docket_rows.specs.Facts.{fact_subject};
-ghost use Rattle.docket_rows.specs.Subject.{are_alike, naming, order_of, subject_of};
+ghost use Rattle.docket_rows.specs.Subject.{are_alike, fact_order, naming, order_of, subject_of};
 
 use crate::fact::Fact;
 use crate::hearing::Setting;
@@ -146,6 +146,8 @@ pub struct HearingOrder {
     pub motion: u32,
     /// The hearing that is asked for. None: the hearing is taken off the calendar.
     pub setting: Option<Setting>,
+    /// The day after which a hearing must be to be taken off. None: it is taken off whatever its day.
+    pub later_than: Option<Day>,
 }
 
 impl Command {
@@ -159,12 +161,15 @@ impl Command {
                 case: s.case,
                 motion: s.motion,
                 setting: Some(*s),
+                later_than: None,
             }),
             Command::Cancel { case, motion } => Some(HearingOrder {
                 case: *case,
                 motion: *motion,
                 setting: None,
+                later_than: None,
             }),
+            Command::Fact { case, fact } => fact_order(*case, *fact),
             _ => None,
         }
     }
@@ -230,7 +235,7 @@ impl Command {
     }
 }
 
-/// The deadline that a fact of a case is about, if it is about one.
+/// The deadline or the motion that a fact of a case is about, if it is about one.
 fn fact_subject(case: u32, fact: Fact) -> Option<Subject>
     ensures { result ≡ fact_subject case fact }
 {
@@ -241,5 +246,26 @@ fn fact_subject(case: u32, fact: Fact) -> Option<Subject>
             number: deadline,
         }),
         Fact::Closed { .. } | Fact::Reopened { .. } => None,
+        Fact::Ruled { motion, .. } => Some(Subject {
+            case,
+            counted: Counted::Motion,
+            number: motion,
+        }),
+    }
+}
+
+/// What a fact of a case does to the hearing of a motion: a ruling takes one that is later than it off the calendar.
+fn fact_order(case: u32, fact: Fact) -> Option<HearingOrder>
+    ensures { result ≡ fact_order case fact }
+{
+    match fact {
+        Fact::Ended { .. } | Fact::Resumed { .. } => None,
+        Fact::Closed { .. } | Fact::Reopened { .. } => None,
+        Fact::Ruled { motion, dated, .. } => Some(HearingOrder {
+            case,
+            motion,
+            setting: None,
+            later_than: Some(dated),
+        }),
     }
 }

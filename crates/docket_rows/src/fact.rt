@@ -1,7 +1,7 @@
 //! What is recorded of a case beside its deadlines, its motions and their hearings.
 
 ghost use Rattle.std.specs.Prelude.{◌≡◌};
-ghost use Rattle.docket_rows.specs.Facts.{closed_then, closing_in, closing_word, ended_in, ended_then, ending_in, ending_word, fact_naming};
+ghost use Rattle.docket_rows.specs.Facts.{closed_then, closing_in, closing_word, ended_in, ended_then, ending_in, ending_word, fact_naming, ruled_then, ruling_in, ruling_word};
 
 use court_clock::Day;
 
@@ -48,6 +48,32 @@ pub struct Closure {
     pub dated: Day,
 }
 
+/// How a motion was ruled on.
+#[derive(Clone, Copy, Debug, PartialEq, Eq)]
+pub enum Ruling {
+    /// It is granted.
+    Granted,
+    /// It is denied.
+    Denied,
+    /// It is granted in part and denied in part.
+    InPart,
+    /// It is denied as moot: nothing is left to be decided.
+    Moot,
+    /// It was withdrawn by who made it.
+    Withdrawn,
+    /// The court decides it later: it is still pending.
+    Reserved,
+}
+
+/// That a motion was ruled on.
+#[derive(Clone, Copy, Debug, PartialEq, Eq)]
+pub struct DatedRuling {
+    /// How.
+    pub ruling: Ruling,
+    /// The day of the order or the paper that says so.
+    pub dated: Day,
+}
+
 /// What is recorded of a case.
 #[derive(Clone, Copy, Debug, PartialEq, Eq)]
 pub enum Fact {
@@ -76,6 +102,15 @@ pub enum Fact {
     },
     /// The case, which was closed, is open again.
     Reopened {
+        /// The day of the order or the paper that says so.
+        dated: Day,
+    },
+    /// A motion is ruled on. A hearing of it that is set for a later day than that of the ruling is taken off the calendar.
+    Ruled {
+        /// The number of the motion in its case.
+        motion: u32,
+        /// How.
+        ruling: Ruling,
         /// The day of the order or the paper that says so.
         dated: Day,
     },
@@ -113,8 +148,24 @@ impl Closing {
     }
 }
 
+impl Ruling {
+    /// The word by which texts name it.
+    pub fn word(self) -> &'static str
+        ensures { result.now ≡ ruling_word self }
+    {
+        match self {
+            Ruling::Granted => "granted",
+            Ruling::Denied => "denied",
+            Ruling::InPart => "in part",
+            Ruling::Moot => "moot",
+            Ruling::Withdrawn => "withdrawn",
+            Ruling::Reserved => "reserved",
+        }
+    }
+}
+
 impl Fact {
-    // The same fact of the deadline of that number. One of no deadline stays as it is.
+    // The same fact of the deadline or the motion of that number. One of neither stays as it is.
     pub(crate) fn naming(&self, number: u32) -> Fact
         ensures { result ≡ fact_naming self.now number }
     {
@@ -129,6 +180,11 @@ impl Fact {
                 dated,
             },
             Fact::Closed { .. } | Fact::Reopened { .. } => *self,
+            Fact::Ruled { ruling, dated, .. } => Fact::Ruled {
+                motion: number,
+                ruling,
+                dated,
+            },
         }
     }
 }
@@ -153,6 +209,7 @@ fn closed_then(before: Option<Closure>, fact: Fact) -> Option<Closure>
         Fact::Closed { why, dated } => Some(Closure { why, dated }),
         Fact::Reopened { .. } => None,
         Fact::Ended { .. } | Fact::Resumed { .. } => before,
+        Fact::Ruled { .. } => before,
     }
 }
 
@@ -192,6 +249,41 @@ fn ended_then(number: u32, before: Option<Ending>, fact: Fact) -> Option<Ending>
             }
         }
         Fact::Resumed { deadline, .. } => { if deadline == number { None } else { before } }
+        Fact::Closed { .. } | Fact::Reopened { .. } => before,
+        Fact::Ruled { .. } => before,
+    }
+}
+
+/// How the motion of that number was ruled on, by the facts of its case, from the first on: the last ruling counts. `None` where it
+/// wasn't. A motion of which the ruling is reserved is still pending.
+#[tactic(auto, unfolding(crate::specs::Facts::ruling_in))]
+pub fn ruling_in(facts: &[Fact], number: u32) -> Option<DatedRuling>
+    ensures { result ≡ ruling_in facts.now number }
+{
+    let mut ruled = None;
+    for fact in facts {
+        ruled = ruled_then(number, ruled, *fact);
+    }
+    ruled
+}
+
+/// How the motion of that number was ruled on last, after one fact more.
+fn ruled_then(number: u32, before: Option<DatedRuling>, fact: Fact) -> Option<DatedRuling>
+    ensures { result ≡ ruled_then number before fact }
+{
+    match fact {
+        Fact::Ruled {
+            motion,
+            ruling,
+            dated,
+        } => {
+            if motion == number {
+                Some(DatedRuling { ruling, dated })
+            } else {
+                before
+            }
+        }
+        Fact::Ended { .. } | Fact::Resumed { .. } => before,
         Fact::Closed { .. } | Fact::Reopened { .. } => before,
     }
 }

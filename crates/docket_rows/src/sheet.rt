@@ -2,7 +2,7 @@
 
 ghost use Rattle.std.specs.Prelude.{◌≡◌, List};
 
-use crate::fact::{Closure, Ending};
+use crate::fact::{Closure, DatedRuling, Ending};
 use crate::hearing::Hearing;
 use court_clock::Day;
 use hearing_slots::Need;
@@ -58,6 +58,8 @@ pub struct SheetMotion {
     pub need: Need,
     /// Its hearing.
     pub hearing: Option<SheetHearing>,
+    /// How it was ruled on last, if it was.
+    pub ruling: Option<DatedRuling>,
 }
 
 /// The deadlines of a sheet, by number.

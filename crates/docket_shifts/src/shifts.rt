@@ -134,7 +134,7 @@ fn push_ends(
     push_lines(text, before, after, case, Counted::Deadline, &was, &is)
 }
 
-// Adds the lines of the hearings that are others on the second of two sheets of a case.
+// Adds the lines of the motions that are heard or ruled on otherwise on the second of two sheets of a case.
 fn push_hearings(
     alloc: Global,
     text: &mut String,
@@ -220,8 +220,8 @@ fn push_cases(
 }
 
 /// Adds a line for each case that is open before or after alone, for each deadline that ends otherwise after than before and for each
-/// hearing that is another, with both: by the cases, and in each first what there was before, in its order, then what is new. `Err`
-/// says that memory ran out.
+/// motion that is heard or ruled on otherwise, with both: by the cases, and in each first what there was before, in its order, then what
+/// is new. `Err` says that memory ran out.
 pub fn push_shifts(
     alloc: Global,
     text: &mut String,

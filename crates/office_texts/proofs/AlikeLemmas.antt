@@ -18,7 +18,7 @@ use Rattle.docket_rows.specs.declared.view.View.TheVariants as view
 use Rattle.office_texts.specs.Answers.{answer_text}
 use Rattle.office_texts.specs.Calendars.{booking_line, booking_lines, calendar_lines}
 use Rattle.office_texts.specs.Periods.{period_text}
-use Rattle.office_texts.specs.Sheets.{deadline_line, hearing_line_if_set, hearing_text, motion_lines, need_text, sheet_lines, state_text}
+use Rattle.office_texts.specs.Sheets.{and_ruled_text, deadline_line, hearing_line_if_set, hearing_text, motion_lines, need_text, sheet_lines, state_text}
 use Rattle.office_texts.specs.Shown.{end_text, shown_text}
 use Rattle.office_texts.specs.Views.{view_lines}
 
@@ -73,7 +73,7 @@ module _ (a b : CourtView) (same : IsSameCourt a b) where
   motion_alike : (m : SheetMotion) → motion_lines a m ≡ motion_lines b m
   unfolding motion_lines
   motion_alike m =
-      ap (λ t. codes "motion " ++ decimal m.number ++ codes " served " ++ day_text m.served ++ codes " need " ++ need_text m.need ++ 10 ∷ t) (hearing_if_set_alike m.hearing)
+      ap (λ t. codes "motion " ++ decimal m.number ++ codes " served " ++ day_text m.served ++ codes " need " ++ need_text m.need ++ and_ruled_text m.ruling ++ 10 ∷ t) (hearing_if_set_alike m.hearing)
 
   motions_alike : (ms : List SheetMotion) → flat_map (motion_lines a) ms ≡ flat_map (motion_lines b) ms
   motions_alike [] = refl

@@ -1,11 +1,16 @@
 -- The text of what a command is answered.
-use Rattle.std.specs.Prelude.{List, ℕ, true, false, ◌++◌, codes}
+use Rattle.std.specs.Prelude.{List, [], ℕ, ℤ, true, false, ◌++◌, codes, Option, Some, None}
 use Rattle.std.specs.Fmt.{decimal}
-use Rattle.court_clock.specs.Words.{ClockView}
+use Rattle.court_clock.specs.Words.{ClockView, day_text}
 use Rattle.docket_rows.specs.declared.answer.Answer.{Answer}
-use Rattle.docket_rows.specs.declared.answer.Answer.TheVariants.{Opened, Started, Filed, Extended, Reset, MotionEntered, Booked, Moved, Cancelled, HolidayEntered, OutageEntered, Ended, Resumed, Closed, Reopened, Refused}
+use Rattle.docket_rows.specs.declared.answer.Answer.TheVariants.{Opened, Started, Filed, Extended, Reset, MotionEntered, Booked, Moved, Cancelled, HolidayEntered, OutageEntered, Ended, Resumed, Closed, Reopened, Ruled, Refused}
 use Rattle.office_texts.specs.Refusals.{refusal_text}
 use Rattle.office_texts.specs.Shown.{shown_text}
+
+-- the hearing that a ruling took off the calendar, if it took one off
+abbrev pub off_text : Option ℤ → List ℕ
+off_text None = []
+off_text (Some day) = codes ", hearing of " ++ day_text day ++ codes " cancelled"
 
 unfoldable pub answer_text : ClockView → Answer → List ℕ
 answer_text clock Opened = codes "opened"
@@ -23,5 +28,6 @@ answer_text clock OutageEntered = codes "outage entered"
 answer_text clock Ended = codes "ended"
 answer_text clock Closed = codes "closed"
 answer_text clock Reopened = codes "reopened"
+answer_text clock (Ruled day) = codes "ruled" ++ off_text day
 answer_text clock (Resumed end) = codes "resumed " ++ shown_text clock end
 answer_text clock (Refused refusal) = codes "refused " ++ refusal_text refusal

@@ -10,6 +10,7 @@ use Rattle.rule6.specs.declared.timeliness.Means.TheVariants.{Electronic, Paper}
 use Rattle.hearing_slots.specs.declared.need.Need.{Need}
 use Rattle.hearing_slots.specs.declared.need.Need.TheVariants as need
 use Rattle.docket_rows.specs.declared.fact.Closure.{Closure}
+use Rattle.docket_rows.specs.declared.fact.DatedRuling.{DatedRuling}
 use Rattle.docket_rows.specs.declared.fact.Ending.{Ending}
 use Rattle.docket_rows.specs.declared.sheet.Sheet.{Sheet}
 use Rattle.docket_rows.specs.declared.sheet.SheetDeadline.{SheetDeadline}
@@ -17,7 +18,7 @@ use Rattle.docket_rows.specs.declared.sheet.SheetHearing.{SheetHearing}
 use Rattle.docket_rows.specs.declared.sheet.SheetMotion.{SheetMotion}
 use Rattle.docket_rows.specs.declared.sheet.State.{State}
 use Rattle.docket_rows.specs.declared.sheet.State.TheVariants.{Pending, Timely, Late, Undecided}
-use Rattle.docket_rows.specs.Words.{closing_word, ending_word}
+use Rattle.docket_rows.specs.Words.{closing_word, ending_word, ruling_word}
 use Rattle.office_texts.specs.Calendars.{name_of, span_text}
 use Rattle.office_texts.specs.Periods.{period_text}
 use Rattle.office_texts.specs.Shown.{shown_text}
@@ -83,10 +84,19 @@ abbrev pub hearing_line_if_set : CourtView → Option SheetHearing → List ℕ
 hearing_line_if_set court None = []
 hearing_line_if_set court (Some h) = hearing_text court h ++ 10 ∷ []
 
--- `motion 1 served 2025-08-29 need 14`, and where it has a hearing the line of it
+-- how a motion was ruled on: `granted 2025-09-15`
+abbrev pub ruled_text : DatedRuling → List ℕ
+ruled_text r = ruling_word r.ruling ++ codes " " ++ day_text r.dated
+
+-- the same after what is said of it, if it was
+abbrev pub and_ruled_text : Option DatedRuling → List ℕ
+and_ruled_text None = []
+and_ruled_text (Some r) = codes ", " ++ ruled_text r
+
+-- `motion 1 served 2025-08-29 need 14`, `motion 2 served 2025-08-29 need 14, granted 2025-09-15`, and where it has a hearing the line of it
 unfoldable pub motion_lines : CourtView → SheetMotion → List ℕ
 motion_lines court m =
-    codes "motion " ++ decimal m.number ++ codes " served " ++ day_text m.served ++ codes " need " ++ need_text m.need ++ 10 ∷ hearing_line_if_set court m.hearing
+    codes "motion " ++ decimal m.number ++ codes " served " ++ day_text m.served ++ codes " need " ++ need_text m.need ++ and_ruled_text m.ruling ++ 10 ∷ hearing_line_if_set court m.hearing
 
 -- how a case was closed after what is said of it, if it was: `, closed 2025-11-03 settled`
 abbrev pub and_closed_text : Option Closure → List ℕ

@@ -2,14 +2,15 @@
 
 ghost use Rattle.std.specs.Prelude.{OnOk};
 ghost use Rattle.office_texts.specs.Added.{AddsText};
-ghost use Rattle.office_texts.specs.Answers.{answer_text};
+ghost use Rattle.office_texts.specs.Answers.{answer_text, off_text};
 
 use crate::numbers::push_number;
 use crate::refusals::push_refusal;
 use crate::shown::push_shown;
-use court_clock::Clock;
+use court_clock::{Clock, Day};
 use docket_rows::Answer;
 use std::alloc::AllocError;
+use std::fmt::Write;
 
 /// Adds what a command is answered, without the end of its line. `Err` says that memory ran out.
 #[tactic(auto, unfolding(crate::specs::Answers::answer_text))]
@@ -46,6 +47,10 @@ pub fn push_answer(text: &mut String, clock: &Clock, answer: &Answer) -> Result<
         Answer::Ended => text.push_str("ended"),
         Answer::Closed => text.push_str("closed"),
         Answer::Reopened => text.push_str("reopened"),
+        Answer::Ruled(day) => {
+            text.push_str("ruled")?;
+            push_off(text, *day)
+        }
         Answer::Resumed(shown) => {
             text.push_str("resumed ")?;
             push_shown(text, clock, shown)
@@ -54,5 +59,15 @@ pub fn push_answer(text: &mut String, clock: &Clock, answer: &Answer) -> Result<
             text.push_str("refused ")?;
             push_refusal(text, refusal)
         }
+    }
+}
+
+/// Adds the hearing that a ruling took off the calendar, if it took one off.
+fn push_off(text: &mut String, day: Option<Day>) -> Result<(), AllocError>
+    ensures { OnOk result (AddsText text.old text.new (off_text day)) }
+{
+    match day {
+        None => Ok(()),
+        Some(day) => write!(text, ", hearing of {day} cancelled"),
     }
 }

@@ -17,8 +17,9 @@ use Rattle.rule_periods.specs.declared.period.Entered.{Entered}
 use Rattle.rule_periods.specs.Words.{DeadlineRowView, EventView}
 use Rattle.hearing_slots.specs.declared.booking.Booking.{Booking}
 use Rattle.docket_rows.specs.declared.answer.Answer.{Answer}
-use Rattle.docket_rows.specs.declared.answer.Answer.TheVariants.{Opened, Started, Filed, Extended, Reset, MotionEntered, Booked, Moved, Cancelled, HolidayEntered, OutageEntered, Ended, Resumed, Closed, Reopened, Refused}
+use Rattle.docket_rows.specs.declared.answer.Answer.TheVariants.{Opened, Started, Filed, Extended, Reset, MotionEntered, Booked, Moved, Cancelled, HolidayEntered, OutageEntered, Ended, Resumed, Closed, Reopened, Ruled, Refused}
 use Rattle.docket_rows.specs.declared.fact.Closure.{Closure}
+use Rattle.docket_rows.specs.declared.fact.DatedRuling.{DatedRuling}
 use Rattle.docket_rows.specs.declared.fact.Ending.{Ending}
 use Rattle.docket_rows.specs.declared.refusal.Refusal.{Refusal}
 use Rattle.docket_rows.specs.declared.sheet.Sheet.{Sheet}
@@ -49,7 +50,7 @@ use Rattle.report_json.specs.Bookings.{booked_fields, booking_fields, booking_va
 use Rattle.report_json.specs.Cases.{case_fields, name_fields}
 use Rattle.report_json.specs.Deadlines.{deadline_fields, deadline_value, docketed_fields, end_of, ended_fields, event_value, filed_fields, filed_value, last_day_of, outcome_fields, shown_fields, shown_value, started_fields}
 use Rattle.report_json.specs.Document.{answers_from, court_value, court_fields, document_fields, document_value, office_fields, until_fields}
-use Rattle.report_json.specs.Motions.{hearing_fields, hearing_value, motion_fields, motion_value, notice_days_of}
+use Rattle.report_json.specs.Motions.{heard_fields, hearing_fields, hearing_value, motion_fields, motion_value, notice_days_of, ruling_fields}
 use Rattle.report_json.specs.Names.{judges_value, name_value, names_from}
 use Rattle.report_json.specs.Periods.{code_of, day_of_grant, days_of_grant, days_of_length, entered_fields, entered_of, entered_value, extension_fields, grant_fields, grant_value, hours_of_grant, hours_of_length, order_fields, service_value}
 use Rattle.report_json.specs.Reasons.{case_value, explained_fields, explained_sheet_fields, explained_value, instant_shown, reason_fields, reason_value, reason_values, why_fields}
@@ -137,11 +138,18 @@ hearing_within court h =
     let span = deeper_within 0 1 _ (omega arith) (span_within court.clock.zone h.hearing.day h.hearing.first h.hearing.count) in
     object_within 1 (hearing_fields court h) (judges, (room, (omega arith, (affidavits, span))))
 
+heard_within : (court : CourtView) (m : SheetMotion) → FieldsWithin 2 (heard_fields court m)
+unfolding heard_fields
+heard_within court m =
+    (omega arith, (omega arith, (nullable amount 2 (λ _. omega arith) (notice_days_of m.need), (nullable (hearing_value court) 2 (hearing_within court) m.hearing, tt))))
+
+ruling_within : (n : ℕ) (ruling : Option DatedRuling) → FieldsWithin n (ruling_fields ruling)
+ruling_within n (Some r) = (omega arith, (omega arith, tt))
+ruling_within n None = tt
+
 motion_within : (court : CourtView) (m : SheetMotion) → depth (motion_value court m) ≤ 3
 unfolding motion_value
-motion_within court m =
-    object_within 2 (motion_fields court m)
-    (omega arith, (omega arith, (nullable amount 2 (λ _. omega arith) (notice_days_of m.need), (nullable (hearing_value court) 2 (hearing_within court) m.hearing, tt))))
+motion_within court m = object_within 2 (motion_fields court m) (append_within 2 (heard_fields court m) (ruling_fields m.ruling) (heard_within court m) (ruling_within 2 m.ruling))
 
 -- the number of a case and its name
 named_within : (n : ℕ) (named : List NamedCase) (case : ℕ) → FieldsWithin n (case_fields named case)
@@ -234,6 +242,7 @@ answer_within zone named OutageEntered = (zero_five, tt)
 answer_within zone named Ended = (zero_five, tt)
 answer_within zone named Closed = (zero_five, tt)
 answer_within zone named Reopened = (zero_five, tt)
+answer_within zone named (Ruled off) = (zero_five, (nullable day_value 5 (λ _. zero_five) off, tt))
 answer_within zone named (Resumed end) = (zero_five, shown_deep zone end)
 answer_within zone named (Refused refusal) = (zero_five, (refusal_deep named refusal, tt))
 

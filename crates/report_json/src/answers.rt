@@ -127,6 +127,10 @@ fn push_answer(
         Answer::Ended => push_kind(out, "ended"),
         Answer::Closed => push_kind(out, "closed"),
         Answer::Reopened => push_kind(out, "reopened"),
+        Answer::Ruled(off) => {
+            push_kind(out, "ruled")?;
+            out.field(court, labels, "hearing_cancelled", off)
+        }
         Answer::Resumed(shown) => {
             push_kind(out, "resumed")?;
             shown.write_fields(out, court, labels)

@@ -9,6 +9,7 @@ use Rattle.reason_notes.specs.Readings.Words.{DaysByReadingView, days_by_reading
 use Rattle.rule6.specs.declared.timeliness.Shown.{Shown}
 use Rattle.hearing_slots.specs.declared.booking.Booking.{Booking}
 use Rattle.rule_periods.specs.Words.{DeadlineRowView}
+use Rattle.docket_rows.specs.declared.fact.DatedRuling.{DatedRuling}
 use Rattle.docket_rows.specs.declared.sheet.SheetDeadline.{SheetDeadline}
 use Rattle.docket_rows.specs.declared.sheet.SheetHearing.{SheetHearing}
 use Rattle.docket_rows.specs.declared.sheet.SheetMotion.{SheetMotion}
@@ -21,7 +22,7 @@ use Rattle.page_markup.specs.Elements.IsMarkup.{nothing, text, inside, after}
 use Rattle.report_texts.specs.Words.{LabelsView, is_day_of, whole_day}
 use Rattle.docket_selection.specs.declared.explained.explained.ExplainedDeadline.{ExplainedDeadline}
 use Rattle.docket_selection.specs.declared.explained.explained.ExplainedSheet.{ExplainedSheet}
-use Rattle.report_page.specs.Cases.{case_part, case_parts, cases_part, deadline_heads, deadline_row, deadline_rows, deadline_table, end_cell, hearing_cell, motion_heads, motion_row, motion_table, period_cell, reasons_cell}
+use Rattle.report_page.specs.Cases.{case_part, case_parts, cases_part, deadline_heads, deadline_row, deadline_rows, deadline_table, end_cell, hearing_cell, motion_heads, motion_row, motion_table, period_cell, reasons_cell, served_cell}
 use Rattle.report_page.specs.Due.{day_row_if_new, due_heads, due_part, due_row, due_table}
 use Rattle.report_page.specs.Judges.{booking_heads, booking_row, is_week_of, judge_part, judge_parts, judges_part, week_name, week_row_if_new}
 use Rattle.report_page.specs.Page.{ContentIsMarkup, content}
@@ -149,9 +150,14 @@ unfolding hearing_cell
 hearing_cell_is court None = words tag.Cell _
 hearing_cell_is court (Some h) = within tag.Cell (both (both (both (words tag.Line _) (words tag.Line _)) (words tag.Line _)) (words tag.Line _))
 
+served_cell_is : (served : ℤ) (ruling : Option DatedRuling) → IsMarkup (served_cell served ruling)
+unfolding served_cell
+served_cell_is served None = words tag.Cell _
+served_cell_is served (Some r) = within tag.Cell (both (words tag.Line _) (words tag.Line _))
+
 motion_row_is : (court : CourtView) (m : SheetMotion) → IsMarkup (motion_row court m)
 unfolding motion_row
-motion_row_is court m = within tag.Row (both (both (both (words tag.RowHead _) (words tag.Cell _)) (words tag.Cell _)) (hearing_cell_is court m.hearing))
+motion_row_is court m = within tag.Row (both (both (both (words tag.RowHead _) (served_cell_is m.served m.ruling)) (words tag.Cell _)) (hearing_cell_is court m.hearing))
 
 motion_heads_are : IsMarkup motion_heads
 unfolding motion_heads

@@ -9,6 +9,7 @@ use Rattle.court_days.specs.Words.{CourtView, DaysView}
 use Rattle.rule6.specs.declared.timeliness.Shown.{Shown}
 use Rattle.rule_periods.specs.Words.{DeadlineRowView}
 use Rattle.docket_rows.specs.declared.fact.Closure.{Closure}
+use Rattle.docket_rows.specs.declared.fact.DatedRuling.{DatedRuling}
 use Rattle.docket_rows.specs.declared.sheet.SheetDeadline.{SheetDeadline}
 use Rattle.docket_rows.specs.declared.sheet.SheetHearing.{SheetHearing}
 use Rattle.docket_rows.specs.declared.sheet.SheetMotion.{SheetMotion}
@@ -23,7 +24,7 @@ use Rattle.report_texts.specs.Words.{LabelsView, period_words, reading_words, wh
 use Rattle.docket_selection.specs.declared.explained.explained.ExplainedDeadline.{ExplainedDeadline}
 use Rattle.docket_selection.specs.declared.explained.explained.ExplainedSheet.{ExplainedSheet}
 use Rattle.report_page.specs.Due.{state_cell}
-use Rattle.report_page.specs.Phrases.{affidavits_words, ends_words, hearing_place, hearing_time, need_words, notice_words, state_words}
+use Rattle.report_page.specs.Phrases.{affidavits_words, ends_words, hearing_place, hearing_time, need_words, notice_words, ruling_words, state_words}
 use Rattle.report_page.specs.Tables.{four_heads}
 
 -- the period of a deadline, and in words what it is for, which section sets it, and from which day and event it runs
@@ -77,10 +78,15 @@ hearing_cell court None = text_in tag.Cell (codes "not set")
 hearing_cell court (Some h) =
     element tag.Cell (text_in tag.Line (hearing_time h.hearing) ++ text_in tag.Line (hearing_place court h.hearing) ++ text_in tag.Line (notice_words h.hearing.notice) ++ text_in tag.Line (affidavits_words h.affidavits))
 
--- the number of a motion, when it was served, the notice that it needs, and its hearing
+-- when a motion was served, and below it how it was ruled on, if it was
+unfoldable pub served_cell : (served : ℤ) → Option DatedRuling → List ℕ
+served_cell served None = text_in tag.Cell (whole_day served)
+served_cell served (Some r) = element tag.Cell (text_in tag.Line (whole_day served) ++ text_in tag.Line (ruling_words r))
+
+-- the number of a motion, when it was served and how it was ruled on, the notice that it needs, and its hearing
 unfoldable pub motion_row : CourtView → SheetMotion → List ℕ
 motion_row court m =
-    element tag.Row (text_in tag.RowHead (decimal m.number) ++ text_in tag.Cell (whole_day m.served) ++ text_in tag.Cell (need_words m.need) ++ hearing_cell court m.hearing)
+    element tag.Row (text_in tag.RowHead (decimal m.number) ++ served_cell m.served m.ruling ++ text_in tag.Cell (need_words m.need) ++ hearing_cell court m.hearing)
 
 unfoldable pub motion_heads : List ℕ
 motion_heads = four_heads (codes "No.") (codes "Served") (codes "Notice") (codes "Hearing")

@@ -2,15 +2,17 @@
 
 ghost use Rattle.std.specs.Prelude.{◌≡◌, ◌++◌, OnOk, string_bytes};
 ghost use Rattle.std.specs.List.{flat_map};
-ghost use Rattle.report_page.specs.Cases.{hearing_cell, motion_caption, motion_heads, motion_row, motion_table};
+ghost use Rattle.report_page.specs.Cases.{hearing_cell, motion_caption, motion_heads, motion_row, motion_table, served_cell};
 
 use crate::phrases::{
     set_affidavits, set_day, set_hearing_place, set_hearing_time, set_need, set_notice, set_number,
+    set_ruling,
 };
 use crate::tables::push_four_heads;
 use case_numbers::push_case_text;
+use court_clock::Day;
 use court_days::Court;
-use docket_rows::{SheetHearing, SheetMotion};
+use docket_rows::{DatedRuling, SheetHearing, SheetMotion};
 use page_markup::{Page, Tag};
 use report_texts::Labels;
 use std::alloc::AllocError;
@@ -85,12 +87,34 @@ fn push_row(
     page.open(Tag::Row)?;
     set_number(line, motion.number)?;
     page.text_in(Tag::RowHead, line)?;
-    set_day(line, motion.served)?;
-    page.text_in(Tag::Cell, line)?;
+    push_served(page, line, motion.served, motion.ruling)?;
     set_need(line, motion.need)?;
     page.text_in(Tag::Cell, line)?;
     push_hearing(page, line, court, &motion.hearing)?;
     page.close(Tag::Row)
+}
+
+/// Adds the cell of when a motion was served, with how it was ruled on, if it was.
+#[tactic(auto, unfolding(crate::specs::Cases::served_cell))]
+fn push_served(
+    page: &mut Page,
+    line: &mut String,
+    served: Day,
+    ruling: Option<DatedRuling>,
+) -> Result<(), AllocError>
+    ensures { OnOk result (page.new ≡ page.old ++ served_cell served ruling) }
+{
+    set_day(line, served)?;
+    match ruling {
+        None => page.text_in(Tag::Cell, line),
+        Some(ruled) => {
+            page.open(Tag::Cell)?;
+            page.text_in(Tag::Line, line)?;
+            set_ruling(line, ruled)?;
+            page.text_in(Tag::Line, line)?;
+            page.close(Tag::Cell)
+        }
+    }
 }
 
 /// Adds the cell of a motion's hearing, or that none is set.

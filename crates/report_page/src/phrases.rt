@@ -6,12 +6,12 @@ ghost use Rattle.std.specs.Fmt.{decimal};
 ghost use Rattle.office_texts.specs.Words.{AddsText, and_ended_text};
 ghost use Rattle.court_clock.specs.Words.{civil_of};
 ghost use Rattle.report_texts.specs.Words.{whole_day};
-ghost use Rattle.report_page.specs.Phrases.{affidavits_words, beyond_words, case_name, done_words, ends_words, hearing_place, hearing_time, means_words, motion_name, need_words, notice_words, state_word, state_words, until_words};
+ghost use Rattle.report_page.specs.Phrases.{affidavits_words, beyond_words, case_name, done_words, ends_words, hearing_place, hearing_time, means_words, motion_name, need_words, notice_words, ruling_words, state_word, state_words, until_words};
 
 use case_numbers::push_case_text;
 use court_clock::{Clock, Day, Instant};
 use court_days::Court;
-use docket_rows::{Ending, Hearing, State};
+use docket_rows::{DatedRuling, Ending, Hearing, State};
 use hearing_slots::Need;
 use office_texts::{push_and_ended, push_ended, push_number};
 use reason_texts::{push_minute, push_second};
@@ -159,6 +159,17 @@ fn means_words(means: Means) -> &'static str
         Means::Electronic => ", electronic",
         Means::Paper => ", paper",
     }
+}
+
+/// Makes the line how a motion was ruled on, and when.
+#[tactic(auto, unfolding(crate::specs::Phrases::ruling_words))]
+pub(crate) fn set_ruling(line: &mut String, ruled: DatedRuling) -> Result<(), AllocError>
+    ensures { OnOk result (string_bytes line.new ≡ ruling_words ruled) }
+{
+    line.clear();
+    line.push_str(ruled.ruling.word())?;
+    line.push_str(" ")?;
+    push_whole_day(line, ruled.dated)
 }
 
 /// Makes the line the notice that a motion needs.

@@ -3,10 +3,12 @@ use Rattle.std.specs.Prelude.{ℕ, ◌==◌, Bool, true, false, List, [], ◌++�
 use Rattle.std.specs.List.{list_any}
 use Rattle.case_numbers.specs.declared.names.NamedCase.{NamedCase}
 use Rattle.docket_rows.specs.declared.command.Command.TheVariants as command
+use Rattle.docket_rows.specs.declared.fact.Fact.{Fact}
+use Rattle.docket_rows.specs.declared.fact.Fact.TheVariants.{Ruled}
 use Rattle.row_forms.specs.declared.numbered.NumberedRow.{NumberedRow}
 use Rattle.row_forms.specs.declared.row.Work.{Work}
 use Rattle.row_forms.specs.declared.row.Work.TheVariants.{Command}
-use Rattle.report_sql.specs.declared.schema.TheConstants.{NUMBERED_CASES, NAMED_CASES, DEADLINES, GRANTS, RESETS, MOTIONS, HEARINGS, PANELS, OUTAGES, CLOSINGS, ENDINGS, ANSWERS, DESK_ANSWERS}
+use Rattle.report_sql.specs.declared.schema.TheConstants.{NUMBERED_CASES, NAMED_CASES, DEADLINES, GRANTS, RESETS, MOTIONS, HEARINGS, PANELS, OUTAGES, CLOSINGS, ENDINGS, RULINGS, ANSWERS, DESK_ANSWERS}
 
 -- a table of names where the court's file has names
 abbrev pub cases_table : List NamedCase → List ℕ
@@ -20,6 +22,19 @@ is_fact other = false
 abbrev pub have_facts : List NumberedRow → Bool
 have_facts rows = list_any (λ (n : NumberedRow). is_fact n.row.work) rows
 
+-- a fact is how a motion was ruled on
+abbrev pub is_of_ruling : Fact → Bool
+is_of_ruling (Ruled motion ruling dated) = true
+is_of_ruling other = false
+
+-- a row rules on a motion, and so do some of these
+abbrev pub is_ruling : Work → Bool
+is_ruling (Command (command.Fact case fact)) = is_of_ruling fact
+is_ruling other = false
+
+abbrev pub have_rulings : List NumberedRow → Bool
+have_rulings rows = list_any (λ (n : NumberedRow). is_ruling n.row.work) rows
+
 -- tables of the cases that are closed and of the deadlines that are due no more, where rows record facts of cases; such rows may be
 -- refused with further numbers
 abbrev pub closings_table : (facts : Bool) → List ℕ
@@ -28,11 +43,15 @@ closings_table facts = if facts then CLOSINGS.now else []
 abbrev pub endings_table : (facts : Bool) → List ℕ
 endings_table facts = if facts then ENDINGS.now else []
 
+-- a table of the motions that were ruled on, where rows rule on motions
+abbrev pub rulings_table : (rulings : Bool) → List ℕ
+rulings_table rulings = if rulings then RULINGS.now else []
+
 abbrev pub answers_table : (facts : Bool) → List ℕ
 answers_table facts = if facts then DESK_ANSWERS.now else ANSWERS.now
 
-unfoldable pub tables : List NamedCase → (facts : Bool) → List ℕ
-tables named facts =
+unfoldable pub tables : List NamedCase → (facts rulings : Bool) → List ℕ
+tables named facts rulings =
     cases_table named
     ++ DEADLINES.now
     ++ GRANTS.now
@@ -43,4 +62,5 @@ tables named facts =
     ++ OUTAGES.now
     ++ closings_table facts
     ++ endings_table facts
+    ++ rulings_table rulings
     ++ answers_table facts

@@ -17,7 +17,7 @@ use Rattle.report_sql.specs.Answers.{answer_rows}
 use Rattle.report_sql.specs.Deadlines.{deadline_rows}
 use Rattle.report_sql.specs.Hearings.{motion_rows}
 use Rattle.report_sql.specs.Rows.{SqlValue, numbered, or_null, row_of, text}
-use Rattle.report_sql.specs.Schema.{have_facts, tables}
+use Rattle.report_sql.specs.Schema.{have_facts, have_rulings, tables}
 use Rattle.report_sql.specs.Times.{day_value, minute_value}
 
 -- the name of a case, where the court's file has names: NULL where the case has none
@@ -60,7 +60,7 @@ unfoldable pub script_text : CourtView → LabelsView → List NumberedRow → L
 script_text court labels rows =
     let opening = opening_rows (setup_of court) in
     transaction_front
-    ++ tables labels.cases (have_facts rows)
+    ++ tables labels.cases (have_facts rows) (have_rulings rows)
     ++ answer_rows court labels opening rows
     ++ docketed_text court labels (docketed_after (setup_of court) opening (rows_of rows))
     ++ transaction_end

@@ -1,10 +1,10 @@
 //! The tables.
 
 ghost use Rattle.std.specs.Prelude.{◌≡◌, ◌++◌, OnOk};
-ghost use Rattle.report_sql.specs.Schema.{answers_table, cases_table, closings_table, endings_table, have_facts, is_fact, tables};
+ghost use Rattle.report_sql.specs.Schema.{answers_table, cases_table, closings_table, endings_table, have_facts, have_rulings, is_fact, is_of_ruling, is_ruling, rulings_table, tables};
 
 use crate::script::Script;
-use docket_rows::Command;
+use docket_rows::{Command, Fact};
 use report_texts::Labels;
 use row_forms::{NumberedRow, Work};
 use std::alloc::AllocError;
@@ -139,6 +139,17 @@ const ENDINGS: &str = "CREATE TABLE endings (
 );
 ";
 
+// The motions that were ruled on, and how.
+const RULINGS: &str = "CREATE TABLE rulings (
+  case_number INTEGER NOT NULL,
+  motion_number INTEGER NOT NULL,
+  ruled DATE NOT NULL,
+  how VARCHAR(16) NOT NULL CHECK (how IN ('granted', 'denied', 'in part', 'moot', 'withdrawn', 'reserved')),
+  PRIMARY KEY (case_number, motion_number),
+  FOREIGN KEY (case_number, motion_number) REFERENCES motions (case_number, number)
+);
+";
+
 // What each row was answered, by its number; NULL refusal: it isn't refused.
 const ANSWERS: &str = "CREATE TABLE answers (
   number INTEGER NOT NULL PRIMARY KEY,
@@ -174,14 +185,43 @@ pub(crate) fn have_facts(rows: &[NumberedRow]) -> bool
     rows.iter().any(|row| is_fact(&row.row.work))
 }
 
-/// Adds the statements that make the tables: `facts` says whether rows record facts of cases. `Err` says that memory ran out.
+// Whether a fact is how a motion was ruled on.
+fn is_of_ruling(fact: Fact) -> bool
+    ensures { result ≡ is_of_ruling fact }
+{
+    match fact {
+        Fact::Ruled { .. } => true,
+        _ => false,
+    }
+}
+
+// Whether a row rules on a motion.
+fn is_ruling(work: &Work) -> bool
+    ensures { result ≡ is_ruling work.now }
+{
+    match work {
+        Work::Command(Command::Fact { fact, .. }) => is_of_ruling(*fact),
+        _ => false,
+    }
+}
+
+// Whether some of these rows do.
+pub(crate) fn have_rulings(rows: &[NumberedRow]) -> bool
+    ensures { result ≡ have_rulings rows.now }
+{
+    rows.iter().any(|row| is_ruling(&row.row.work))
+}
+
+/// Adds the statements that make the tables: `facts` says whether rows record facts of cases, and `rulings` whether some of these
+/// rule on motions. `Err` says that memory ran out.
 #[tactic(auto, unfolding(crate::specs::Schema::tables))]
 pub(crate) fn push_tables(
     out: &mut Script,
     labels: &Labels<'_>,
     facts: bool,
+    rulings: bool,
 ) -> Result<(), AllocError>
-    ensures { OnOk result (out.new ≡ out.old ++ tables labels.now.cases facts) }
+    ensures { OnOk result (out.new ≡ out.old ++ tables labels.now.cases facts rulings) }
 {
     push_cases(out, labels)?;
     out.statement(DEADLINES)?;
@@ -193,6 +233,7 @@ pub(crate) fn push_tables(
     out.statement(OUTAGES)?;
     push_closings(out, facts)?;
     push_endings(out, facts)?;
+    push_rulings(out, rulings)?;
     push_answers(out, facts)
 }
 
@@ -213,6 +254,17 @@ fn push_endings(out: &mut Script, facts: bool) -> Result<(), AllocError>
 {
     if facts {
         out.statement(ENDINGS)
+    } else {
+        Ok(())
+    }
+}
+
+// Adds the table of the motions that were ruled on, where rows rule on motions.
+fn push_rulings(out: &mut Script, rulings: bool) -> Result<(), AllocError>
+    ensures { OnOk result (out.new ≡ out.old ++ rulings_table rulings) }
+{
+    if rulings {
+        out.statement(RULINGS)
     } else {
         Ok(())
     }

@@ -69,6 +69,17 @@ closing_said word =
     else if is_one_of word (codes "otherwise" ∷ codes "other" ∷ []) then Clear (codes "otherwise")
     else Unknown
 
+-- how a motion was ruled on
+unfoldable pub ruling_said : List ℕ → Said (List ℕ)
+ruling_said word =
+    if is_one_of word (codes "granted" ∷ codes "grant" ∷ []) then Clear (codes "granted")
+    else if is_one_of word (codes "denied" ∷ codes "deny" ∷ codes "denial" ∷ []) then Clear (codes "denied")
+    else if is_one_of word (codes "inpart" ∷ codes "grantedinpart" ∷ codes "grantedinpartanddeniedinpart" ∷ []) then Clear (codes "in part")
+    else if is_one_of word (codes "moot" ∷ codes "mooted" ∷ codes "deniedasmoot" ∷ []) then Clear (codes "moot")
+    else if is_one_of word (codes "withdrawn" ∷ codes "withdrew" ∷ []) then Clear (codes "withdrawn")
+    else if is_one_of word (codes "reserved" ∷ codes "reserve" ∷ codes "underadvisement" ∷ []) then Clear (codes "reserved")
+    else Unknown
+
 -- a Rule's number, as people cite it: `4(m)`, `Rule 4(m)`, `FRCP 4(m)`, `Fed. R. Civ. P. 4(m)`
 abbrev pub cited : List ℕ → List (List ℕ)
 cited number = number ∷ (codes "rule" ++ number) ∷ (codes "frcp" ++ number) ∷ (codes "fedrcivp" ++ number) ∷ []

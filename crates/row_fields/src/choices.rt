@@ -1,7 +1,7 @@
 //! Fields that say one of a few words. Each word is folded: in small letters, with its letters and digits alone.
 
 ghost use Rattle.std.specs.Prelude.{◌≡◌};
-ghost use Rattle.row_fields.specs.Choices.{act_said, answer_said, closing_said, list_said, means_said, one_rule_said, rule_said, service_said, why_said};
+ghost use Rattle.row_fields.specs.Choices.{act_said, answer_said, closing_said, list_said, means_said, one_rule_said, rule_said, ruling_said, service_said, why_said};
 ghost use Rattle.row_fields.specs.Said.{said_map};
 
 use crate::said::Said;
@@ -82,6 +82,22 @@ pub fn closing_said(word: &str) -> Said<&'static str>
         "transferred" | "transfer" => Said::Clear("transferred"),
         "remanded" | "remand" => Said::Clear("remanded"),
         "otherwise" | "other" => Said::Clear("otherwise"),
+        _ => Said::Unknown,
+    }
+}
+
+/// How a motion was ruled on.
+#[tactic(auto, unfolding(crate::specs::Choices::ruling_said))]
+pub fn ruling_said(word: &str) -> Said<&'static str>
+    ensures { said_map (λ plain. plain.now) result ≡ ruling_said word.now }
+{
+    match word {
+        "granted" | "grant" => Said::Clear("granted"),
+        "denied" | "deny" | "denial" => Said::Clear("denied"),
+        "inpart" | "grantedinpart" | "grantedinpartanddeniedinpart" => Said::Clear("in part"),
+        "moot" | "mooted" | "deniedasmoot" => Said::Clear("moot"),
+        "withdrawn" | "withdrew" => Said::Clear("withdrawn"),
+        "reserved" | "reserve" | "underadvisement" => Said::Clear("reserved"),
         _ => Said::Unknown,
     }
 }

@@ -9,10 +9,10 @@ use std::alloc::{AllocError, Global};
 use strsim::osa_distance;
 
 /// The headings of columns.
-const HEADINGS: [&str; 26] = [
+const HEADINGS: [&str; 27] = [
     "clerk", "command", "case", "deadline", "motion", "period", "date", "time", "second", "kind",
     "means", "grant", "cause", "neglect", "need", "list", "from", "to", "judge", "room", "slots",
-    "notice", "act", "why", "dated", "note",
+    "notice", "act", "why", "ruling", "dated", "note",
 ];
 
 /// The word from which a text that is folded differs by no more than a slip: a letter that is added, lost or another, or two
@@ -119,6 +119,18 @@ fn nearest_in(
                 "transferred",
                 "remanded",
                 "otherwise",
+            ],
+        ),
+        Column::Ruling => nearest_of(
+            alloc,
+            word,
+            &[
+                "granted",
+                "denied",
+                "in part",
+                "moot",
+                "withdrawn",
+                "reserved",
             ],
         ),
         Column::Why => nearest_of(

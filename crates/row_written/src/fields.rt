@@ -15,7 +15,7 @@ use court_clock::Day;
 use court_days::Court;
 use row_fields::{
     DateOrder, Said, act_said, answer_said, bare, closing_said, date_said, folded, list_said,
-    means_said, rule_said, section_said, service_said, time_said, why_said,
+    means_said, rule_said, ruling_said, section_said, service_said, time_said, why_said,
 };
 use row_forms::Column;
 use std::alloc::{AllocError, Global};
@@ -184,6 +184,7 @@ fn word_said(alloc: Global, column: Column, text: &str) -> Result<Said<String>, 
         Column::Act => act_said(word.as_str()),
         Column::Why => why_said(word.as_str()),
         Column::Closing => closing_said(word.as_str()),
+        Column::Ruling => ruling_said(word.as_str()),
         _ => section_said(word.as_str()),
     };
     owned(alloc, said)
@@ -270,7 +271,8 @@ fn filled_said(
         | Column::Holidays
         | Column::Act
         | Column::Why
-        | Column::Closing => word_said(alloc, column, text),
+        | Column::Closing
+        | Column::Ruling => word_said(alloc, column, text),
         Column::Grant => grant_said(alloc, order, text),
         Column::Need => need_said(alloc, text),
         Column::Judge => name_said(alloc, court, Named::Judges, text),

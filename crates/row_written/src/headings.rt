@@ -75,6 +75,7 @@ pub fn heading_said(word: &str) -> Option<&'static str>
         "act" => Some("act"),
         "dated" | "orderdated" | "orderdate" | "dateoforder" => Some("dated"),
         "why" | "reason" => Some("why"),
+        "ruling" => Some("ruling"),
         "note" | "notes" | "remarks" | "comment" | "comments" => Some("note"),
         _ => None,
     }

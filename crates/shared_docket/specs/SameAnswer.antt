@@ -1,12 +1,12 @@
 -- When two answers are the same.
-use Rattle.std.specs.Prelude.{◌==◌, Bool, true, false, ◌&&◌}
+use Rattle.std.specs.Prelude.{◌==◌, ℤ, Bool, true, false, ◌&&◌, Option, Some, None}
 use Rattle.std.specs.Ordering.{int_eq}
 use Rattle.rule6.specs.declared.timeliness.Act.{Act}
 use Rattle.rule6.specs.declared.timeliness.Act.TheVariants as act
 use Rattle.rule6.specs.declared.timeliness.Shown.{Shown}
 use Rattle.rule6.specs.declared.timeliness.Shown.TheVariants as shown
 use Rattle.docket_rows.specs.declared.answer.Answer.{Answer}
-use Rattle.docket_rows.specs.declared.answer.Answer.TheVariants.{Opened, Started, Filed, Extended, Reset, MotionEntered, Booked, Moved, Cancelled, HolidayEntered, OutageEntered, Ended, Resumed, Closed, Reopened, Refused}
+use Rattle.docket_rows.specs.declared.answer.Answer.TheVariants.{Opened, Started, Filed, Extended, Reset, MotionEntered, Booked, Moved, Cancelled, HolidayEntered, OutageEntered, Ended, Resumed, Closed, Reopened, Ruled, Refused}
 use Rattle.docket_rows.specs.declared.refusal.Refusal.{Refusal}
 use Rattle.docket_rows.specs.declared.refusal.Refusal.TheVariants.{NoSuchCase, CaseIsOpen, NoSuchDeadline, NoSuchMotion, BadDay, BadLength, WrongService, Beyond, AlreadyMet, NotExtendable, NoGoodCause, LateWithoutMotion, LateWithoutNeglect, NotLonger, AlreadySet, NotSet, NotACourtDay, OutsideHours, ShortNotice, JudgeBusy, RoomBusy, AlreadyHoliday, HearingThatDay, NoticeLost, Full, NoSuchJudge, NoSuchRoom, WrongGrant, BadPanel, CaseIsClosed, NotClosed, HearingAhead, AlreadyEnded, NotEnded}
 
@@ -25,6 +25,11 @@ abbrev pub same_truth : (x y : Bool) → Bool
 same_truth true true = true
 same_truth false false = true
 same_truth _ _ = false
+
+abbrev pub same_day : (x y : Option ℤ) → Bool
+same_day None None = true
+same_day (Some day) (Some other) = int_eq day other
+same_day _ _ = false
 
 abbrev pub same_refusal : (x y : Refusal) → Bool
 same_refusal NoSuchCase NoSuchCase = true
@@ -78,6 +83,7 @@ same_answer OutageEntered OutageEntered = true
 same_answer Ended Ended = true
 same_answer Closed Closed = true
 same_answer Reopened Reopened = true
+same_answer (Ruled day) (Ruled other) = same_day day other
 same_answer (Resumed ends) (Resumed other) = same_shown ends other
 same_answer (Refused refusal) (Refused other) = same_refusal refusal other
 same_answer _ _ = false

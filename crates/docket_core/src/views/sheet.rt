@@ -8,7 +8,7 @@ use court_days::Days;
 use docket_decisions::{DocketRules, Sight, is_beyond, shown_now};
 use docket_rows::{
     CaseRecord, Fact, Hearing, MotionRecord, Sheet, SheetDeadline, SheetDeadlines, SheetHearing,
-    SheetMotion, SheetMotions, State, closing_in, ending_in,
+    SheetMotion, SheetMotions, State, closing_in, ending_in, ruling_in,
 };
 use rule_periods::{DocketRow, affidavit_day};
 use rule6::{Filing, Shown, is_timely};
@@ -88,24 +88,27 @@ fn sheet_hearing(days: &Days, hearing: Option<Hearing>) -> Option<SheetHearing>
     }
 }
 
-/// The motions of a case, numbered from 1.
+/// The motions of a case of which these facts are recorded, numbered from 1.
 fn sheet_motions(
     alloc: Global,
     days: &Days,
+    facts: &[Fact],
     motions: &[MotionRecord],
 ) -> Result<Vec<SheetMotion>, AllocError>
     requires { length motions.now ≤ most_motions }
-    ensures { IfOk result (λ list. list.items ≡ map (sheet_motion days.now) (numbered_motions 1 motions.now)) }
+    ensures { IfOk result (λ list. list.items ≡ map (sheet_motion days.now facts.now) (numbered_motions 1 motions.now)) }
 {
     let mut list = Vec::new(alloc);
     for motion in motions {
         let number = list.len() as u32 + 1;
         let hearing = sheet_hearing(days, motion.hearing);
+        let ruling = ruling_in(facts, number);
         list.push(SheetMotion {
             number,
             served: motion.served,
             need: motion.need,
             hearing,
+            ruling,
         })?;
     }
     Ok(list)
@@ -122,7 +125,7 @@ pub(crate) fn sheet_of<S: Sight>(
     ensures { IfOk result (λ sheet. sheet ≡ sheet_of rules.now (S.parts sight.now) number case.now) }
 {
     let deadlines = sheet_deadlines(alloc, rules, sight, case.facts(), case.deadlines())?;
-    let motions = sheet_motions(alloc, sight.days(), case.motions())?;
+    let motions = sheet_motions(alloc, sight.days(), case.facts(), case.motions())?;
     Ok(Sheet {
         case: number,
         filed: case.filed(),

@@ -1,17 +1,18 @@
 -- A fact that is recorded.
-use Rattle.std.proofs.Common.{◌≡◌, ℕ, find, None}
+use Rattle.std.proofs.Common.{◌≡◌, ℕ, ℤ, Bool, true, false, is_some, find, None, if◌then◌else◌}
 use Rattle.std.specs.Option.{IsSome}
 use Rattle.std.proofs.lemmas.List.Elements.{All-push}
 use Rattle.docket_rows.specs.declared.command.Command.TheVariants as command
 use Rattle.docket_rows.specs.declared.fact.Fact.{Fact}
-use Rattle.docket_rows.specs.declared.fact.Fact.TheVariants.{Ended, Resumed, Closed, Reopened}
-use Rattle.docket_rows.specs.Words.{CourtSetup, Rows, DocketedFact, AreSound, AreLawful, parts_of, is_case, end_checks, resume_checks, close_checks, reopen_checks, end_refusal, resume_refusal, close_refusal, reopen_refusal, refusal, rows_after}
+use Rattle.docket_rows.specs.declared.fact.Fact.TheVariants.{Ended, Resumed, Closed, Reopened, Ruled}
+use Rattle.docket_rows.specs.Words.{CourtSetup, Rows, DocketedFact, AreSound, AreLawful, parts_of, hearing_of, if_ahead, is_case, end_checks, resume_checks, close_checks, reopen_checks, rule_checks, end_refusal, resume_refusal, close_refusal, reopen_refusal, rule_refusal, refusal, with_fact, without_hearing, hearings_until, rows_after}
 use Rattle.docket_laws.proofs.MadeLemmas.{none_of, when-not-None}
+use Rattle.docket_laws.proofs.LawfulLemmas.HearingLemmas.{sound_without, lawful_without}
 use Rattle.docket_laws.proofs.LawfulLemmas.SeenLemmas.{IsOpen, is_open_of}
 
 -- the case of a fact that isn't refused is open
 fact_open : (setup : CourtSetup) (rows : Rows) (case : ℕ) (fact : Fact) → refusal setup (parts_of rows) (command.Fact case fact) ≡ None → IsOpen rows case
-unfolding end_refusal resume_refusal close_refusal reopen_refusal
+unfolding end_refusal resume_refusal close_refusal reopen_refusal rule_refusal
 fact_open setup rows case (Ended deadline why dated) h =
     is_open_of rows case (when-not-None _ _ (none_of (end_checks (parts_of rows) case deadline dated) h).0)
 fact_open setup rows case (Resumed deadline dated) h =
@@ -20,10 +21,12 @@ fact_open setup rows case (Closed why dated) h =
     is_open_of rows case (when-not-None _ _ (none_of (close_checks (parts_of rows) case dated) h).0)
 fact_open setup rows case (Reopened dated) h =
     is_open_of rows case (when-not-None _ _ (none_of (reopen_checks (parts_of rows) case dated) h).0)
+fact_open setup rows case (Ruled motion how dated) h =
+    is_open_of rows case (when-not-None _ _ (none_of (rule_checks (parts_of rows) case motion dated) h).0)
 
-pub sound_fact : (setup : CourtSetup) (rows : Rows) (case : ℕ) (fact : Fact) → AreSound setup rows → refusal setup (parts_of rows) (command.Fact case fact) ≡ None → AreSound setup (rows_after rows (command.Fact case fact))
-sound_fact setup rows case fact s h =
-    let opened = fact_open setup rows case fact h in
+-- rows with one more fact of an open case
+sound_recorded : (setup : CourtSetup) (rows : Rows) (case : ℕ) (fact : Fact) → AreSound setup rows → IsOpen rows case → AreSound setup (with_fact case fact rows)
+sound_recorded setup rows case fact s opened =
     let f : DocketedFact = record { case = case; fact = fact } in
     record {
       first_day = s.first_day;
@@ -41,7 +44,41 @@ sound_fact setup rows case fact s h =
       facts_of_cases = All-push (λ (x : DocketedFact). IsSome (find (is_case x.case) rows.cases)) rows.facts f s.facts_of_cases opened.stands;
     }
 
--- a docket stays lawful, as no hearing, no motion and no day changes
-pub lawful_fact : (setup : CourtSetup) (rows : Rows) (case : ℕ) (fact : Fact) → AreLawful setup rows → AreLawful setup (rows_after rows (command.Fact case fact))
-lawful_fact setup rows case fact l =
+-- which stay lawful, as no hearing, no motion and no day changes
+lawful_recorded : (setup : CourtSetup) (rows : Rows) (case : ℕ) (fact : Fact) → AreLawful setup rows → AreLawful setup (with_fact case fact rows)
+lawful_recorded setup rows case fact l =
     record { apart = l.apart; on_court_days = l.on_court_days; within_hours = l.within_hours; noticed = l.noticed }
+
+-- rows without the hearing of a motion where it is later than a day
+sound_until : (setup : CourtSetup) (rows : Rows) (case motion : ℕ) (day : ℤ) → AreSound setup rows → AreSound setup (record rows { hearings = hearings_until case motion day rows })
+sound_until setup rows case motion day s = by (is_some (if_ahead day (hearing_of rows case motion))) where
+  by : (taken : Bool) → AreSound setup (record rows { hearings = if taken then (without_hearing case motion rows).hearings else rows.hearings })
+  by true = sound_without setup rows case motion s
+  by false = s
+
+lawful_until : (setup : CourtSetup) (rows : Rows) (case motion : ℕ) (day : ℤ) → AreLawful setup rows → AreLawful setup (record rows { hearings = hearings_until case motion day rows })
+lawful_until setup rows case motion day l = by (is_some (if_ahead day (hearing_of rows case motion))) where
+  by : (taken : Bool) → AreLawful setup (record rows { hearings = if taken then (without_hearing case motion rows).hearings else rows.hearings })
+  by true = lawful_without setup rows case motion l
+  by false = l
+
+-- the rows after a fact
+pub sound_fact : (setup : CourtSetup) (rows : Rows) (case : ℕ) (fact : Fact) → AreSound setup rows → refusal setup (parts_of rows) (command.Fact case fact) ≡ None → AreSound setup (rows_after rows (command.Fact case fact))
+sound_fact setup rows case (Ended deadline why dated) s h =
+    sound_recorded setup rows case (Ended deadline why dated) s (fact_open setup rows case (Ended deadline why dated) h)
+sound_fact setup rows case (Resumed deadline dated) s h =
+    sound_recorded setup rows case (Resumed deadline dated) s (fact_open setup rows case (Resumed deadline dated) h)
+sound_fact setup rows case (Closed why dated) s h =
+    sound_recorded setup rows case (Closed why dated) s (fact_open setup rows case (Closed why dated) h)
+sound_fact setup rows case (Reopened dated) s h =
+    sound_recorded setup rows case (Reopened dated) s (fact_open setup rows case (Reopened dated) h)
+sound_fact setup rows case (Ruled motion how dated) s h =
+    sound_until setup (with_fact case (Ruled motion how dated) rows) case motion dated (sound_recorded setup rows case (Ruled motion how dated) s (fact_open setup rows case (Ruled motion how dated) h))
+
+pub lawful_fact : (setup : CourtSetup) (rows : Rows) (case : ℕ) (fact : Fact) → AreLawful setup rows → AreLawful setup (rows_after rows (command.Fact case fact))
+lawful_fact setup rows case (Ended deadline why dated) l = lawful_recorded setup rows case (Ended deadline why dated) l
+lawful_fact setup rows case (Resumed deadline dated) l = lawful_recorded setup rows case (Resumed deadline dated) l
+lawful_fact setup rows case (Closed why dated) l = lawful_recorded setup rows case (Closed why dated) l
+lawful_fact setup rows case (Reopened dated) l = lawful_recorded setup rows case (Reopened dated) l
+lawful_fact setup rows case (Ruled motion how dated) l =
+    lawful_until setup (with_fact case (Ruled motion how dated) rows) case motion dated (lawful_recorded setup rows case (Ruled motion how dated) l)

@@ -1,5 +1,5 @@
 -- The history of a motion ends in the hearing that the docket has for it.
-use Rattle.std.proofs.Common.{◌≡◌, ◌<◌, ◌+◌, ◌∙◌, ◌==◌, ◌&&◌, ℕ, Bool, true, false, not, List, [], ◌∷◌, ◌++◌, length, nat_le, get_or, fold, find, filter, All, AllPairs, Option, Some, None, option_map, option_to_list, if◌then◌else◌, append-nil, refl, sym, ap, arith, inl, inr}
+use Rattle.std.proofs.Common.{◌≡◌, ◌<◌, ◌+◌, ◌∙◌, ◌==◌, ◌&&◌, ℕ, ℤ, Bool, true, false, not, is_some, List, [], ◌∷◌, ◌++◌, length, nat_le, get_or, fold, find, filter, All, AllPairs, Option, Some, None, option_map, option_to_list, if◌then◌else◌, append-nil, refl, sym, ap, subst, arith, inl, inr}
 use Rattle.std.specs.Option.{option_map_or}
 use Rattle.std.proofs.Math.Seq.{get_or-append_seam}
 use Rattle.std.proofs.lemmas.Bool.Decides.{nat_tests}
@@ -14,12 +14,13 @@ use Rattle.rule_periods.specs.Words.{is_order}
 use Rattle.docket_rows.specs.declared.answer.Answer.TheVariants as answer
 use Rattle.docket_rows.specs.declared.command.Command.{Command}
 use Rattle.docket_rows.specs.declared.command.Command.TheVariants.{OpenCase, Start, FileAct, Extend, Motion, Book, MoveHearing, Cancel, Holiday, Inaccessible, Fact}
-use Rattle.docket_rows.specs.declared.fact.Fact.TheVariants.{Ended, Resumed, Closed, Reopened}
+use Rattle.docket_rows.specs.declared.fact.Fact.TheVariants.{Ended, Resumed, Closed, Reopened, Ruled}
+use Rattle.docket_rows.specs.declared.fact.Ruling.{Ruling}
 use Rattle.docket_rows.specs.declared.hearing.Hearing.{Hearing}
 use Rattle.docket_rows.specs.declared.hearing.Setting.{Setting}
 use Rattle.docket_rows.specs.declared.refusal.Refusal.{Refusal}
-use Rattle.docket_rows.specs.Words.{AreSound, CourtSetup, DocketedHearing, Rows, answered, answer_if_made, ended_answer, hearing_asked, hearing_of, is_hearing, opening_rows, parts_of, refusal, rows_after, rows_from, step}
-use Rattle.docket_laws.proofs.CallerLemmas.{can_book, can_move, count_of, sound_after, sound_opening, sound_step}
+use Rattle.docket_rows.specs.Words.{AreSound, CourtSetup, DocketedHearing, Rows, answered, answer_if_made, ended_answer, hearing_asked, hearing_of, if_ahead, is_hearing, opening_rows, parts_of, refusal, rows_after, rows_from, step, without_hearing}
+use Rattle.docket_laws.proofs.CallerLemmas.{can_book, can_move, count_of, hearing_seen, sound_after, sound_opening, sound_step}
 use Rattle.docket_selection.specs.declared.changes.change.HearingChange.{HearingChange}
 use Rattle.docket_selection.specs.declared.changes.change.RowChange.{RowChange}
 use Rattle.docket_selection.specs.declared.changes.history.HearingHistory.{HearingHistory}
@@ -132,6 +133,13 @@ module _ (judge : Option ℕ) (case motion : ℕ) where
   extended_ends row before of deadline request true end docketed ends = ends
   extended_ends row before of deadline request false end docketed ends = ends
 
+  -- after a ruling, which takes this hearing of its motion off, if any
+  ruled_ends : (rows : Rows) (row : ℕ) (before : Option HearingHistory) (of of_motion : ℕ) (how : Ruling) (dated : ℤ) → last_hearing before ≡ hearing_before judge (hearing_of rows case motion) → (taken : Option Hearing)
+      → last_hearing (fold next_history before (option_to_list (change_made row (Fact of (Ruled of_motion how dated)) (answer.Ruled (option_map (λ (h : Hearing). h.day) taken))))) ≡ hearing_before judge (hearing_of (record rows { hearings = if is_some taken then (without_hearing of of_motion rows).hearings else rows.hearings }) case motion)
+  ruled_ends rows row before of of_motion how dated ends None = ends
+  ruled_ends rows row before of of_motion how dated ends (Some h) =
+      followed_ends before (record { case = of; motion = of_motion; hearing = None }) (hearing_of rows case motion) _ (after_taking rows.hearings of of_motion case motion) ends
+
   -- after a command that isn't refused, and after any
   made_ends : (setup : CourtSetup) (rows : Rows) (row : ℕ) (before : Option HearingHistory) → AreSound setup rows → last_hearing before ≡ hearing_before judge (hearing_of rows case motion) → (command : Command) → refusal setup (parts_of rows) command ≡ None
       → last_hearing (fold next_history before (option_to_list (change_made row command (answer_if_made setup (parts_of rows) command)))) ≡ hearing_before judge (hearing_of (rows_after rows command) case motion)
@@ -157,6 +165,9 @@ module _ (judge : Option ℕ) (case motion : ℕ) where
   made_ends setup rows row before sound ends (Fact of (Resumed deadline dated)) free = ends
   made_ends setup rows row before sound ends (Fact of (Closed why dated)) free = ends
   made_ends setup rows row before sound ends (Fact of (Reopened dated)) free = ends
+  made_ends setup rows row before sound ends (Fact of (Ruled of_motion how dated)) free =
+      let P : Option Hearing → Type 0 = λ set. last_hearing (fold next_history before (option_to_list (change_made row (Fact of (Ruled of_motion how dated)) (answer.Ruled (option_map (λ (h : Hearing). h.day) (if_ahead dated set)))))) ≡ hearing_before judge (hearing_of (rows_after rows (Fact of (Ruled of_motion how dated))) case motion) in
+      subst P (sym (hearing_seen setup rows sound of of_motion)) (ruled_ends rows row before of of_motion how dated ends (if_ahead dated (hearing_of rows of of_motion)))
 
   step_ends : (setup : CourtSetup) (rows : Rows) (row : ℕ) (before : Option HearingHistory) → AreSound setup rows → last_hearing before ≡ hearing_before judge (hearing_of rows case motion) → (command : Command)
       → last_hearing (fold next_history before (option_to_list (change_made row command (step setup rows command).1))) ≡ hearing_before judge (hearing_of (step setup rows command).0 case motion)

@@ -1,5 +1,5 @@
 -- One command more raises the revision of a case's events, or leaves all on which they rest.
-use Rattle.std.proofs.Common.{◌≡◌, ◌<◌, ◌≤◌, ◌+◌, ◌∙◌, ◌==◌, ◌&&◌, ◌||◌, ℕ, suc, max, Bool, true, false, List, [], ◌∷◌, ◌++◌, length, nat_le, map, fold, filter, All, Option, Some, None, option_map, option_to_list, if◌then◌else◌, append_assoc, append-nil, refl, sym, ap, subst, arith, inl, inr}
+use Rattle.std.proofs.Common.{◌≡◌, ◌<◌, ◌≤◌, ◌+◌, ◌∙◌, ◌==◌, ◌&&◌, ◌||◌, ℕ, ℤ, suc, max, Bool, true, false, is_some, List, [], ◌∷◌, ◌++◌, length, nat_le, map, fold, filter, All, Option, Some, None, option_map, option_to_list, if◌then◌else◌, append_assoc, append-nil, refl, sym, ap, subst, arith, inl, inr}
 use Rattle.std.specs.Option.{option_map_or}
 use Rattle.std.proofs.Math.Nat.{le-max_left, le-max_right, max-le}
 use Rattle.std.proofs.lemmas.Bool.{cases_Bool, eqb-true, and_parts, false≢true}
@@ -11,17 +11,19 @@ use Rattle.docket_rows.specs.declared.answer.Answer.TheVariants as answer
 use Rattle.docket_rows.specs.declared.command.Command.{Command}
 use Rattle.docket_rows.specs.declared.command.Command.TheVariants.{OpenCase, Start, FileAct, Extend, Motion, Book, MoveHearing, Cancel, Holiday, Inaccessible, Fact}
 use Rattle.docket_rows.specs.declared.fact.Fact.{Fact as FactOf}
-use Rattle.docket_rows.specs.declared.fact.Fact.TheVariants.{Ended, Resumed, Closed, Reopened}
+use Rattle.docket_rows.specs.declared.fact.Fact.TheVariants.{Ended, Resumed, Closed, Reopened, Ruled}
+use Rattle.docket_rows.specs.declared.fact.Ruling.{Ruling}
+use Rattle.docket_rows.specs.declared.hearing.Hearing.{Hearing}
 use Rattle.docket_rows.specs.declared.refusal.Refusal.{Refusal}
-use Rattle.docket_rows.specs.Words.{AreSound, CourtSetup, DocketedDeadline, Rows, answer_if_made, answered, ended_answer, is_deadline_in, is_fact_in, next_deadline, opening_rows, parts_of, refusal, rows_after, rows_from, started, step, with_deadline}
+use Rattle.docket_rows.specs.Words.{AreSound, CourtSetup, DocketedDeadline, Rows, answer_if_made, answered, ended_answer, hearing_of, if_ahead, is_deadline_in, is_fact_in, next_deadline, opening_rows, parts_of, refusal, rows_after, rows_from, started, step, with_deadline, with_fact, without_hearing}
 use Rattle.rule6.specs.declared.timeliness.Shown.{Shown}
 use Rattle.rule_periods.specs.declared.grant.Request.{Request}
 use Rattle.rule_periods.specs.Words.{DeadlineRowView, is_order}
 use Rattle.docket_laws.specs.Words.{docket_after}
-use Rattle.docket_laws.proofs.CallerLemmas.{can_book, can_move, count_of, sound_docket}
+use Rattle.docket_laws.proofs.CallerLemmas.{can_book, can_move, count_of, hearing_seen, sound_docket}
 use Rattle.docket_selection.specs.declared.changes.change.Change.{Change}
 use Rattle.docket_selection.specs.declared.changes.change.RowChange.{RowChange}
-use Rattle.docket_selection.specs.Changes.Change.{change_asked, change_made}
+use Rattle.docket_selection.specs.Changes.Change.{change_asked, change_by, change_made}
 use Rattle.docket_selection.specs.Changes.Laws.{KeepsEvents, RevisionsRiseWithEvents, changes_by, changes_from}
 use Rattle.docket_selection.specs.Changes.Revision.{changes_case, changes_days, last_row, revision_of}
 use Rattle.docket_selection.proofs.ChangesLemmas.DocketLemmas.{after_taking, moved_docketed, set_docketed}
@@ -62,6 +64,7 @@ module _ (Holds : ℕ → Type 0) (row : ℕ) (command : Command) (holds : Holds
   made_at answer.Ended = asked_at (change_asked command)
   made_at answer.Closed = asked_at (change_asked command)
   made_at answer.Reopened = asked_at (change_asked command)
+  made_at (answer.Ruled day) = asked_at (change_by command day)
   made_at (answer.Resumed shown) = asked_at (change_asked command)
   made_at (answer.Refused refusal) = All-nil (λ (c : RowChange). Holds c.row)
 
@@ -119,12 +122,23 @@ extension_touches case row of deadline request true end other = other
 extension_touches case row of deadline request false end other = other
 
 -- a fact of another case
-recorded_elsewhere : (rows : Rows) (case of : ℕ) (fact : FactOf) → (of == case) ≡ false → KeepsEvents case rows (rows_after rows (Fact of fact))
+recorded_elsewhere : (rows : Rows) (case of : ℕ) (fact : FactOf) → (of == case) ≡ false → KeepsEvents case rows (with_fact of fact rows)
 recorded_elsewhere rows case of fact other = record {
   days = refl;
   deadlines = refl;
   hearings = λ motion. refl;
   facts = filter-append (is_fact_in case) rows.facts (record { case = of; fact = fact } ∷ []) ∙ rw other (append-nil (filter (is_fact_in case) rows.facts));
+}
+
+-- a ruling in another case, which takes this hearing of its motion off, if any
+ruled_elsewhere : (rows : Rows) (case row of of_motion : ℕ) (how : Ruling) (dated : ℤ) (taken : Option Hearing) → made_touches case (change_made row (Fact of (Ruled of_motion how dated)) (answer.Ruled (option_map (λ (h : Hearing). h.day) taken))) ≡ false
+    → KeepsEvents case rows (record (with_fact of (Ruled of_motion how dated) rows) { hearings = if is_some taken then (without_hearing of of_motion rows).hearings else rows.hearings })
+ruled_elsewhere rows case row of of_motion how dated None other = recorded_elsewhere rows case of (Ruled of_motion how dated) other
+ruled_elsewhere rows case row of of_motion how dated (Some h) other = record {
+  days = refl;
+  deadlines = refl;
+  hearings = λ motion. rw other at (after_taking rows.hearings of of_motion case motion);
+  facts = (recorded_elsewhere rows case of (Ruled of_motion how dated) other).facts;
 }
 
 made_keeps : (setup : CourtSetup) (rows : Rows) (case row : ℕ) → AreSound setup rows → (command : Command) → refusal setup (parts_of rows) command ≡ None → made_touches case (change_made row command (answer_if_made setup (parts_of rows) command)) ≡ false → KeepsEvents case rows (rows_after rows command)
@@ -166,6 +180,9 @@ made_keeps setup rows case row sound (Fact of (Ended deadline why dated)) free o
 made_keeps setup rows case row sound (Fact of (Resumed deadline dated)) free other = recorded_elsewhere rows case of (Resumed deadline dated) other
 made_keeps setup rows case row sound (Fact of (Closed why dated)) free other = recorded_elsewhere rows case of (Closed why dated) other
 made_keeps setup rows case row sound (Fact of (Reopened dated)) free other = recorded_elsewhere rows case of (Reopened dated) other
+made_keeps setup rows case row sound (Fact of (Ruled of_motion how dated)) free other =
+    let P : Option Hearing → Type 0 = λ set. made_touches case (change_made row (Fact of (Ruled of_motion how dated)) (answer.Ruled (option_map (λ (h : Hearing). h.day) (if_ahead dated set)))) ≡ false in
+    ruled_elsewhere rows case row of of_motion how dated (if_ahead dated (hearing_of rows of of_motion)) (subst P (hearing_seen setup rows sound of of_motion) other)
 
 step_keeps : (setup : CourtSetup) (rows : Rows) (case row : ℕ) → AreSound setup rows → (command : Command) → made_touches case (change_made row command (step setup rows command).1) ≡ false → KeepsEvents case rows (step setup rows command).0
 unfolding step answered

@@ -1,8 +1,8 @@
 -- What a row changed of what calendars show.
 use Rattle.std.specs.Option.{option_and_then, option_map_or}
-use Rattle.std.specs.Prelude.{ℕ, nat_le, Option, Some, None, option_map, if◌then◌else◌}
+use Rattle.std.specs.Prelude.{ℕ, nat_le, ℤ, Option, Some, None, option_map, if◌then◌else◌}
 use Rattle.docket_rows.specs.declared.answer.Answer.{Answer}
-use Rattle.docket_rows.specs.declared.answer.Answer.TheVariants.{Refused}
+use Rattle.docket_rows.specs.declared.answer.Answer.TheVariants.{Refused, Ruled}
 use Rattle.docket_rows.specs.declared.command.Command.{Command}
 use Rattle.docket_rows.specs.declared.command.Command.TheVariants.{OpenCase, Start, FileAct, Extend, Motion, Holiday, Inaccessible, Fact}
 use Rattle.docket_rows.specs.declared.command.HearingOrder.{HearingOrder}
@@ -26,8 +26,8 @@ abbrev pub hearing_change : Command → Option HearingChange
 hearing_change command = option_and_then order_made (order_of command)
 
 -- What a command asks for changes of what calendars show: a deadline of a case, which is started, extended, ended or resumed, or for
--- which an act is recorded; the court's days, by a holiday or an outage, on which the end of any deadline may rest; or the hearing of a
--- motion. A case that is opened and a motion that is entered are in no calendar.
+-- which an act is recorded, or a fact of the case; the court's days, by a holiday or an outage, on which the end of any deadline may
+-- rest; or the hearing of a motion. A case that is opened and a motion that is entered are in no calendar.
 abbrev pub change_asked : Command → Option Change
 change_asked (OpenCase case filed) = None
 change_asked (Start case period event second service) = Some (Deadline case)
@@ -39,7 +39,17 @@ change_asked (Inaccessible day from to) = Some Days
 change_asked (Fact case fact) = Some (Deadline case)
 change_asked command = option_map Hearing (hearing_change command)
 
--- what the row of that number changed, by a command that was so answered: nothing where it was refused, and else what it asks for
+-- the day of the hearing that a ruling took off the calendar, by what it was answered
+abbrev pub day_taken : Answer → Option ℤ
+day_taken (Ruled day) = day
+day_taken made = None
+
+-- what a command changed that isn't refused: what it asks for, or where it took a later hearing off as a ruling that hearing
+abbrev pub change_by : Command → (taken : Option ℤ) → Option Change
+change_by command None = change_asked command
+change_by command (Some day) = option_map Hearing (hearing_change command)
+
+-- what the row of that number changed, by a command that was so answered: nothing where it was refused
 abbrev pub change_made : (row : ℕ) → Command → Answer → Option RowChange
 change_made row command (Refused refusal) = None
-change_made row command made = option_map (λ change. record { row = row; change = change }) (change_asked command)
+change_made row command made = option_map (λ change. record { row = row; change = change }) (change_by command (day_taken made))

@@ -1,8 +1,9 @@
 //! What a row changed of what calendars show.
 
 ghost use Rattle.std.specs.Prelude.{◌≡◌, None};
-ghost use Rattle.docket_selection.specs.Changes.Change.{change_asked, change_made, hearing_change, setting_made};
+ghost use Rattle.docket_selection.specs.Changes.Change.{change_asked, change_by, change_made, day_taken, hearing_change, setting_made};
 
+use court_clock::Day;
 use docket_rows::{Answer, Command, Hearing, Setting};
 
 /// A change of the hearing of a motion.
@@ -21,7 +22,7 @@ pub struct HearingChange {
 pub enum Change {
     /// The court's days: a holiday or an outage was entered.
     Days,
-    /// A deadline of the case of that number: it was started, extended, ended or resumed, or an act was recorded for it.
+    /// A deadline of the case of that number: it was started, extended, ended or resumed, or an act or a fact of the case was recorded.
     Deadline(u32),
     /// The hearing of a motion.
     Hearing(HearingChange),
@@ -43,8 +44,28 @@ pub fn change_made(row: u64, command: &Command, answer: &Answer) -> Option<RowCh
     if let Answer::Refused(_) = answer {
         return None;
     }
-    let change = change_asked(command)?;
+    let change = change_by(command, day_taken(answer))?;
     Some(RowChange { row, change })
+}
+
+/// The day of the hearing that a ruling took off the calendar, by what it was answered.
+fn day_taken(answer: &Answer) -> Option<Day>
+    ensures { result ≡ day_taken answer.now }
+{
+    match answer {
+        Answer::Ruled(day) => *day,
+        _ => None,
+    }
+}
+
+/// What a command changed that isn't refused: what it asks for, or where it took a later hearing off as a ruling that hearing.
+fn change_by(command: &Command, taken: Option<Day>) -> Option<Change>
+    ensures { result ≡ change_by command.now taken }
+{
+    match taken {
+        Some(_) => Some(Change::Hearing(hearing_change(command)?)),
+        None => change_asked(command),
+    }
 }
 
 /// What a command asks for changes.

@@ -11,6 +11,8 @@ use Rattle.docket_rows.specs.declared.fact.Closing.{Closing}
 use Rattle.docket_rows.specs.declared.fact.Closing.TheVariants as closing
 use Rattle.docket_rows.specs.declared.fact.Ending.{Ending}
 use Rattle.docket_rows.specs.declared.fact.Ending.TheVariants.{Moot, Vacated, Stayed, Suspended, Withdrawn}
+use Rattle.docket_rows.specs.declared.fact.Ruling.{Ruling}
+use Rattle.docket_rows.specs.declared.fact.Ruling.TheVariants as ruling
 
 -- the kind of service, by its letter in Rule 5(b)(2)
 unfoldable pub kind_of : List ℕ → Option ServiceKind
@@ -55,6 +57,17 @@ closing_of text =
     else if bytes_eq text (codes "transferred") then Some closing.Transferred
     else if bytes_eq text (codes "remanded") then Some closing.Remanded
     else if bytes_eq text (codes "otherwise") then Some closing.Otherwise
+    else None
+
+-- how a motion was ruled on
+unfoldable pub ruling_of : List ℕ → Option Ruling
+ruling_of text =
+    if bytes_eq text (codes "granted") then Some ruling.Granted
+    else if bytes_eq text (codes "denied") then Some ruling.Denied
+    else if bytes_eq text (codes "in part") then Some ruling.InPart
+    else if bytes_eq text (codes "moot") then Some ruling.Moot
+    else if bytes_eq text (codes "withdrawn") then Some ruling.Withdrawn
+    else if bytes_eq text (codes "reserved") then Some ruling.Reserved
     else None
 
 -- whether something is so

@@ -1,10 +1,10 @@
 //! Fields that say one of a few words.
 
 ghost use Rattle.std.specs.Prelude.{◌≡◌};
-ghost use Rattle.row_forms.specs.Fields.Choices.{closing_of, ending_of, is_so, kind_if_given, kind_of, list_of, means_of};
+ghost use Rattle.row_forms.specs.Fields.Choices.{closing_of, ending_of, is_so, kind_if_given, kind_of, list_of, means_of, ruling_of};
 
 use court_days::HolidayList;
-use docket_rows::{Closing, Ending};
+use docket_rows::{Closing, Ending, Ruling};
 use rule6::{Means, ServiceKind};
 
 /// The kind of service that a field says; an empty field says none.
@@ -70,6 +70,22 @@ pub fn closing_of(text: &str) -> Option<Closing>
         "transferred" => Some(Closing::Transferred),
         "remanded" => Some(Closing::Remanded),
         "otherwise" => Some(Closing::Otherwise),
+        _ => None,
+    }
+}
+
+/// How a motion was ruled on.
+#[tactic(auto, unfolding(crate::specs::Fields::Choices::ruling_of))]
+pub fn ruling_of(text: &str) -> Option<Ruling>
+    ensures { result ≡ ruling_of text.now }
+{
+    match text {
+        "granted" => Some(Ruling::Granted),
+        "denied" => Some(Ruling::Denied),
+        "in part" => Some(Ruling::InPart),
+        "moot" => Some(Ruling::Moot),
+        "withdrawn" => Some(Ruling::Withdrawn),
+        "reserved" => Some(Ruling::Reserved),
         _ => None,
     }
 }

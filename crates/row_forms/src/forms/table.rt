@@ -6,7 +6,7 @@ ghost use Rattle.row_forms.specs.Forms.Table.{columns_of, columns_of_form, comma
 
 use crate::headings::Column::{
     self, Act, ByMotion, Case, Cause, Clerk, Closing, Command, Date, Dated, Deadline, From, Grant,
-    Holidays, Judge, Judges, Means, Motion, Need, Neglect, Notice, Period, ResumeDay, Room,
+    Holidays, Judge, Judges, Means, Motion, Need, Neglect, Notice, Period, ResumeDay, Room, Ruling,
     SecondOrNone, ServiceOrNone, Slots, Start, Time, TimeOrNone, To, Why,
 };
 
@@ -51,6 +51,8 @@ pub enum Form {
     Close,
     /// Reopens a case that was closed. It is of the desk alone.
     Reopen,
+    /// Rules on a motion. It is of the desk alone.
+    Rule,
 }
 
 /// The forms of the rows of clerk_office.
@@ -71,7 +73,7 @@ pub const OFFICE_FORMS: [Form; 13] = [
 ];
 
 /// The forms of the rows of the desk.
-pub const FORMS: [Form; 19] = [
+pub const FORMS: [Form; 20] = [
     Form::Open,
     Form::Start,
     Form::File,
@@ -91,10 +93,11 @@ pub const FORMS: [Form; 19] = [
     Form::Resume,
     Form::Close,
     Form::Reopen,
+    Form::Rule,
 ];
 
 /// The command words, in the order of the forms.
-pub const COMMANDS: [&str; 19] = [
+pub const COMMANDS: [&str; 20] = [
     "open",
     "start",
     "file",
@@ -114,6 +117,7 @@ pub const COMMANDS: [&str; 19] = [
     "resume",
     "close",
     "reopen",
+    "rule",
 ];
 
 /// The columns of a form's rows, from the first on.
@@ -160,6 +164,7 @@ pub fn columns_of_form(form: Form) -> &'static [Column]
         Form::Resume => &[Clerk, Command, Case, Deadline, ResumeDay, Dated],
         Form::Close => &[Clerk, Command, Case, Closing, Dated],
         Form::Reopen => &[Clerk, Command, Case, Dated],
+        Form::Rule => &[Clerk, Command, Case, Motion, Ruling, Dated],
     }
 }
 
@@ -182,7 +187,7 @@ pub fn commands() -> &'static [&'static str]
 pub fn commands_listed() -> &'static str
     ensures { result.now ≡ commands_listed }
 {
-    "open, start, file, extend, motion, book, move, cancel, holiday, inaccessible, compute, sheet, calendar, set, reset, end, resume, close or reopen"
+    "open, start, file, extend, motion, book, move, cancel, holiday, inaccessible, compute, sheet, calendar, set, reset, end, resume, close, reopen or rule"
 }
 
 // Whether the word is this form's.

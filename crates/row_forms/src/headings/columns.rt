@@ -68,6 +68,8 @@ pub enum Column {
     Closing,
     /// The day on which a deadline that is resumed begins anew, which is empty.
     ResumeDay,
+    /// How a motion was ruled on.
+    Ruling,
 }
 
 /// The column of that number, counted from 0.
@@ -107,6 +109,7 @@ pub fn name_of(column: Column) -> &'static str
         Column::Act => "act",
         Column::Dated => "dated",
         Column::Why | Column::Closing => "why",
+        Column::Ruling => "ruling",
     }
 }
 
@@ -145,6 +148,7 @@ pub fn mark_of(word: &str, column: Column) -> &str
         Column::Dated => "DATED",
         Column::Why | Column::Closing => "WHY",
         Column::ResumeDay => "[DAY]",
+        Column::Ruling => "RULING",
     }
 }
 

@@ -3,7 +3,9 @@
 use super::{court, day};
 use court_days::HolidayList;
 use docket_core::Docket;
-use docket_rows::{Answer, Closing, Command, Ending, Fact, Query, Refusal, Setting, Sheet, View};
+use docket_rows::{
+    Answer, Closing, Command, Ending, Fact, Query, Refusal, Ruling, Setting, Sheet, View,
+};
 use hearing_slots::{Need, Panel};
 use rule_periods::{Event, Period, RulePeriod};
 use rule6::{Act, Shown};
@@ -237,4 +239,40 @@ fn books_and_cancels(rt: &impl Abort, alloc: Global, docket: &mut Docket) -> Res
 fn a_hearing_stands_in_the_calendars_of_its_panel(rt: HostRuntime) -> Result<(), Fail> {
     let mut docket = opening(rt.alloc())?;
     books_and_cancels(&rt, rt.alloc(), &mut docket)
+}
+
+/// Grants the motion by an order of that day.
+fn grant(rt: &impl Abort, dated: &str) -> Command {
+    fact(Fact::Ruled {
+        motion: 1,
+        ruling: Ruling::Granted,
+        dated: day(rt, dated),
+    })
+}
+
+/// Rules on a motion on the day of its hearing, which stays, and on the day before, which takes the hearing off.
+fn rules_on_a_motion(rt: &impl Abort, alloc: Global, docket: &mut Docket) -> Result<(), Fail> {
+    let (that_day, before) = (grant(rt, "2025-09-15"), grant(rt, "2025-09-14"));
+    let off = Some(day(rt, "2025-09-15"));
+    gives(rt, alloc, docket, &open_case(rt), &Answer::Opened)?;
+    gives(
+        rt,
+        alloc,
+        docket,
+        &before,
+        &Answer::Refused(Refusal::NoSuchMotion),
+    )?;
+    gives(rt, alloc, docket, &motion(rt), &Answer::MotionEntered(1))?;
+    gives(rt, alloc, docket, &book(rt), &Answer::Booked)?;
+    gives(rt, alloc, docket, &that_day, &Answer::Ruled(None))?;
+    assert!(rt; booked(docket, 0) == Some(1) && booked(docket, 1) == Some(1));
+    gives(rt, alloc, docket, &before, &Answer::Ruled(off))?;
+    assert!(rt; booked(docket, 0) == Some(0) && booked(docket, 1) == Some(0));
+    gives(rt, alloc, docket, &before, &Answer::Ruled(None))
+}
+
+#[test]
+fn a_ruling_takes_a_later_hearing_off(rt: HostRuntime) -> Result<(), Fail> {
+    let mut docket = opening(rt.alloc())?;
+    rules_on_a_motion(&rt, rt.alloc(), &mut docket)
 }
