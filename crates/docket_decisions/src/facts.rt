@@ -5,7 +5,7 @@ ghost use Rattle.std.specs.Option.{option_map_or};
 ghost use Rattle.rule6.specs.declared.timeliness.Shown.TheVariants.{Beyond};
 ghost use Rattle.docket_rows.specs.declared.command.Command.TheVariants as command;
 ghost use Rattle.docket_rows.specs.declared.hearing.Hearing.{Hearing};
-ghost use Rattle.docket_rows.specs.Words.{answer_if_made, close_refusal, deadline_in, end_refusal, ending_in, facts_in, first_ahead, has_one, motions_in, numbered_motions, refusal, reopen_refusal, resume_refusal, shown_now};
+ghost use Rattle.docket_rows.specs.Words.{answer_if_made, are_judges, assign_refusal, close_refusal, deadline_in, end_refusal, ending_in, facts_in, first_ahead, has_one, is_named_twice, motions_in, numbered_motions, refusal, reopen_refusal, resume_refusal, shown_now};
 
 use crate::rules::DocketRules;
 use crate::seen::{deadline_in, has_case, is_beyond, is_closed, shown_now};
@@ -89,6 +89,11 @@ pub(crate) fn fact_refusal<S: Sight>(
         Fact::Resumed { deadline, dated } => resume_refusal(rules, sight, case, deadline, dated),
         Fact::Closed { dated, .. } => close_refusal(sight, case, dated),
         Fact::Reopened { dated } => reopen_refusal(sight, case, dated),
+        Fact::Assigned {
+            judge,
+            referred,
+            dated,
+        } => assign_refusal(rules, sight, case, judge, referred, dated),
     }
 }
 
@@ -202,6 +207,62 @@ fn reopen_refusal<S: Sight>(sight: &S, case: u32, dated: Day) -> Option<Refusal>
     None
 }
 
+/// Whether the judge who has a case, and the one to whom it is referred, if it is, are judges of the court.
+fn are_judges(rules: &DocketRules, judge: u8, referred: Option<u8>) -> bool
+    ensures { result ≡ are_judges rules.now judge referred }
+{
+    if judge >= rules.judges() {
+        return false;
+    }
+    match referred {
+        Some(other) => other < rules.judges(),
+        None => true,
+    }
+}
+
+/// Whether the case is referred to the judge who has it.
+fn is_named_twice(judge: u8, referred: Option<u8>) -> bool
+    ensures { result ≡ is_named_twice judge referred }
+{
+    match referred {
+        Some(other) => other == judge,
+        None => false,
+    }
+}
+
+/// Why the case can't be assigned, if it can't.
+#[tactic(auto, unfolding(docket_rows::specs::Words::assign_refusal))]
+fn assign_refusal<S: Sight>(
+    rules: &DocketRules,
+    sight: &S,
+    case: u32,
+    judge: u8,
+    referred: Option<u8>,
+    dated: Day,
+) -> Option<Refusal>
+    ensures { result ≡ assign_refusal rules.now (S.parts sight.now) case judge referred dated }
+{
+    if !has_case(sight, case) {
+        return Some(Refusal::NoSuchCase);
+    }
+    if is_closed(sight, case) {
+        return Some(Refusal::CaseIsClosed);
+    }
+    if !are_judges(rules, judge, referred) {
+        return Some(Refusal::NoSuchJudge);
+    }
+    if is_named_twice(judge, referred) {
+        return Some(Refusal::BadPanel);
+    }
+    if !sight.days().covered(dated) {
+        return Some(Refusal::BadDay);
+    }
+    if facts_count(sight, case) >= MOST_FACTS {
+        return Some(Refusal::Full);
+    }
+    None
+}
+
 /// What a fact is answered that isn't refused.
 pub(crate) fn answer_to_fact<S: Sight>(
     rules: &DocketRules,
@@ -218,6 +279,7 @@ pub(crate) fn answer_to_fact<S: Sight>(
         }
         Fact::Closed { .. } => Answer::Closed,
         Fact::Reopened { .. } => Answer::Reopened,
+        Fact::Assigned { .. } => Answer::Assigned,
     }
 }
 

@@ -10,7 +10,7 @@ use Rattle.docket_rows.specs.declared.answer.Answer.{Answer}
 use Rattle.docket_rows.specs.declared.answer.Answer.TheVariants as answer
 use Rattle.docket_rows.specs.declared.command.Command.{Command}
 use Rattle.docket_rows.specs.declared.command.Command.TheVariants.{OpenCase, Start, FileAct, Extend, Motion, Book, MoveHearing, Cancel, Holiday, Inaccessible, Fact}
-use Rattle.docket_rows.specs.declared.fact.Fact.TheVariants.{Ended, Resumed, Closed, Reopened}
+use Rattle.docket_rows.specs.declared.fact.Fact.TheVariants.{Ended, Resumed, Closed, Reopened, Assigned}
 use Rattle.docket_rows.specs.declared.hearing.Setting.{Setting}
 use Rattle.docket_rows.specs.CourtSetup.{CourtSetup}
 use Rattle.docket_rows.specs.Hearings.{hearing_asked}
@@ -75,6 +75,7 @@ answer_if_made setup parts (Fact case (Resumed deadline dated)) =
     answer.Resumed (option_map_or (λ row. shown_now setup parts row) (deadline_in parts case deadline) shown.Beyond)
 answer_if_made setup parts (Fact case (Closed why dated)) = answer.Closed
 answer_if_made setup parts (Fact case (Reopened dated)) = answer.Reopened
+answer_if_made setup parts (Fact case (Assigned judge referred dated)) = answer.Assigned
 
 -- what a command is answered where the parts are these
 unfoldable pub answered : CourtSetup → Parts → Command → Answer

@@ -39,6 +39,8 @@ pub enum Answer {
     Closed,
     /// The case is open again.
     Reopened,
+    /// The case is assigned.
+    Assigned,
     /// The command is refused, and changes nothing.
     Refused(Refusal),
 }

@@ -241,5 +241,6 @@ fn fact_subject(case: u32, fact: Fact) -> Option<Subject>
             number: deadline,
         }),
         Fact::Closed { .. } | Fact::Reopened { .. } => None,
+        Fact::Assigned { .. } => None,
     }
 }

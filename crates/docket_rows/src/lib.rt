@@ -20,7 +20,7 @@ pub use answer::Answer;
 pub use cases::{CaseRecord, SharedCase};
 pub use command::{Command, Counted, HearingOrder, Subject};
 pub use decision::{Decision, Writes};
-pub use fact::{Closing, Closure, Ending, Fact, closing_in, ending_in};
+pub use fact::{Assignment, Closing, Closure, Ending, Fact, assigned_in, closing_in, ending_in};
 pub use hearing::{Hearing, Setting};
 pub use limits::{
     LAST_CASE, MOST_DATES, MOST_DEADLINES, MOST_FACTS, MOST_GRANTS, MOST_MOTIONS, MOST_OUTAGES,

@@ -4,14 +4,14 @@ use Rattle.std.specs.Option.{IsSome}
 use Rattle.std.proofs.lemmas.List.Elements.{All-push}
 use Rattle.docket_rows.specs.declared.command.Command.TheVariants as command
 use Rattle.docket_rows.specs.declared.fact.Fact.{Fact}
-use Rattle.docket_rows.specs.declared.fact.Fact.TheVariants.{Ended, Resumed, Closed, Reopened}
-use Rattle.docket_rows.specs.Words.{CourtSetup, Rows, DocketedFact, AreSound, AreLawful, parts_of, is_case, end_checks, resume_checks, close_checks, reopen_checks, end_refusal, resume_refusal, close_refusal, reopen_refusal, refusal, rows_after}
+use Rattle.docket_rows.specs.declared.fact.Fact.TheVariants.{Ended, Resumed, Closed, Reopened, Assigned}
+use Rattle.docket_rows.specs.Words.{CourtSetup, Rows, DocketedFact, AreSound, AreLawful, parts_of, is_case, end_checks, resume_checks, close_checks, reopen_checks, assign_checks, end_refusal, resume_refusal, close_refusal, reopen_refusal, assign_refusal, refusal, rows_after}
 use Rattle.docket_laws.proofs.MadeLemmas.{none_of, when-not-None}
 use Rattle.docket_laws.proofs.LawfulLemmas.SeenLemmas.{IsOpen, is_open_of}
 
 -- the case of a fact that isn't refused is open
 fact_open : (setup : CourtSetup) (rows : Rows) (case : ℕ) (fact : Fact) → refusal setup (parts_of rows) (command.Fact case fact) ≡ None → IsOpen rows case
-unfolding end_refusal resume_refusal close_refusal reopen_refusal
+unfolding end_refusal resume_refusal close_refusal reopen_refusal assign_refusal
 fact_open setup rows case (Ended deadline why dated) h =
     is_open_of rows case (when-not-None _ _ (none_of (end_checks (parts_of rows) case deadline dated) h).0)
 fact_open setup rows case (Resumed deadline dated) h =
@@ -20,6 +20,8 @@ fact_open setup rows case (Closed why dated) h =
     is_open_of rows case (when-not-None _ _ (none_of (close_checks (parts_of rows) case dated) h).0)
 fact_open setup rows case (Reopened dated) h =
     is_open_of rows case (when-not-None _ _ (none_of (reopen_checks (parts_of rows) case dated) h).0)
+fact_open setup rows case (Assigned judge referred dated) h =
+    is_open_of rows case (when-not-None _ _ (none_of (assign_checks setup (parts_of rows) case judge referred dated) h).0)
 
 pub sound_fact : (setup : CourtSetup) (rows : Rows) (case : ℕ) (fact : Fact) → AreSound setup rows → refusal setup (parts_of rows) (command.Fact case fact) ≡ None → AreSound setup (rows_after rows (command.Fact case fact))
 sound_fact setup rows case fact s h =

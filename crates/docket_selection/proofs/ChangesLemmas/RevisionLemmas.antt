@@ -11,7 +11,7 @@ use Rattle.docket_rows.specs.declared.answer.Answer.TheVariants as answer
 use Rattle.docket_rows.specs.declared.command.Command.{Command}
 use Rattle.docket_rows.specs.declared.command.Command.TheVariants.{OpenCase, Start, FileAct, Extend, Motion, Book, MoveHearing, Cancel, Holiday, Inaccessible, Fact}
 use Rattle.docket_rows.specs.declared.fact.Fact.{Fact as FactOf}
-use Rattle.docket_rows.specs.declared.fact.Fact.TheVariants.{Ended, Resumed, Closed, Reopened}
+use Rattle.docket_rows.specs.declared.fact.Fact.TheVariants.{Ended, Resumed, Closed, Reopened, Assigned}
 use Rattle.docket_rows.specs.declared.refusal.Refusal.{Refusal}
 use Rattle.docket_rows.specs.Words.{AreSound, CourtSetup, DocketedDeadline, Rows, answer_if_made, answered, ended_answer, is_deadline_in, is_fact_in, next_deadline, opening_rows, parts_of, refusal, rows_after, rows_from, started, step, with_deadline}
 use Rattle.rule6.specs.declared.timeliness.Shown.{Shown}
@@ -62,6 +62,7 @@ module _ (Holds : ℕ → Type 0) (row : ℕ) (command : Command) (holds : Holds
   made_at answer.Ended = asked_at (change_asked command)
   made_at answer.Closed = asked_at (change_asked command)
   made_at answer.Reopened = asked_at (change_asked command)
+  made_at answer.Assigned = asked_at (change_asked command)
   made_at (answer.Resumed shown) = asked_at (change_asked command)
   made_at (answer.Refused refusal) = All-nil (λ (c : RowChange). Holds c.row)
 
@@ -166,6 +167,7 @@ made_keeps setup rows case row sound (Fact of (Ended deadline why dated)) free o
 made_keeps setup rows case row sound (Fact of (Resumed deadline dated)) free other = recorded_elsewhere rows case of (Resumed deadline dated) other
 made_keeps setup rows case row sound (Fact of (Closed why dated)) free other = recorded_elsewhere rows case of (Closed why dated) other
 made_keeps setup rows case row sound (Fact of (Reopened dated)) free other = recorded_elsewhere rows case of (Reopened dated) other
+made_keeps setup rows case row sound (Fact of (Assigned judge referred dated)) free other = recorded_elsewhere rows case of (Assigned judge referred dated) other
 
 step_keeps : (setup : CourtSetup) (rows : Rows) (case row : ℕ) → AreSound setup rows → (command : Command) → made_touches case (change_made row command (step setup rows command).1) ≡ false → KeepsEvents case rows (step setup rows command).0
 unfolding step answered
