@@ -26,7 +26,7 @@ type RowTypes = Option<
         Option<Day>,
         Grant,
         Request,
-        (Fact, Ending, Closing),
+        (Fact, Ending, Closing, Option<u8>),
     ),
 >;
 

@@ -160,6 +160,7 @@ came_of answer.OutageEntered = Taken
 came_of answer.Ended = Taken
 came_of answer.Closed = Taken
 came_of answer.Reopened = Taken
+came_of answer.Assigned = Taken
 came_of (answer.Resumed shown) = Taken
 came_of (answer.Refused refusal) = Refused
 

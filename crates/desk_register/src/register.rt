@@ -62,7 +62,7 @@ pub type RowTypes = Option<
         Option<Day>,
         Grant,
         Request,
-        (Fact, Ending, Closing),
+        (Fact, Ending, Closing, Option<u8>),
     ),
 >;
 

@@ -46,6 +46,7 @@ pub fn push_answer(text: &mut String, clock: &Clock, answer: &Answer) -> Result<
         Answer::Ended => text.push_str("ended"),
         Answer::Closed => text.push_str("closed"),
         Answer::Reopened => text.push_str("reopened"),
+        Answer::Assigned => text.push_str("assigned"),
         Answer::Resumed(shown) => {
             text.push_str("resumed ")?;
             push_shown(text, clock, shown)

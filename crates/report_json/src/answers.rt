@@ -127,6 +127,7 @@ fn push_answer(
         Answer::Ended => push_kind(out, "ended"),
         Answer::Closed => push_kind(out, "closed"),
         Answer::Reopened => push_kind(out, "reopened"),
+        Answer::Assigned => push_kind(out, "assigned"),
         Answer::Resumed(shown) => {
             push_kind(out, "resumed")?;
             shown.write_fields(out, court, labels)

@@ -1,10 +1,10 @@
 //! The tables.
 
 ghost use Rattle.std.specs.Prelude.{◌≡◌, ◌++◌, OnOk};
-ghost use Rattle.report_sql.specs.Schema.{answers_table, cases_table, closings_table, endings_table, have_facts, is_fact, tables};
+ghost use Rattle.report_sql.specs.Schema.{answers_table, assignments_table, cases_table, closings_table, endings_table, have_assignments, have_facts, is_assignment, is_fact, tables};
 
 use crate::script::Script;
-use docket_rows::Command;
+use docket_rows::{Command, Fact};
 use report_texts::Labels;
 use row_forms::{NumberedRow, Work};
 use std::alloc::AllocError;
@@ -129,6 +129,15 @@ const CLOSINGS: &str = "CREATE TABLE closings (
 );
 ";
 
+// Who has the cases that are assigned, and to whom they are referred; NULL: to nobody.
+const ASSIGNMENTS: &str = "CREATE TABLE assignments (
+  case_number INTEGER NOT NULL PRIMARY KEY REFERENCES cases (number),
+  dated DATE NOT NULL,
+  judge VARCHAR(32) NOT NULL,
+  referred VARCHAR(32)
+);
+";
+
 // The deadlines that are due no more, and why.
 const ENDINGS: &str = "CREATE TABLE endings (
   case_number INTEGER NOT NULL,
@@ -174,14 +183,38 @@ pub(crate) fn have_facts(rows: &[NumberedRow]) -> bool
     rows.iter().any(|row| is_fact(&row.row.work))
 }
 
-/// Adds the statements that make the tables: `facts` says whether rows record facts of cases. `Err` says that memory ran out.
+// Whether a row assigns a case.
+fn is_assignment(work: &Work) -> bool
+    ensures { result ≡ is_assignment work.now }
+{
+    match work {
+        Work::Command(
+            Command::Fact {
+                fact: Fact::Assigned { .. },
+                ..
+            },
+        ) => true,
+        _ => false,
+    }
+}
+
+// Whether some of these rows do.
+pub(crate) fn have_assignments(rows: &[NumberedRow]) -> bool
+    ensures { result ≡ have_assignments rows.now }
+{
+    rows.iter().any(|row| is_assignment(&row.row.work))
+}
+
+/// Adds the statements that make the tables: `facts` says whether rows record facts of cases, and `assignments` whether some of them
+/// assign cases. `Err` says that memory ran out.
 #[tactic(auto, unfolding(crate::specs::Schema::tables))]
 pub(crate) fn push_tables(
     out: &mut Script,
     labels: &Labels<'_>,
     facts: bool,
+    assignments: bool,
 ) -> Result<(), AllocError>
-    ensures { OnOk result (out.new ≡ out.old ++ tables labels.now.cases facts) }
+    ensures { OnOk result (out.new ≡ out.old ++ tables labels.now.cases facts assignments) }
 {
     push_cases(out, labels)?;
     out.statement(DEADLINES)?;
@@ -192,6 +225,7 @@ pub(crate) fn push_tables(
     out.statement(PANELS)?;
     out.statement(OUTAGES)?;
     push_closings(out, facts)?;
+    push_assignments(out, assignments)?;
     push_endings(out, facts)?;
     push_answers(out, facts)
 }
@@ -202,6 +236,17 @@ fn push_closings(out: &mut Script, facts: bool) -> Result<(), AllocError>
 {
     if facts {
         out.statement(CLOSINGS)
+    } else {
+        Ok(())
+    }
+}
+
+// Adds the table of who has cases, where rows assign some.
+fn push_assignments(out: &mut Script, assignments: bool) -> Result<(), AllocError>
+    ensures { OnOk result (out.new ≡ out.old ++ assignments_table assignments) }
+{
+    if assignments {
+        out.statement(ASSIGNMENTS)
     } else {
         Ok(())
     }

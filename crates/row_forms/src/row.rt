@@ -32,6 +32,6 @@ pub(crate) type RowTypes = Option<
         Option<Day>,
         Grant,
         Request,
-        (Fact, Ending, Closing),
+        (Fact, Ending, Closing, Option<u8>),
     ),
 >;
