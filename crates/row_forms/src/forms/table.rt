@@ -6,8 +6,8 @@ ghost use Rattle.row_forms.specs.Forms.Table.{columns_of, columns_of_form, comma
 
 use crate::headings::Column::{
     self, Act, ByMotion, Case, Cause, Clerk, Closing, Command, Date, Dated, Deadline, From, Grant,
-    Holidays, Judge, Judges, Means, Motion, Need, Neglect, Notice, Period, ResumeDay, Room,
-    SecondOrNone, ServiceOrNone, Slots, Start, Time, TimeOrNone, To, Why,
+    Holidays, Judge, JudgeOrNone, Judges, Means, Motion, Need, Neglect, Notice, Period, ResumeDay,
+    Room, SecondOrNone, ServiceOrNone, Slots, Start, Time, TimeOrNone, To, Why,
 };
 
 /// The form of a row: which command or query it asks for.
@@ -51,6 +51,8 @@ pub enum Form {
     Close,
     /// Reopens a case that was closed. It is of the desk alone.
     Reopen,
+    /// Assigns a case to a judge. It is of the desk alone.
+    Assign,
 }
 
 /// The forms of the rows of clerk_office.
@@ -71,7 +73,7 @@ pub const OFFICE_FORMS: [Form; 13] = [
 ];
 
 /// The forms of the rows of the desk.
-pub const FORMS: [Form; 19] = [
+pub const FORMS: [Form; 20] = [
     Form::Open,
     Form::Start,
     Form::File,
@@ -91,10 +93,11 @@ pub const FORMS: [Form; 19] = [
     Form::Resume,
     Form::Close,
     Form::Reopen,
+    Form::Assign,
 ];
 
 /// The command words, in the order of the forms.
-pub const COMMANDS: [&str; 19] = [
+pub const COMMANDS: [&str; 20] = [
     "open",
     "start",
     "file",
@@ -114,6 +117,7 @@ pub const COMMANDS: [&str; 19] = [
     "resume",
     "close",
     "reopen",
+    "assign",
 ];
 
 /// The columns of a form's rows, from the first on.
@@ -160,6 +164,7 @@ pub fn columns_of_form(form: Form) -> &'static [Column]
         Form::Resume => &[Clerk, Command, Case, Deadline, ResumeDay, Dated],
         Form::Close => &[Clerk, Command, Case, Closing, Dated],
         Form::Reopen => &[Clerk, Command, Case, Dated],
+        Form::Assign => &[Clerk, Command, Case, Judge, JudgeOrNone, Dated],
     }
 }
 
@@ -182,7 +187,7 @@ pub fn commands() -> &'static [&'static str]
 pub fn commands_listed() -> &'static str
     ensures { result.now ≡ commands_listed }
 {
-    "open, start, file, extend, motion, book, move, cancel, holiday, inaccessible, compute, sheet, calendar, set, reset, end, resume, close or reopen"
+    "open, start, file, extend, motion, book, move, cancel, holiday, inaccessible, compute, sheet, calendar, set, reset, end, resume, close, reopen or assign"
 }
 
 // Whether the word is this form's.

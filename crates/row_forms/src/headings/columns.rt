@@ -68,6 +68,8 @@ pub enum Column {
     Closing,
     /// The day on which a deadline that is resumed begins anew, which is empty.
     ResumeDay,
+    /// A judge to whom a case is referred, or nothing.
+    JudgeOrNone,
 }
 
 /// The column of that number, counted from 0.
@@ -107,6 +109,7 @@ pub fn name_of(column: Column) -> &'static str
         Column::Act => "act",
         Column::Dated => "dated",
         Column::Why | Column::Closing => "why",
+        Column::JudgeOrNone => "referred",
     }
 }
 
@@ -145,6 +148,7 @@ pub fn mark_of(word: &str, column: Column) -> &str
         Column::Dated => "DATED",
         Column::Why | Column::Closing => "WHY",
         Column::ResumeDay => "[DAY]",
+        Column::JudgeOrNone => "[JUDGE2]",
     }
 }
 
@@ -154,6 +158,10 @@ pub fn may_be_empty(column: Column) -> bool
 {
     matches!(
         column,
-        Column::TimeOrNone | Column::SecondOrNone | Column::ServiceOrNone | Column::ResumeDay
+        Column::TimeOrNone
+            | Column::SecondOrNone
+            | Column::ServiceOrNone
+            | Column::ResumeDay
+            | Column::JudgeOrNone
     )
 }
