@@ -36,6 +36,7 @@ fn held(column: Column) -> &'static str {
         Column::Why => "moot, vacated, stayed, suspended or withdrawn",
         Column::Closing => "dismissed, judgment, settled, transferred, remanded or otherwise",
         Column::ResumeDay => "nothing, since the deadline has its days as before",
+        Column::JudgeOrNone => "a judge of the court's file, or nothing",
     }
 }
 
@@ -47,7 +48,7 @@ pub(crate) fn expected(flaw: Flaw) -> &'static str {
         Flaw::Excess => "nothing, since the row has no column for it",
         Flaw::NoCommand => commands_listed(),
         Flaw::NoHeading => {
-            "a heading: clerk, command, case, deadline, motion, period, date, time, second, kind, means, grant, cause, neglect, need, list, from, to, judge, room, slots, notice, act, why, dated or note"
+            "a heading: clerk, command, case, deadline, motion, period, date, time, second, kind, means, grant, cause, neglect, need, list, from, to, judge, referred, room, slots, notice, act, why, dated or note"
         }
         Flaw::TwiceNamed => "another heading, since a column before it has this one",
     }
