@@ -54,6 +54,7 @@ TABLES = {
                  " affidavits_day", "case_number, motion_number"),
     "outages": ("number, outage_day, begins, ends", "number"),
     "closings": ("case_number, closed, how", "case_number"),
+    "assignments": ("case_number, dated, judge, referred", "case_number"),
     "endings": ("case_number, deadline_number, why", "case_number, deadline_number"),
     "answers": ("number, clerk, refusal, answer", "number"),
 }
@@ -61,6 +62,8 @@ TABLES = {
 PROMPT = "    sqlite> "
 # A row is written with these between its values and after it.
 BETWEEN, AFTER = "\x1f", "\x1e"
+# How many values of a row are its key, in tables where it isn't three.
+KEYS = {"cases": 1, "closings": 1, "assignments": 1, "outages": 1, "answers": 1, "deadlines": 2, "motions": 2, "hearings": 2, "endings": 2}
 # Names that no court's file may have.
 HOSTILE = ["O'Brien", "'); DROP TABLE cases; --", "\\\\'"]
 EPOCH = datetime.datetime(1970, 1, 1, tzinfo=datetime.timezone.utc)
@@ -169,8 +172,14 @@ def clock(minute):
 
 
 def has_endings(rows):
-    """Whether some of these rows end a deadline or close a case, or take that back: then there are tables of what is ended and closed."""
-    return any(row.split(",")[1] in ("end", "resume", "close", "reopen") for row in rows)
+    """Whether some of these rows end a deadline, close or assign a case, or take an end back: then there are tables of what is ended and
+    closed."""
+    return any(row.split(",")[1] in ("end", "resume", "close", "reopen", "assign") for row in rows)
+
+
+def has_assignments(rows):
+    """Whether some of these rows assign a case: then there is a table of who has which."""
+    return any(row.split(",")[1] == "assign" for row in rows)
 
 
 def due_text(database, names, closes, first, last, endings):
@@ -237,6 +246,7 @@ def wanted_rows(whole, rows, answers, given):
         case = str(sheet["case"])
         found["cases"].append((case, sheet["filed"]))
         found["closings"] += [(case, sheet["closed"], sheet["closing"])] if "closed" in sheet else []
+        found["assignments"] += [(case, sheet["assigned"], sheet["judge"], or_empty(sheet["referred"]))] if "assigned" in sheet else []
         for d in sheet["deadlines"]:
             number, filed = str(d["number"]), d["filed"]
             act = ("", "", "") if filed is None else (filed["day"], time_of(filed["time"]), str(int(filed["means"] == "paper")))
@@ -294,9 +304,10 @@ def names_fault(database, names, whole):
     return None if found == wanted else "names of cases: found {}, wanted {}".format(found, wanted)
 
 
-def table_fault(database, wanted, endings):
+def table_fault(database, wanted, rows):
+    there = {"closings": has_endings(rows), "endings": has_endings(rows), "assignments": has_assignments(rows)}
     for table, (columns, order) in TABLES.items():
-        if table in ("closings", "endings") and not endings:
+        if not there.get(table, True):
             continue
         columns = columns.format(starts_at=database.seconds("starts_at"), ends_at=database.seconds("ends_at"))
         found = rows_of(database, "SELECT {} FROM {} ORDER BY {}".format(columns, table, order))
@@ -324,7 +335,7 @@ def is_in_order(script):
     last = {}
     for table, first, rest in re.findall(r"^INSERT INTO (\w+) VALUES \((\d+)((?:, \d+)*)", script, re.MULTILINE):
         key = (int(first), *[int(part) for part in rest.split(", ")[1:]][:2])
-        key = key[:{"cases": 1, "closings": 1, "outages": 1, "answers": 1, "deadlines": 2, "motions": 2, "hearings": 2, "endings": 2}.get(table, 3)]
+        key = key[:KEYS.get(table, 3)]
         if last.get(table, ()) >= key:
             return False
         last[table] = key
@@ -355,7 +366,7 @@ def differs(chance, given, databases):
     of = chance.choice([b["day"] for c in whole["calendars"] for b in c["bookings"]] or [first])
     due = due_alone(given.report(["due", "--from", first, "--to", last]).output.decode(), first, last)
     for database in databases:
-        fault = database.load(found.output) or table_fault(database, wanted, endings) or zone_fault(database, given.plain) or \
+        fault = database.load(found.output) or table_fault(database, wanted, rows) or zone_fault(database, given.plain) or \
             names_fault(database, given.names, whole)
         if fault:
             return "{}: {}".format(database.name, fault)

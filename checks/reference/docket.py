@@ -18,6 +18,8 @@ Hearing = namedtuple("Hearing", "case motion judges room day first count notice"
 # That a deadline of a case was ended, and why, or that it was resumed: then `why` is None. Where `deadline` is None it is the case
 # that was closed, and how, or reopened. `dated` is the day of the order or the paper
 Fact = namedtuple("Fact", "case deadline why dated")
+# That a judge has a case, by number, and to which other judge it is referred: None where it is to none. It is one of the facts too
+Assignment = namedtuple("Assignment", "case judge referred dated")
 
 CASES = 4096
 DEADLINES = MOTIONS = 64
@@ -87,13 +89,20 @@ def hearing_of(rows, case, motion):
 
 def last_fact(rows, case, number):
     """The last fact of a deadline, or of the case itself where the number is None, unless it resumed or reopened it."""
-    found = next((fact for fact in reversed(rows.facts) if (fact.case, fact.deadline) == (case, number)), None)
+    facts = [fact for fact in rows.facts if isinstance(fact, Fact)]
+    found = next((fact for fact in reversed(facts) if (fact.case, fact.deadline) == (case, number)), None)
     return found if found is not None and found.why is not None else None
 
 
 def closing_of(rows, case):
     """The fact by which a case is closed. None where it isn't."""
     return last_fact(rows, case, None)
+
+
+def assignment_of(rows, case):
+    """The assignment of a case that counts: that of the latest day, and of one day that of the last row. None where it has none."""
+    facts = [fact for fact in rows.facts if isinstance(fact, Assignment) and fact.case == case]
+    return max(reversed(facts), key=lambda fact: fact.dated, default=None)
 
 
 def ending_of(rows, case, number):
@@ -207,6 +216,14 @@ def reopen(court, rows, case, dated):
     refuse(closing_of(rows, case) is None, 31)
     refuse(not covered(rows.days, dated), 5)
     return with_fact(rows, Fact(case, None, None, dated)), ("reopened",)
+
+
+def assign(court, rows, case, judge, referred, dated):
+    refuse_shut(rows, case)
+    refuse(any(number is not None and number >= len(court.judges) for number in (judge, referred)), 26)
+    refuse(judge == referred, 29)
+    refuse(not covered(rows.days, dated), 5)
+    return with_fact(rows, Assignment(case, judge, referred, dated)), ("assigned",)
 
 
 def with_fact(rows, fact):
@@ -338,6 +355,6 @@ def calendar_of(rows, judge):
 
 
 STEPS = {"open": open_case, "start": start, "file": file_act, "extend": extend, "end": end, "resume": resume, "close": close,
-         "reopen": reopen, "motion": motion, "book": book, "move": move, "cancel": cancel, "holiday": holiday,
+         "reopen": reopen, "assign": assign, "motion": motion, "book": book, "move": move, "cancel": cancel, "holiday": holiday,
          "inaccessible": inaccessible}
 VIEWS = {"sheet": sheet, "calendar": calendar, "compute": compute}

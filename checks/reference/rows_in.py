@@ -181,6 +181,10 @@ def judge(text, court):
     return place(court.judges, text)
 
 
+def judge_or_none(text, court):
+    return [] if text == "" else [place(court.judges, text)]
+
+
 def room(text, court):
     return place(court.rooms, text)
 
@@ -222,6 +226,7 @@ DESK_COLUMNS = {
     "resume": [number, number, no_day, date],
     "close": [number, one_of("dismissed", "judgment", "settled", "transferred", "remanded", "otherwise"), date],
     "reopen": [number, date],
+    "assign": [number, judge, judge_or_none, date],
 }
 WORKS = {
     "open": lambda case, filed: ("open", case, filed),
@@ -243,6 +248,7 @@ WORKS = {
     "resume": lambda case, deadline, day, dated: ("resume", case, deadline, dated),
     "close": lambda case, why, dated: ("close", case, why, dated),
     "reopen": lambda case, dated: ("reopen", case, dated),
+    "assign": lambda case, to_judge, referred, dated: ("assign", case, to_judge, only(referred), dated),
 }
 
 
