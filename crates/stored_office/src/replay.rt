@@ -15,7 +15,16 @@ use std::alloc::{AllocError, Global};
 use versioned_steps::Entry;
 
 // The checker finds these types only where they have names, so a function that gives a docket commands names them.
-type AnswerTypes = Option<(Option<Day>, Grant, Request, Shown, Fact, (Ending, Closing, Option<u8>))>;
+type AnswerTypes = Option<
+    (
+        Option<Day>,
+        Grant,
+        Request,
+        Shown,
+        Fact,
+        (Ending, Closing, Option<u8>),
+    ),
+>;
 
 /// An entry of a journal.
 type Filed = Entry<Command, Answer>;
