@@ -6,7 +6,6 @@ ghost use Rattle.docket_rows.specs.Words.{Rows, setup_of};
 ghost use Rattle.docket_core.specs.Words.{StandsFor};
 ghost use Rattle.docket_selection.specs.Words.{open_sheets};
 ghost use Rattle.desk_numbers.specs.Words.{numbered_sheet};
-ghost use Rattle.report_sql.specs.Assignments.{assignment_row_if_any};
 ghost use Rattle.report_sql.specs.Deadlines.{deadline_rows};
 ghost use Rattle.report_sql.specs.Hearings.{motion_rows};
 ghost use Rattle.report_sql.specs.Rows.{AddsValues, numbered};
