@@ -63,11 +63,16 @@ def reference_text(run, programs):
     reasons = reasons_of(closing_of(given.memo(LAST_ROW).output.decode()))
     court = dict(re.findall(r'^(opens|closes|from|to) = "([^"]*)"', given.plain.decode(), re.MULTILINE))
     docket = docket_of({}, closing_of(given.office(LAST_ROW).output.decode()), reasons)
-    judge, case = option(run.words, "--judge"), option(run.words, "--case")
-    first, last, day = (datetime.date.fromisoformat(option(run.words, name) or court[key])
-                        for name, key in (("--from", "from"), ("--to", "to"), ("--of", "from")))
+    judge, case, count = (option(run.words, name) for name in ("--judge", "--case", "--days"))
+    first, last, day, today = (datetime.date.fromisoformat(option(run.words, name) or court[key])
+                               for name, key in (("--from", "from"), ("--to", "to"), ("--of", "from"), ("--today", "from")))
+    overdue = "--overdue" in run.words
+    if count is not None:
+        first, last = today, today + datetime.timedelta(int(count) - 1)
+    if overdue:
+        last = min(last, today - datetime.timedelta(1))
     lines = week_text({}, court, docket, judge, day) if run.words[0] == "week" else \
-        due_text({}, court, docket, first, last, judge, None if case is None else int(case))
+        due_text({}, court, docket, first, last, judge, None if case is None else int(case), overdue)
     return "".join(line + "\n" for line in lines).encode()
 
 

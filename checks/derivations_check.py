@@ -28,7 +28,7 @@ from lib.programs import TOP, programs_of, seed_and_count
 from reference import periods
 from reference.civil import day_of_text, day_text, minute_of_text, minute_text, weekday
 from reference.court_file import court_of, split, table_of
-from reference.docket import STEPS, case_of, deadlines_of, ending_of, hearing_of, motions_of, opening, step, view
+from reference.docket import STEPS, assignment_of, case_of, deadlines_of, ending_of, hearing_of, motions_of, opening, step, view
 from reference.rows_in import grant as grant_of, reset_to, rows_of
 from reference.text_out import sheet_lines, shown_text
 
@@ -200,7 +200,8 @@ def whole_case(ended, output, case, today):
             blocks[-1].append(line)
     expect(blocks[0] == [] and [block[0] for block in blocks[1:]] == sheet_lines(court, docket, case),
            "the sheet has other lines")
-    blocks = iter(blocks[2:])
+    # the line of who has the case comes after that of the case
+    blocks = iter(blocks[2 if assignment_of(docket, case) is None else 3:])
     for deadline in deadlines_of(docket, case):
         row, block = deadline.row, next(blocks)
         first = sources[case, deadline.number]

@@ -173,7 +173,7 @@ def says(event):
 
 def made_words(chance, names, court, docket):
     days = [item.day for item in docket.items] or [day_of(court["from"])]
-    judges = sorted({judge for panels in docket.before.values() for judge in panels})
+    judges = sorted({judge for panel in [*docket.before.values(), *[item.panel or () for item in docket.items]] for judge in panel})
     words, judge, case, stamp = ["ics"], None, None, None
     first, last, asked_for = asked_days(chance, days, day_of(court["from"]), day_of(court["to"]), 0.3)
     words += asked_for

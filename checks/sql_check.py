@@ -54,6 +54,7 @@ TABLES = {
                  " affidavits_day", "case_number, motion_number"),
     "outages": ("number, outage_day, begins, ends", "number"),
     "closings": ("case_number, closed, how", "case_number"),
+    "assignments": ("case_number, dated, judge, referred", "case_number"),
     "endings": ("case_number, deadline_number, why", "case_number, deadline_number"),
     "rulings": ("case_number, motion_number, ruled, how", "case_number, motion_number"),
     "answers": ("number, clerk, refusal, answer", "number"),
@@ -62,6 +63,9 @@ TABLES = {
 PROMPT = "    sqlite> "
 # A row is written with these between its values and after it.
 BETWEEN, AFTER = "\x1f", "\x1e"
+# How many values of a row are its key, in tables where it isn't three.
+KEYS = {"cases": 1, "closings": 1, "assignments": 1, "outages": 1, "answers": 1, "deadlines": 2, "motions": 2, "hearings": 2, "endings": 2,
+        "rulings": 2}
 # Names that no court's file may have.
 HOSTILE = ["O'Brien", "'); DROP TABLE cases; --", "\\\\'"]
 EPOCH = datetime.datetime(1970, 1, 1, tzinfo=datetime.timezone.utc)
@@ -170,16 +174,17 @@ def clock(minute):
 
 
 def has_endings(rows):
-    """Whether some of these rows end a deadline or close a case, take that back, or rule on a motion: then there are tables of what is
-    ended and closed."""
-    return any(row.split(",")[1] in ("end", "resume", "close", "reopen", "rule") for row in rows)
+    """Whether some of these rows end a deadline, close or assign a case, take an end back, or rule on a motion: then there are tables of
+    what is ended and closed."""
+    return any(row.split(",")[1] in ("end", "resume", "close", "reopen", "rule", "assign") for row in rows)
 
 
 def tables_of(rows):
-    """The tables that there are where these are the rows."""
-    ruled = any(row.split(",")[1] == "rule" for row in rows)
-    without = set() if has_endings(rows) else {"closings", "endings"}
-    return [table for table in TABLES if table not in without and (ruled or table != "rulings")]
+    """The tables that there are where these are the rows: one of rulings where some rule on a motion, and one of assignments where some
+    assign a case."""
+    words = {row.split(",")[1] for row in rows}
+    there = {"closings": has_endings(rows), "endings": has_endings(rows), "rulings": "rule" in words, "assignments": "assign" in words}
+    return [table for table in TABLES if there.get(table, True)]
 
 
 def due_text(database, names, closes, first, last, endings):
@@ -246,6 +251,7 @@ def wanted_rows(whole, rows, answers, given):
         case = str(sheet["case"])
         found["cases"].append((case, sheet["filed"]))
         found["closings"] += [(case, sheet["closed"], sheet["closing"])] if "closed" in sheet else []
+        found["assignments"] += [(case, sheet["assigned"], sheet["judge"], or_empty(sheet["referred"]))] if "assigned" in sheet else []
         for d in sheet["deadlines"]:
             number, filed = str(d["number"]), d["filed"]
             act = ("", "", "") if filed is None else (filed["day"], time_of(filed["time"]), str(int(filed["means"] == "paper")))
@@ -333,7 +339,7 @@ def is_in_order(script):
     last = {}
     for table, first, rest in re.findall(r"^INSERT INTO (\w+) VALUES \((\d+)((?:, \d+)*)", script, re.MULTILINE):
         key = (int(first), *[int(part) for part in rest.split(", ")[1:]][:2])
-        key = key[:{"cases": 1, "closings": 1, "outages": 1, "answers": 1, "deadlines": 2, "motions": 2, "hearings": 2, "endings": 2, "rulings": 2}.get(table, 3)]
+        key = key[:KEYS.get(table, 3)]
         if last.get(table, ()) >= key:
             return False
         last[table] = key

@@ -8,8 +8,8 @@ entered in between, and sometimes with another court's file. In the replay the n
 row that gave it: the row gives the same whenever it is decided again, also after it was restored, and a row that gives one for
 the first time gives the next after all that were ever given in its case. After each strike and each restore these are compared
 with it: the row that the desk shows, the answers that it lists as changed, each deadline, hearing and ruling that it lists as another
-than before, the sheets of all cases and the calendars of all judges, the answers to
-later rows, what clerk_office makes of the rows that the desk writes, which counts deadlines and motions by their places (or the
+than before, and each case that it lists as closed or assigned otherwise, the sheets of all cases and the calendars of all judges, the
+answers to later rows, what clerk_office makes of the rows that the desk writes, which counts deadlines and motions by their places (or the
 second program, where it doesn't take them all), and
 the reports of the folder, which show the numbers of rows, deadlines and motions that `enter` answered. Without --accept a
 strike or a restore that changes an answer changes nothing; a row that is struck isn't struck again, and only such a row is
@@ -32,14 +32,16 @@ from lib.programs import Ended, programs_of, seed_and_count
 from office_reference import ended as ended_by_reference
 from reference.civil import day_text
 from reference.court_file import court_of
-from reference.docket import STEPS, Ruling, closing_of, deadlines_of, ending_of, hearing_of, motions_of, opening, ruling_of, step, view
+from reference.docket import (STEPS, Fact, Ruling, assignment_of, closing_of, deadlines_of, ending_of, hearing_of, motions_of, opening,
+                              ruling_of, step, view)
 from reference.periods import shown
 from reference.rows_in import rows_of
-from reference.text_out import answer_lines, closing_lines, hearing_line, shown_text
+from reference.text_out import answer_lines, assigned_text, closing_lines, hearing_line, shown_text
 
 DIFFERS, FAULT = 7, 3
 WHY = ["--reason", "entered twice"]
 CASES = (1, 2, 3)
+JUDGES = ["Ames", "Brandt"]
 # What a row names by its number.
 NAMED = {"file": "deadline", "extend": "deadline", "reset": "deadline", "end": "deadline", "resume": "deadline", "book": "motion",
          "move": "motion", "cancel": "motion", "rule": "motion"}
@@ -64,6 +66,7 @@ def drawn_row(draw):
         "1,end,{},{},{},{}".format(case, number, draw.choice(["moot", "vacated", "stayed", "suspended", "withdrawn"]), day),
         "1,resume,{},{},,{}".format(case, number, day),
         draw.choice(["1,close,{},settled,{}", "1,reopen,{},{}", "1,reopen,{},{}"]).format(case, day),
+        "1,assign,{},{},{},{}".format(case, draw.choice(JUDGES), draw.choice(["", "", *JUDGES]), day),
         "1,motion,{},{},{}".format(case, day, draw.choice(["14", "7", "exparte"])),
         "1,motion,{},{},{}".format(case, day, draw.choice(["14", "7", "exparte"])),
         "1,{},{},{},Ames,R1,{},{:02}:00,1,{}".format(draw.choice(["book", "move"]), case, number, day, draw.randint(8, 16), "2025-03-03"),
@@ -147,7 +150,9 @@ class Replay:
         def fact(item):
             if isinstance(item, Ruling):
                 return item._replace(motion=motion(item, item.motion))
-            return item._replace(deadline=item.deadline and places["deadline"][item.case, item.deadline])
+            if isinstance(item, Fact) and item.deadline is not None:
+                return item._replace(deadline=places["deadline"][item.case, item.deadline])
+            return item
         return self.docket._replace(
             deadlines=[item._replace(number=places["deadline"][item.case, item.number]) for item in self.docket.deadlines],
             motions=[item._replace(number=motion(item, item.number)) for item in self.docket.motions],
@@ -284,9 +289,17 @@ def closing_in(replay, case):
     return "not closed" if closed is None else "closed {} {}".format(day_text(closed.dated), closed.why)
 
 
-def closing_line(case, now, after):
-    """What the desk has to list of a case that is open before and after and is closed otherwise."""
-    was, then = closing_in(now, case), closing_in(after, case)
+def assigned_in(replay, case):
+    """Who has a case, and since which day, as a shift of it has it."""
+    assignment = assignment_of(replay.docket, case)
+    if assignment is None:
+        return "not assigned"
+    return assigned_text(replay.court, replay.docket, case).replace("assigned ", "assigned {} to ".format(day_text(assignment.dated)), 1)
+
+
+def told_line(told_in, case, now, after):
+    """What the desk has to list of a case that is open before and after, of which that is told otherwise."""
+    was, then = told_in(now, case), told_in(after, case)
     is_open = filed_in(now, case) and filed_in(after, case)
     return "  case {}: {}, now {}\n".format(case, was, then) if is_open and was != then else ""
 
@@ -295,7 +308,8 @@ def shifts(now, after):
     """What the desk has to list of cases, deadlines and motions: those that are shown otherwise after a correction than now."""
     text = ""
     for case in CASES:
-        text += filed_line(case, filed_in(now, case), filed_in(after, case)) + closing_line(case, now, after)
+        text += filed_line(case, filed_in(now, case), filed_in(after, case))
+        text += told_line(closing_in, case, now, after) + told_line(assigned_in, case, now, after)
         for word, shown_in in (("deadline", ends_of), ("motion", hearings_in)):
             was, then = shown_in(now, case), shown_in(after, case)
             for number in [*was, *(number for number in then if number not in was)]:
@@ -451,8 +465,10 @@ def compare(desk, replay, what):
 
 
 def other_court(draw):
-    """The court's file with another holiday: deadlines move by it, and hearings may be refused."""
-    return SHORT_COURT.replace(b'"2025-07-04"', b'"2025-07-04", "2025-%02d-%02d"' % (draw.randint(3, 9), draw.randint(1, 28)))
+    """The court's file with another holiday, and perhaps with one judge less: deadlines move by the holiday, and hearings and assignments
+    may be refused."""
+    court = SHORT_COURT.replace(b'"2025-07-04"', b'"2025-07-04", "2025-%02d-%02d"' % (draw.randint(3, 9), draw.randint(1, 28)))
+    return court.replace(b'"Ames", "Brandt"', draw.choice([b'"Ames", "Brandt"', b'"Ames"', b'"Brandt", "Ames"']))
 
 
 def drawn_correction(draw, lines, struck):

@@ -73,6 +73,7 @@ FORMS = {
     "close": "clerk command case why. dated",
     "reopen": "clerk command case dated",
     "rule": "clerk command case motion ruling dated",
+    "assign": "clerk command case judge. referred? dated",
 }
 NAMES = sorted({column.strip("?!.") for form in FORMS.values() for column in form.split()})
 
@@ -108,7 +109,7 @@ def drawn(draw, column, clear):
         "grant": lambda: draw.choice(["+14d", "+24h", a_date(draw, clear)]), "motion!": lambda: draw.choice(["yes", "no"]),
         "cause!": lambda: draw.choice(["yes", "no"]), "neglect!": lambda: draw.choice(["yes", "no"]),
         "need": lambda: draw.choice(["14", "7", "exparte"]), "judge": lambda: "+".join(draw.sample(JUDGES, draw.randint(1, 3))),
-        "judge.": lambda: draw.choice(JUDGES), "room": lambda: draw.choice(ROOMS), "slots": lambda: draw.choice(["2", "3q", "1"]),
+        "judge.": lambda: draw.choice(JUDGES), "referred?": lambda: draw.choice(JUDGES), "room": lambda: draw.choice(ROOMS), "slots": lambda: draw.choice(["2", "3q", "1"]),
         "list": lambda: draw.choice(["federal", "state"]), "act": lambda: draw.choice(["filing", "service"]),
         "date!": lambda: "",
         "why": lambda: draw.choice(["moot", "vacated", "stayed", "suspended", "withdrawn"]),
@@ -168,7 +169,7 @@ def loosened(draw, style, column, text):
         return draw.choice(spelled_section(draw.choice(NAMED[text])))
     if column == "kind?":
         return draw.choice(KINDS[text] + [text, text.lower()])
-    if column in ("judge", "judge."):
+    if column in ("judge", "judge.", "referred?"):
         return draw.choice([str, str.upper, str.lower])(text).replace("+", draw.choice(["+", " + "])).replace("J.", draw.choice(["J.", "J. "]))
     if column in ("room", "command", "motion"):
         return draw.choice([str, str.upper, str.lower])(text)

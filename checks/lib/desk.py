@@ -16,7 +16,9 @@ TOGETHER, KEEP_REFUSED, FAULTS = "--all-or-nothing", "--keep-refused", 3
 # that has a fault.
 FAULTY, FAULT_LINE = 8, re.compile(rb"\d+ (?:\d+|-) fault ")
 # A row that the desk takes, and clerk_office doesn't.
-ROW_OF_DESK = re.compile(rb'(?m)^"?[0-9]+"?,"?(?:set|reset|end|resume|close|reopen|rule)"?,')
+ROW_OF_DESK = re.compile(rb'(?m)^"?[0-9]+"?,"?(?:set|reset|end|resume|close|reopen|rule|assign)"?,')
+# The judges of a row that sets a hearing.
+PANEL = re.compile(rb"(?m)^[0-9]+,(?:book|move),[^,\r\n]*,[^,\r\n]*,([^,\r\n]+),")
 # What a session says first of each that was cut off before it.
 CUT_OFF = re.compile(rb"docket: a session of [^\n]* was cut off; the last row that is kept is row (\d+): see 'docket log [^\n]* --row \1'\n")
 # A court's file that is short, so that a journal's bytes are mostly those of its rows.
@@ -190,6 +192,21 @@ def fact_rows(draw, rows, cases, faulty=True):
     return rows
 
 
+def assign_rows(draw, rows, cases, faulty=True):
+    """The rows with a few put among them that assign a case to a judge of a hearing in them, and may refer it to another, where they
+    have hearings. A few name a judge whom no court has. Some have a fault, unless none is to have one."""
+    text = b"".join(rows)
+    days = re.findall(rb"\d{4}-\d\d-\d\d", text)
+    judges = sorted({name for panel in PANEL.findall(text) for name in panel.split(b"+")})
+    rows = list(rows)
+    for _ in range(draw.choice([0, 1, 2, 4]) if judges else 0):
+        named = judges + [b"Nobody"] * (draw.random() < 0.2)
+        to, referred, dated = draw.choice(named), draw.choice(named + [b""] * len(named)), draw.choice(days + [b"9/2/25"] * faulty)
+        row = b"1,assign,%d,%s,%s,%s\n" % (draw.choice(cases), to, referred, dated)
+        rows.insert(draw.randint(min(len(rows), 4), len(rows)), row)
+    return rows
+
+
 def desk_rows(draw, rows, cases, faulty=True):
     """The rows with some among them that the desk alone takes."""
-    return fact_rows(draw, set_rows(draw, rows, cases, faulty), cases, faulty)
+    return assign_rows(draw, fact_rows(draw, set_rows(draw, rows, cases, faulty), cases, faulty), cases, faulty)

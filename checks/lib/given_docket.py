@@ -1,9 +1,10 @@
 """A docket of which a check asks reports: an input of clerk_office, or a folder into which its rows were entered.
 
 In the folder some cases are opened by a number of the court, as 1:25-cv-01234, and rows are given to several clerks; in some,
-orders set deadlines, or other ends for them, deadlines are ended and resumed, motions are ruled on, and cases closed, by rows that the
-desk alone takes. What the reports say of it is compared with what clerk_office says of the same rows, all of clerk 1 and with cases by
-their numbers, which is the check's to translate; where it doesn't take all rows, the second program in Python speaks in its place.
+orders set deadlines, or other ends for them, deadlines are ended and resumed, motions are ruled on, and cases assigned and closed, by
+rows that the desk alone takes. What the reports say of it is compared with what clerk_office says of the same rows, all of clerk 1 and
+with cases by their numbers, which is the check's to translate; where it doesn't take all rows, the second program in Python speaks in
+its place.
 """
 import re
 from typing import NamedTuple
@@ -17,7 +18,7 @@ from office_reference import ended as ended_by_reference
 
 # A row at the end that is answered by one line: what follows it are the sheets and the calendars.
 LAST_ROW = b"1,compute,59e,2025-08-04,,,\n"
-OF_CASE = re.compile(rb"^(\d+,(?:open|start|file|extend|motion|book|move|cancel|sheet|set|reset|end|resume|close|reopen|rule),)(\d+)(?=,|\r?\n)")
+OF_CASE = re.compile(rb"^(\d+,(?:open|start|file|extend|motion|book|move|cancel|sheet|set|reset|end|resume|close|reopen|rule|assign),)(\d+)(?=,|\r?\n)")
 CLERK = re.compile(rb'(?m)^"?([0-9]+)"?,')
 
 

@@ -43,6 +43,8 @@ def state(d, done):
 
 def sheet_lines(sheet):
     yield "case {} filed {}".format(sheet["case"], sheet["filed"]) + (", closed {closed} {closing}".format(**sheet) if "closed" in sheet else "")
+    if "assigned" in sheet:
+        yield "assigned " + sheet["judge"] + (", referred to " + sheet["referred"] if sheet["referred"] is not None else "")
     for d in sheet["deadlines"]:
         filed = d["filed"]
         done = "" if filed is None else " {day} {time} {means}".format(**filed)

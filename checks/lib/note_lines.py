@@ -329,8 +329,11 @@ MOST = {"start": "a case has {} deadlines at most".format(DEADLINES),
         "close": "a case has {} such rows at most".format(FACTS),
         "reopen": "a case has {} such rows at most".format(FACTS),
         "rule": "a case has {} such rows at most".format(FACTS),
+        "assign": "a case has {} such rows at most".format(FACTS),
         "holiday": "a list of holidays has {} dates at most".format(DATES),
         "inaccessible": "the docket has {} outages at most".format(OUTAGES)}
+PANEL = "a panel is one to three judges, each once"
+PANELS = {"book": PANEL, "move": PANEL, "assign": "the case is referred to the judge who has it"}
 
 REFUSED = {
     1: alone("the case isn't open; cases are 1 to 4096", "ours"),
@@ -361,7 +364,7 @@ REFUSED = {
     26: alone("the court's file names no such judge", "ours"),
     27: alone("the court's file names no such room", "ours"),
     28: by_grant("hours are extended by hours, days by days", "a day is reset to a day, an hour to an hour", "ours"),
-    29: alone("a panel is one to three judges, each once", "ours"),
+    29: by_command(PANELS),
     30: alone("the case is closed; `reopen` opens it again", "ours"),
     31: alone("the case isn't closed; `close` closes one", "ours"),
     32: taken(" is heard, "),

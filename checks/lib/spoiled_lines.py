@@ -94,6 +94,14 @@ def spoiled():
         way(name + " as how a motion is ruled on", put(rule, "granted", ruling))
     way("how a motion is ruled on left out", put(rule, "granted,", ""))
     way("a day of a ruling that is none", put(rule, "2025-11-03", "9/31/2025"))
+    # cases that are assigned
+    assign = "1,assign,12,Ames,Brandt,2025-09-08"
+    way("a misspelt judge to whom a case is referred", put(assign, "Brandt", "Brant"))
+    way("two judges to whom a case is assigned", put(assign, "Ames", "Ames+Brandt"))
+    way("no judge to whom a case is assigned", put(assign, "Ames", ""))
+    way("the judge to whom a case is referred left out with the comma", put(assign, "Brandt,", ""))
+    way("the same judge twice where a case is assigned", put(assign, "Brandt", "Ames"))
+    way("the judge to whom a case is referred under a heading", "clerk,command,case,judge,referred to,dated", put(assign, "Brandt", "brandt"))
     # numbers
     for name, case in [("a real case number", "1:25-cv-01234-ABC"), ("a leading zero", "012"), ("a hash before it", "#12"), ("a word before it", "case 12"),
                        ("a number as spreadsheets write it", "7.0"), ("a blank in it", "1 2"), ("a dot in it", "1.2"), ("a dot before it", ".5"), ("a dot after it", "7."),

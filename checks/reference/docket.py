@@ -20,6 +20,8 @@ Hearing = namedtuple("Hearing", "case motion judges room day first count notice"
 Fact = namedtuple("Fact", "case deadline why dated")
 # How a motion of a case was ruled on: it is among the facts
 Ruling = namedtuple("Ruling", "case motion how dated")
+# That a judge has a case, by number, and to which other judge it is referred: None where it is to none. It is one of the facts too
+Assignment = namedtuple("Assignment", "case judge referred dated")
 
 CASES = 4096
 DEADLINES = MOTIONS = 64
@@ -96,6 +98,12 @@ def last_fact(rows, case, number):
 def closing_of(rows, case):
     """The fact by which a case is closed. None where it isn't."""
     return last_fact(rows, case, None)
+
+
+def assignment_of(rows, case):
+    """The assignment of a case that counts: that of the latest day, and of one day that of the last row. None where it has none."""
+    facts = [fact for fact in rows.facts if isinstance(fact, Assignment) and fact.case == case]
+    return max(reversed(facts), key=lambda fact: fact.dated, default=None)
 
 
 def ending_of(rows, case, number):
@@ -228,6 +236,14 @@ def rule(court, rows, case, number, how, dated):
     return after._replace(hearings=[hearing for hearing in after.hearings if hearing is not old]), ("ruled", old.day)
 
 
+def assign(court, rows, case, judge, referred, dated):
+    refuse_shut(rows, case)
+    refuse(any(number is not None and number >= len(court.judges) for number in (judge, referred)), 26)
+    refuse(judge == referred, 29)
+    refuse(not covered(rows.days, dated), 5)
+    return with_fact(rows, Assignment(case, judge, referred, dated)), ("assigned",)
+
+
 def with_fact(rows, fact):
     refuse(sum(other.case == fact.case for other in rows.facts) >= FACTS, 25)
     return rows._replace(facts=rows.facts + [fact])
@@ -357,6 +373,6 @@ def calendar_of(rows, judge):
 
 
 STEPS = {"open": open_case, "start": start, "file": file_act, "extend": extend, "end": end, "resume": resume, "close": close,
-         "reopen": reopen, "rule": rule, "motion": motion, "book": book, "move": move, "cancel": cancel, "holiday": holiday,
-         "inaccessible": inaccessible}
+         "reopen": reopen, "rule": rule, "assign": assign, "motion": motion, "book": book, "move": move, "cancel": cancel,
+         "holiday": holiday, "inaccessible": inaccessible}
 VIEWS = {"sheet": sheet, "calendar": calendar, "compute": compute}

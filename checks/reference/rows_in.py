@@ -181,6 +181,10 @@ def judge(text, court):
     return place(court.judges, text)
 
 
+def judge_or_none(text, court):
+    return [] if text == "" else [place(court.judges, text)]
+
+
 def room(text, court):
     return place(court.rooms, text)
 
@@ -223,6 +227,7 @@ DESK_COLUMNS = {
     "close": [number, one_of("dismissed", "judgment", "settled", "transferred", "remanded", "otherwise"), date],
     "reopen": [number, date],
     "rule": [number, number, one_of("granted", "denied", "in part", "moot", "withdrawn", "reserved"), date],
+    "assign": [number, judge, judge_or_none, date],
 }
 WORKS = {
     "open": lambda case, filed: ("open", case, filed),
@@ -245,6 +250,7 @@ WORKS = {
     "close": lambda case, why, dated: ("close", case, why, dated),
     "reopen": lambda case, dated: ("reopen", case, dated),
     "rule": lambda case, motion, ruling, dated: ("rule", case, motion, ruling, dated),
+    "assign": lambda case, to_judge, referred, dated: ("assign", case, to_judge, only(referred), dated),
 }
 
 

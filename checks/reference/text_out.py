@@ -1,6 +1,6 @@
 """The text of a run: a line for each answer, the lines of sheets, and those of calendars."""
 from .civil import civil, day_text, minute_text
-from .docket import SLOT, calendar_of, case_of, closing_of, deadlines_of, ending_of, hearing_of, motions_of, ruling_of
+from .docket import SLOT, assignment_of, calendar_of, case_of, closing_of, deadlines_of, ending_of, hearing_of, motions_of, ruling_of
 from .periods import shown
 from .rule6 import BEYOND, is_timely, notice_day
 
@@ -87,10 +87,20 @@ def hearing_line(court, rows, hearing):
         "none" if affidavits is None else day_text(affidavits))
 
 
+def assigned_text(court, rows, number):
+    """Who has a case, and to whom it is referred. Empty where it isn't assigned."""
+    assignment = assignment_of(rows, number)
+    if assignment is None:
+        return ""
+    referred = "" if assignment.referred is None else ", referred to " + court.judges[assignment.referred]
+    return "assigned " + court.judges[assignment.judge] + referred
+
+
 def sheet_lines(court, rows, number):
     closed = closing_of(rows, number)
     how = "" if closed is None else ", closed {} {}".format(day_text(closed.dated), closed.why)
     lines = ["case {} filed {}{}".format(number, day_text(case_of(rows, number).filed), how)]
+    lines += [text for text in [assigned_text(court, rows, number)] if text]
     lines += [deadline_line(court, rows, deadline) for deadline in deadlines_of(rows, number)]
     for motion in motions_of(rows, number):
         need = "exparte" if motion.need is None else motion.need

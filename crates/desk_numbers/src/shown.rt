@@ -15,6 +15,7 @@ impl MovedNumbers {
             case,
             filed,
             closed,
+            assigned,
             deadlines,
             motions,
         } = sheet;
@@ -26,6 +27,7 @@ impl MovedNumbers {
             case,
             filed,
             closed,
+            assigned,
             deadlines: SheetDeadlines::from_vec(deadlines),
             motions: SheetMotions::from_vec(motions),
         }

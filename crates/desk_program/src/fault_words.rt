@@ -71,6 +71,7 @@ fn expected(column: Column) -> &'static str
         Column::Closing => "dismissed, judgment, settled, transferred, remanded or otherwise",
         Column::ResumeDay => "nothing, since the deadline has its days as before",
         Column::Ruling => "granted, denied, in part, moot, withdrawn or reserved",
+        Column::JudgeOrNone => "a judge, or nothing",
         Column::Clerk | Column::Command | Column::Room => "what FORMATS.md has under Rows",
     }
 }

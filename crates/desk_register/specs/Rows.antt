@@ -161,6 +161,7 @@ came_of answer.Ended = Taken
 came_of answer.Closed = Taken
 came_of answer.Reopened = Taken
 came_of (answer.Ruled day) = Taken
+came_of answer.Assigned = Taken
 came_of (answer.Resumed shown) = Taken
 came_of (answer.Refused refusal) = Refused
 

@@ -62,7 +62,7 @@ pub type RowTypes = Option<
         Option<Day>,
         Grant,
         Request,
-        (Fact, Ending, Closing, Ruling),
+        (Fact, Ending, Closing, Ruling, Option<u8>),
     ),
 >;
 

@@ -5,7 +5,7 @@ ghost use Rattle.std.specs.Option.{option_map_or};
 ghost use Rattle.rule6.specs.declared.timeliness.Shown.TheVariants.{Beyond};
 ghost use Rattle.docket_rows.specs.declared.command.Command.TheVariants as command;
 ghost use Rattle.docket_rows.specs.declared.hearing.Hearing.{Hearing};
-ghost use Rattle.docket_rows.specs.Words.{add_fact, answer_if_made, changed_by_fact, close_refusal, deadline_in, end_refusal, ending_in, facts_in, first_ahead, has_one, hearing_ahead, hearing_set, most_facts, motions_in, numbered_motions, refusal, reopen_refusal, resume_refusal, rule_refusal, shown_now, without_ahead};
+ghost use Rattle.docket_rows.specs.Words.{add_fact, answer_if_made, are_judges, assign_refusal, changed_by_fact, close_refusal, deadline_in, end_refusal, ending_in, facts_in, first_ahead, has_one, hearing_ahead, hearing_set, is_named_twice, most_facts, motions_in, numbered_motions, refusal, reopen_refusal, resume_refusal, rule_refusal, shown_now, without_ahead};
 
 use crate::rules::DocketRules;
 use crate::seen::{
@@ -95,6 +95,11 @@ pub(crate) fn fact_refusal<S: Sight>(
         Fact::Closed { dated, .. } => close_refusal(sight, case, dated),
         Fact::Reopened { dated } => reopen_refusal(sight, case, dated),
         Fact::Ruled { motion, dated, .. } => rule_refusal(sight, case, motion, dated),
+        Fact::Assigned {
+            judge,
+            referred,
+            dated,
+        } => assign_refusal(rules, sight, case, judge, referred, dated),
     }
 }
 
@@ -231,6 +236,62 @@ fn rule_refusal<S: Sight>(sight: &S, case: u32, motion: u32, dated: Day) -> Opti
     None
 }
 
+/// Whether the judge who has a case, and the one to whom it is referred, if it is, are judges of the court.
+fn are_judges(rules: &DocketRules, judge: u8, referred: Option<u8>) -> bool
+    ensures { result ≡ are_judges rules.now judge referred }
+{
+    if judge >= rules.judges() {
+        return false;
+    }
+    match referred {
+        Some(other) => other < rules.judges(),
+        None => true,
+    }
+}
+
+/// Whether the case is referred to the judge who has it.
+fn is_named_twice(judge: u8, referred: Option<u8>) -> bool
+    ensures { result ≡ is_named_twice judge referred }
+{
+    match referred {
+        Some(other) => other == judge,
+        None => false,
+    }
+}
+
+/// Why the case can't be assigned, if it can't.
+#[tactic(auto, unfolding(docket_rows::specs::Words::assign_refusal))]
+fn assign_refusal<S: Sight>(
+    rules: &DocketRules,
+    sight: &S,
+    case: u32,
+    judge: u8,
+    referred: Option<u8>,
+    dated: Day,
+) -> Option<Refusal>
+    ensures { result ≡ assign_refusal rules.now (S.parts sight.now) case judge referred dated }
+{
+    if !has_case(sight, case) {
+        return Some(Refusal::NoSuchCase);
+    }
+    if is_closed(sight, case) {
+        return Some(Refusal::CaseIsClosed);
+    }
+    if !are_judges(rules, judge, referred) {
+        return Some(Refusal::NoSuchJudge);
+    }
+    if is_named_twice(judge, referred) {
+        return Some(Refusal::BadPanel);
+    }
+    if !sight.days().covered(dated) {
+        return Some(Refusal::BadDay);
+    }
+    if facts_count(sight, case) >= MOST_FACTS {
+        return Some(Refusal::Full);
+    }
+    None
+}
+
 /// What a fact is answered that isn't refused.
 pub(crate) fn answer_to_fact<S: Sight>(
     rules: &DocketRules,
@@ -250,6 +311,7 @@ pub(crate) fn answer_to_fact<S: Sight>(
         Fact::Ruled { motion, dated, .. } => {
             Answer::Ruled(day_taken_off(sight, case, motion, dated))
         }
+        Fact::Assigned { .. } => Answer::Assigned,
     }
 }
 
@@ -301,6 +363,7 @@ fn change_by_fact(case: &mut CaseRecord, fact: &Fact)
         Fact::Ended { .. } | Fact::Resumed { .. } => {}
         Fact::Closed { .. } | Fact::Reopened { .. } => {}
         Fact::Ruled { motion, dated, .. } => take_out_ahead(case, motion, dated),
+        Fact::Assigned { .. } => {}
     }
 }
 

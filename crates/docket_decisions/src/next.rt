@@ -222,6 +222,7 @@ pub(crate) fn next_of_fact(
         Fact::Ended { .. } | Fact::Resumed { .. } => next_of_deadline(reads, case),
         Fact::Closed { .. } | Fact::Reopened { .. } => next_of_deadline(reads, case),
         Fact::Ruled { motion, .. } => next_of_ruling(rules, reads, case, motion),
+        Fact::Assigned { .. } => next_of_deadline(reads, case),
     }
 }
 

@@ -17,13 +17,13 @@ use Rattle.docket_rows.specs.declared.answer.Answer.TheVariants as answer
 use Rattle.docket_rows.specs.declared.command.Command.{Command}
 use Rattle.docket_rows.specs.declared.command.Command.TheVariants.{Start, FileAct, Extend, Book, MoveHearing, Holiday, Fact}
 use Rattle.docket_rows.specs.declared.fact.Fact.{Fact as FactOf}
-use Rattle.docket_rows.specs.declared.fact.Fact.TheVariants.{Ended, Resumed, Closed, Reopened, Ruled}
+use Rattle.docket_rows.specs.declared.fact.Fact.TheVariants.{Ended, Resumed, Closed, Reopened, Ruled, Assigned}
 use Rattle.docket_rows.specs.declared.hearing.Setting.{Setting}
 use Rattle.docket_rows.specs.declared.query.Query.{Query}
 use Rattle.docket_rows.specs.declared.query.Query.TheVariants.{Sheet, JudgeDay, Compute}
 use Rattle.docket_rows.specs.declared.refusal.Refusal.TheVariants.{NoSuchCase}
 use Rattle.docket_rows.specs.declared.view.View.TheVariants as view
-use Rattle.docket_rows.specs.Words.{CourtSetup, CaseRecordView, NumberedDeadline, Parts, Rows, answer_if_made, answered, setup_of, book_refusal, deadline_in, ended_answer, extend_refusal, file_act_refusal, has_one, holiday_refusal, move_refusal, next_deadline, notice_lost, opening_rows, parts_of, query_refusal, refusal, refusal_of, resume_refusal, rows_from, seen_by, sheet_deadline, sheet_of, shown_if_asked, shown_now, start_deadline_refusal, started, state_of, step, view_of}
+use Rattle.docket_rows.specs.Words.{CourtSetup, CaseRecordView, NumberedDeadline, Parts, Rows, answer_if_made, answered, assign_refusal, setup_of, book_refusal, deadline_in, ended_answer, extend_refusal, file_act_refusal, has_one, holiday_refusal, move_refusal, next_deadline, notice_lost, opening_rows, parts_of, query_refusal, refusal, refusal_of, resume_refusal, rows_from, seen_by, sheet_deadline, sheet_of, shown_if_asked, shown_now, start_deadline_refusal, started, state_of, step, view_of}
 use Rattle.docket_laws.specs.Clocks.{IsSameSetup}
 use Rattle.docket_laws.specs.Lawful.{docket_after}
 use Rattle.docket_laws.proofs.PartsLists.{map_agree}
@@ -73,6 +73,10 @@ module _ (a b : CourtSetup) (same : IsSameSetup a b) where
   unfolding resume_refusal
   resume_alike parts case deadline dated = rw (beyond_alike parts (deadline_in parts case deadline)) refl
 
+  assign_alike : (parts : Parts) (case judge : ℕ) (referred : Option ℕ) (dated : ℤ) → assign_refusal a parts case judge referred dated ≡ assign_refusal b parts case judge referred dated
+  unfolding assign_refusal
+  assign_alike parts case judge referred dated = rw same.judges refl
+
   book_alike : (parts : Parts) (s : Setting) → book_refusal a parts s ≡ book_refusal b parts s
   unfolding book_refusal
   book_alike parts s = rw (same.judges, same.rooms, same.clock.opens, same.clock.closes) refl
@@ -101,6 +105,7 @@ module _ (a b : CourtSetup) (same : IsSameSetup a b) where
   refusal_alike parts (Fact case (Closed why dated)) = refl
   refusal_alike parts (Fact case (Reopened dated)) = refl
   refusal_alike parts (Fact case (Ruled motion ruling dated)) = refl
+  refusal_alike parts (Fact case (Assigned judge referred dated)) = assign_alike parts case judge referred dated
   refusal_alike parts _ = refl
 
   -- answers
@@ -113,6 +118,7 @@ module _ (a b : CourtSetup) (same : IsSameSetup a b) where
   made_alike parts (Fact case (Closed why dated)) = refl
   made_alike parts (Fact case (Reopened dated)) = refl
   made_alike parts (Fact case (Ruled motion ruling dated)) = refl
+  made_alike parts (Fact case (Assigned judge referred dated)) = refl
   made_alike parts _ = refl
 
   pub answered_alike : (parts : Parts) (command : Command) → answered a parts command ≡ answered b parts command

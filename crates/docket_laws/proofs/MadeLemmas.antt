@@ -17,12 +17,12 @@ use Rattle.hearing_slots.specs.Words.{first_conflict, conflicts, IsFree, IsConfl
 use Rattle.hearing_slots.proofs.CallerLemmas.{find-None, test_from_SharesSlot}
 use Rattle.docket_rows.specs.declared.command.Command.TheVariants as command
 use Rattle.docket_rows.specs.declared.fact.Fact.{Fact}
-use Rattle.docket_rows.specs.declared.fact.Fact.TheVariants.{Ended, Resumed, Closed, Reopened, Ruled}
+use Rattle.docket_rows.specs.declared.fact.Fact.TheVariants.{Ended, Resumed, Closed, Reopened, Ruled, Assigned}
 use Rattle.docket_rows.specs.declared.hearing.Setting.{Setting}
 use Rattle.docket_rows.specs.declared.refusal.Refusal.{Refusal}
 use Rattle.docket_rows.specs.declared.refusal.Refusal.TheVariants.{NoSuchDeadline}
 use Rattle.docket_laws.specs.Inside.CanSet.{CanSet}
-use Rattle.docket_rows.specs.Words.{CourtSetup, Parts, CaseRecordView, NumberedDeadline, most_deadlines, most_motions, most_facts, refusal, refusal_of, deadlines_in, deadline_in, motions_in, hearing_in, facts_in, fits_day, sits, start_deadline_refusal, start_deadline_checks, extend_refusal, extend_checks, end_refusal, end_checks, resume_refusal, resume_checks, close_refusal, close_checks, reopen_refusal, reopen_checks, rule_refusal, rule_checks, motion_refusal, motion_checks, hearing_checks, book_checks, book_refusal, move_refusal, outage_refusal, outage_checks}
+use Rattle.docket_rows.specs.Words.{CourtSetup, Parts, CaseRecordView, NumberedDeadline, most_deadlines, most_motions, most_facts, refusal, refusal_of, deadlines_in, deadline_in, motions_in, hearing_in, facts_in, fits_day, sits, start_deadline_refusal, start_deadline_checks, extend_refusal, extend_checks, end_refusal, end_checks, resume_refusal, resume_checks, close_refusal, close_checks, reopen_refusal, reopen_checks, rule_refusal, rule_checks, assign_refusal, assign_checks, motion_refusal, motion_checks, hearing_checks, book_checks, book_refusal, move_refusal, outage_refusal, outage_checks}
 
 -- no line of the list applies
 abbrev pub NoneOf : {R : Type 0} → List (Option R) → Type 0
@@ -91,7 +91,7 @@ can_enter parts case served need h =
 
 -- there is room for a fact that is recorded
 pub can_record : (setup : CourtSetup) (parts : Parts) (case : ℕ) (fact : Fact) → refusal setup parts (command.Fact case fact) ≡ None → length (facts_in parts case) < most_facts
-unfolding end_refusal resume_refusal close_refusal reopen_refusal rule_refusal
+unfolding end_refusal resume_refusal close_refusal reopen_refusal rule_refusal assign_refusal
 can_record setup parts case (Ended deadline why dated) h =
     let n = none_of (end_checks parts case deadline dated) h in
     let full = when-None _ _ n.1.1.1.1.1.1.0 in
@@ -111,6 +111,10 @@ can_record setup parts case (Reopened dated) h =
 can_record setup parts case (Ruled motion how dated) h =
     let n = none_of (rule_checks parts case motion dated) h in
     let full = when-None _ _ n.1.1.1.1.0 in
+    grind (arith, nat_tests)
+can_record setup parts case (Assigned judge referred dated) h =
+    let n = none_of (assign_checks setup parts case judge referred dated) h in
+    let full = when-None _ _ n.1.1.1.1.1.0 in
     grind (arith, nat_tests)
 
 -- in the case that the parts show, where it is open

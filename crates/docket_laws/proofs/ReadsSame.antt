@@ -20,13 +20,13 @@ use Rattle.hearing_slots.specs.declared.need.Need.{Need}
 use Rattle.hearing_slots.specs.Words.{first_conflict}
 use Rattle.docket_rows.specs.declared.command.Command.{Command}
 use Rattle.docket_rows.specs.declared.command.Command.TheVariants.{OpenCase, Start, FileAct, Extend, Motion, Book, MoveHearing, Cancel, Holiday, Inaccessible, Fact}
-use Rattle.docket_rows.specs.declared.fact.Fact.TheVariants.{Ended, Resumed, Closed, Reopened, Ruled}
+use Rattle.docket_rows.specs.declared.fact.Fact.TheVariants.{Ended, Resumed, Closed, Reopened, Ruled, Assigned}
 use Rattle.docket_rows.specs.declared.hearing.Hearing.{Hearing}
 use Rattle.docket_rows.specs.declared.hearing.Setting.{Setting}
 use Rattle.docket_rows.specs.declared.part.PartId.{PartId}
 use Rattle.docket_rows.specs.declared.part.PartId.TheVariants.{Court, Judge, Room, Case}
 use Rattle.docket_rows.specs.declared.refusal.Refusal.{Refusal}
-use Rattle.docket_rows.specs.Words.{CourtSetup, Parts, part_value, days_in, calendar_in, case_in, same_part, is_case_number, has_judges, is_panel, hearing_asked, calendars_of, calendars_now, about_case, wanted, judge_clash, all_booked, hearing_checks, open_case_refusal, start_deadline_refusal, file_act_refusal, extend_refusal, end_refusal, resume_refusal, close_refusal, reopen_refusal, rule_refusal, motion_refusal, book_refusal, move_refusal, cancel_refusal, holiday_refusal, outage_refusal, notice_lost, refusal}
+use Rattle.docket_rows.specs.Words.{CourtSetup, Parts, part_value, days_in, calendar_in, case_in, same_part, is_case_number, has_judges, is_panel, hearing_asked, calendars_of, calendars_now, about_case, wanted, judge_clash, all_booked, hearing_checks, open_case_refusal, start_deadline_refusal, file_act_refusal, extend_refusal, end_refusal, resume_refusal, close_refusal, reopen_refusal, rule_refusal, assign_refusal, motion_refusal, book_refusal, move_refusal, cancel_refusal, holiday_refusal, outage_refusal, notice_lost, refusal}
 use Rattle.docket_laws.proofs.PartsLists.{map_agree}
 use Rattle.docket_laws.proofs.ReadsParts.{part_itself}
 
@@ -179,6 +179,13 @@ module _ (setup : CourtSetup) (p q : Parts) where
     | inr fails ↦ rw fails refl
   ]
 
+  assign_rests : (case judge : ℕ) (referred : Option ℕ) (dated : ℤ) → AgreeOn (about_case case (Court ∷ [])) → assign_refusal setup p case judge referred dated ≡ assign_refusal setup q case judge referred dated
+  unfolding assign_refusal
+  assign_rests case judge referred dated agree = elim (cases_Bool (is_case_number case)) [
+    | inl numbered ↦ rw (days_agree case [] numbered agree, case_agrees case (Court ∷ []) numbered agree) refl
+    | inr fails ↦ rw fails refl
+  ]
+
   cancel_rests : (case motion : ℕ) (others : List PartId) → AgreeOn (about_case case others) → cancel_refusal p case motion ≡ cancel_refusal q case motion
   unfolding cancel_refusal
   cancel_rests case motion others agree = elim (cases_Bool (is_case_number case)) [
@@ -253,3 +260,4 @@ module _ (setup : CourtSetup) (p q : Parts) where
   refusal_rests (Fact case (Closed why dated)) from to agree = close_rests case dated agree
   refusal_rests (Fact case (Reopened dated)) from to agree = reopen_rests case dated agree
   refusal_rests (Fact case (Ruled motion how dated)) from to agree = rule_rests case motion dated (calendars_now setup q case motion) agree
+  refusal_rests (Fact case (Assigned judge referred dated)) from to agree = assign_rests case judge referred dated agree

@@ -1,7 +1,9 @@
 -- What the facts that are recorded of a case come to, and what each is about.
-use Rattle.std.specs.Prelude.{ℕ, ◌==◌, is_some, List, [], ◌∷◌, ◌++◌, codes, fold, Option, Some, None, if◌then◌else◌}
+use Rattle.std.specs.Prelude.{ℕ, ◌==◌, ℤ, int_lt, Bool, false, is_some, List, [], ◌∷◌, ◌++◌, codes, fold, Option, Some, None, if◌then◌else◌}
+use Rattle.std.specs.Option.{option_map_or}
 use Rattle.docket_rows.specs.declared.command.Counted.TheVariants.{Deadline, Motion}
 use Rattle.docket_rows.specs.declared.command.Subject.{Subject}
+use Rattle.docket_rows.specs.declared.fact.Assignment.{Assignment}
 use Rattle.docket_rows.specs.declared.fact.Closing.{Closing}
 use Rattle.docket_rows.specs.declared.fact.Closing.TheVariants.{Dismissed, Judgment, Settled, Transferred, Remanded, Otherwise}
 use Rattle.docket_rows.specs.declared.fact.Closure.{Closure}
@@ -9,7 +11,7 @@ use Rattle.docket_rows.specs.declared.fact.DatedRuling.{DatedRuling}
 use Rattle.docket_rows.specs.declared.fact.Ending.{Ending}
 use Rattle.docket_rows.specs.declared.fact.Ending.TheVariants.{Moot, Vacated, Stayed, Suspended, Withdrawn, CaseClosed}
 use Rattle.docket_rows.specs.declared.fact.Fact.{Fact}
-use Rattle.docket_rows.specs.declared.fact.Fact.TheVariants.{Ended, Resumed, Closed, Reopened, Ruled}
+use Rattle.docket_rows.specs.declared.fact.Fact.TheVariants.{Ended, Resumed, Closed, Reopened, Ruled, Assigned}
 use Rattle.docket_rows.specs.declared.fact.Ruling.{Ruling}
 use Rattle.docket_rows.specs.declared.fact.Ruling.TheVariants as ruling
 use Rattle.docket_rows.specs.Cases.{CaseRecordView}
@@ -25,6 +27,7 @@ closed_then before (Resumed deadline dated) = before
 closed_then before (Closed why dated) = Some (record { why = why; dated = dated })
 closed_then before (Reopened dated) = None
 closed_then before (Ruled motion how dated) = before
+closed_then before (Assigned judge referred dated) = before
 
 -- how the case was closed, if it was and wasn't reopened
 unfoldable pub closing_in : List Fact → Option Closure
@@ -37,6 +40,7 @@ ended_then number before (Resumed deadline dated) = if deadline == number then N
 ended_then number before (Closed why dated) = before
 ended_then number before (Reopened dated) = before
 ended_then number before (Ruled motion how dated) = before
+ended_then number before (Assigned judge referred dated) = before
 
 -- why the deadline of that number was ended, if it was and wasn't resumed
 abbrev pub ended_in : List Fact → (number : ℕ) → Option Ending
@@ -53,10 +57,29 @@ ruled_then number before (Resumed deadline dated) = before
 ruled_then number before (Closed why dated) = before
 ruled_then number before (Reopened dated) = before
 ruled_then number before (Ruled motion how dated) = if motion == number then Some (record { ruling = how; dated = dated }) else before
+ruled_then number before (Assigned judge referred dated) = before
 
 -- how the motion of that number was ruled on, if it was: the last ruling counts
 unfoldable pub ruling_in : List Fact → (number : ℕ) → Option DatedRuling
 ruling_in facts number = fold (ruled_then number) None facts
+
+-- the assignment is of a day after this one
+abbrev pub is_assigned_after : (day : ℤ) → Option Assignment → Bool
+is_assigned_after day assigned = option_map_or (λ (a : Assignment). int_lt day a.dated) assigned false
+
+-- who has the case, after one fact more: an assignment of an earlier day takes no later one's place
+abbrev pub assigned_then : Option Assignment → Fact → Option Assignment
+assigned_then before (Ended deadline why dated) = before
+assigned_then before (Resumed deadline dated) = before
+assigned_then before (Closed why dated) = before
+assigned_then before (Reopened dated) = before
+assigned_then before (Ruled motion how dated) = before
+assigned_then before (Assigned judge referred dated) =
+    if is_assigned_after dated before then before else Some (record { judge = judge; referred = referred; dated = dated })
+
+-- who has the case, if it was assigned
+unfoldable pub assigned_in : List Fact → Option Assignment
+assigned_in facts = fold assigned_then None facts
 
 -- the word by which texts name why a deadline was ended
 abbrev pub ending_word : Ending → List ℕ
@@ -92,6 +115,7 @@ fact_subject case (Resumed deadline dated) = Some (record { case = case; counted
 fact_subject case (Closed why dated) = None
 fact_subject case (Reopened dated) = None
 fact_subject case (Ruled motion how dated) = Some (record { case = case; counted = Motion; number = motion })
+fact_subject case (Assigned judge referred dated) = None
 
 -- the same fact of the deadline or the motion of that number; one of neither stays as it is
 abbrev pub fact_naming : Fact → (number : ℕ) → Fact
@@ -100,3 +124,4 @@ fact_naming (Resumed deadline dated) number = Resumed number dated
 fact_naming (Closed why dated) number = Closed why dated
 fact_naming (Reopened dated) number = Reopened dated
 fact_naming (Ruled motion how dated) number = Ruled number how dated
+fact_naming (Assigned judge referred dated) number = Assigned judge referred dated

@@ -1,7 +1,7 @@
 -- Why a command or a query is refused. For each there is a list of lines, each of which says when it applies and what
 -- is then refused, and the answer is the first line that applies.
-use Rattle.std.specs.Prelude.{ℕ, nat_lt, nat_le, ℤ, ◌&&◌, not, is_some, is_none, List, [], ◌∷◌, length, filter, Option, Some, None, option_map}
-use Rattle.std.specs.Option.{option_and_then}
+use Rattle.std.specs.Prelude.{ℕ, ◌==◌, nat_lt, nat_le, ℤ, Bool, true, ◌&&◌, not, is_some, is_none, List, [], ◌∷◌, length, filter, Option, Some, None, option_map}
+use Rattle.std.specs.Option.{option_and_then, option_map_or}
 use Rattle.court_days.specs.declared.holiday_list.HolidayList.{HolidayList}
 use Rattle.court_days.specs.declared.holiday_list.HolidayList.TheVariants.{Federal, State}
 use Rattle.court_clock.specs.Words.{later_day}
@@ -16,7 +16,7 @@ use Rattle.hearing_slots.specs.declared.need.Need.{Need}
 use Rattle.hearing_slots.specs.Words.{is_on}
 use Rattle.docket_rows.specs.declared.command.Command.{Command}
 use Rattle.docket_rows.specs.declared.command.Command.TheVariants.{OpenCase, Start, FileAct, Extend, Motion, Book, MoveHearing, Cancel, Holiday, Inaccessible, Fact}
-use Rattle.docket_rows.specs.declared.fact.Fact.TheVariants.{Ended, Resumed, Closed, Reopened, Ruled}
+use Rattle.docket_rows.specs.declared.fact.Fact.TheVariants.{Ended, Resumed, Closed, Reopened, Ruled, Assigned}
 use Rattle.docket_rows.specs.declared.hearing.Setting.{Setting}
 use Rattle.docket_rows.specs.declared.query.Query.{Query}
 use Rattle.docket_rows.specs.declared.query.Query.TheVariants.{Sheet, JudgeDay, Compute}
@@ -130,6 +130,26 @@ rule_checks parts case motion dated =
     ∷ when (nat_le most_facts (length (facts_in parts case))) Full
     ∷ [])
 
+-- Assignments
+
+-- the judge who has a case, and the one to whom it is referred, if it is, are judges of the court
+abbrev pub are_judges : CourtSetup → (judge : ℕ) → (referred : Option ℕ) → Bool
+are_judges setup judge referred = nat_lt judge setup.judges && option_map_or (λ other. nat_lt other setup.judges) referred true
+
+-- the case is referred to the judge who has it
+abbrev pub is_named_twice : (judge : ℕ) → (referred : Option ℕ) → Bool
+is_named_twice judge referred = has_one (λ other. other == judge) referred
+
+abbrev pub assign_checks : CourtSetup → Parts → (case judge : ℕ) → (referred : Option ℕ) → (dated : ℤ) → List (Option Refusal)
+assign_checks setup parts case judge referred dated =
+    (when (not (has_case parts case)) NoSuchCase
+    ∷ when (is_closed parts case) CaseIsClosed
+    ∷ when (not (are_judges setup judge referred)) NoSuchJudge
+    ∷ when (is_named_twice judge referred) BadPanel
+    ∷ when (not (is_covered parts.days dated)) BadDay
+    ∷ when (nat_le most_facts (length (facts_in parts case))) Full
+    ∷ [])
+
 -- Motions
 
 abbrev pub motion_checks : Parts → (case : ℕ) → (served : ℤ) → Need → List (Option Refusal)
@@ -236,6 +256,9 @@ reopen_refusal parts case dated = first_of (reopen_checks parts case dated)
 unfoldable pub rule_refusal : Parts → (case motion : ℕ) → (dated : ℤ) → Option Refusal
 rule_refusal parts case motion dated = first_of (rule_checks parts case motion dated)
 
+unfoldable pub assign_refusal : CourtSetup → Parts → (case judge : ℕ) → (referred : Option ℕ) → (dated : ℤ) → Option Refusal
+assign_refusal setup parts case judge referred dated = first_of (assign_checks setup parts case judge referred dated)
+
 unfoldable pub motion_refusal : Parts → (case : ℕ) → (served : ℤ) → Need → Option Refusal
 motion_refusal parts case served need = first_of (motion_checks parts case served need)
 
@@ -270,6 +293,7 @@ refusal setup parts (Fact case (Resumed deadline dated)) = resume_refusal setup 
 refusal setup parts (Fact case (Closed why dated)) = close_refusal parts case dated
 refusal setup parts (Fact case (Reopened dated)) = reopen_refusal parts case dated
 refusal setup parts (Fact case (Ruled motion how dated)) = rule_refusal parts case motion dated
+refusal setup parts (Fact case (Assigned judge referred dated)) = assign_refusal setup parts case judge referred dated
 
 -- Queries
 

@@ -11,7 +11,7 @@ use Rattle.docket_rows.specs.declared.answer.Answer.TheVariants as answer
 use Rattle.docket_rows.specs.declared.command.Command.{Command}
 use Rattle.docket_rows.specs.declared.command.Command.TheVariants.{OpenCase, Start, FileAct, Extend, Motion, Book, MoveHearing, Cancel, Holiday, Inaccessible, Fact}
 use Rattle.docket_rows.specs.declared.fact.Fact.{Fact as FactOf}
-use Rattle.docket_rows.specs.declared.fact.Fact.TheVariants.{Ended, Resumed, Closed, Reopened, Ruled}
+use Rattle.docket_rows.specs.declared.fact.Fact.TheVariants.{Ended, Resumed, Closed, Reopened, Ruled, Assigned}
 use Rattle.docket_rows.specs.declared.hearing.Hearing.{Hearing}
 use Rattle.docket_rows.specs.declared.hearing.Setting.{Setting}
 use Rattle.docket_rows.specs.CourtSetup.{CourtSetup}
@@ -51,6 +51,7 @@ rows_by_fact case (Resumed deadline dated) rows = rows
 rows_by_fact case (Closed why dated) rows = rows
 rows_by_fact case (Reopened dated) rows = rows
 rows_by_fact case (Ruled motion how dated) rows = record rows { hearings = hearings_until case motion dated rows }
+rows_by_fact case (Assigned judge referred dated) rows = rows
 
 -- the rows after a command that isn't refused
 abbrev pub rows_after : Rows → Command → Rows
@@ -96,6 +97,7 @@ answer_if_made setup parts (Fact case (Closed why dated)) = answer.Closed
 answer_if_made setup parts (Fact case (Reopened dated)) = answer.Reopened
 answer_if_made setup parts (Fact case (Ruled motion how dated)) =
     answer.Ruled (option_map (λ (h : Hearing). h.day) (hearing_ahead parts case motion dated))
+answer_if_made setup parts (Fact case (Assigned judge referred dated)) = answer.Assigned
 
 -- what a command is answered where the parts are these
 unfoldable pub answered : CourtSetup → Parts → Command → Answer

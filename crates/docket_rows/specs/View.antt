@@ -23,7 +23,7 @@ use Rattle.docket_rows.specs.declared.view.View.{View}
 use Rattle.docket_rows.specs.declared.view.View.TheVariants as view
 use Rattle.docket_rows.specs.CourtSetup.{CourtSetup}
 use Rattle.docket_rows.specs.Cases.{CaseRecordView, NumberedDeadline, NumberedMotion}
-use Rattle.docket_rows.specs.Facts.{closing_in, ending_in, ruling_in}
+use Rattle.docket_rows.specs.Facts.{assigned_in, closing_in, ending_in, ruling_in}
 use Rattle.docket_rows.specs.Parts.{Parts, parts_of}
 use Rattle.docket_rows.specs.Refusals.{query_refusal}
 use Rattle.docket_rows.specs.Rows.{Rows}
@@ -66,6 +66,7 @@ sheet_of setup parts case c = record {
   case = case;
   filed = c.filed;
   closed = closing_in c.facts;
+  assigned = assigned_in c.facts;
   deadlines = map (sheet_deadline setup parts c.facts) c.deadlines;
   motions = map (sheet_motion parts.days c.facts) c.motions;
 }

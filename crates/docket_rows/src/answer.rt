@@ -42,6 +42,8 @@ pub enum Answer {
     Reopened,
     /// The motion is ruled on; the day of its hearing, where that was later than the ruling and is off the calendar.
     Ruled(Option<Day>),
+    /// The case is assigned.
+    Assigned,
     /// The command is refused, and changes nothing.
     Refused(Refusal),
 }

@@ -251,6 +251,7 @@ fn fact_subject(case: u32, fact: Fact) -> Option<Subject>
             counted: Counted::Motion,
             number: motion,
         }),
+        Fact::Assigned { .. } => None,
     }
 }
 
@@ -267,5 +268,6 @@ fn fact_order(case: u32, fact: Fact) -> Option<HearingOrder>
             setting: None,
             later_than: Some(dated),
         }),
+        Fact::Assigned { .. } => None,
     }
 }

@@ -1,7 +1,7 @@
 //! What is recorded of a case beside its deadlines, its motions and their hearings.
 
 ghost use Rattle.std.specs.Prelude.{◌≡◌};
-ghost use Rattle.docket_rows.specs.Facts.{closed_then, closing_in, closing_word, ended_in, ended_then, ending_in, ending_word, fact_naming, ruled_then, ruling_in, ruling_word};
+ghost use Rattle.docket_rows.specs.Facts.{assigned_in, assigned_then, closed_then, closing_in, closing_word, ended_in, ended_then, ending_in, ending_word, fact_naming, is_assigned_after, ruled_then, ruling_in, ruling_word};
 
 use court_clock::Day;
 
@@ -74,6 +74,17 @@ pub struct DatedRuling {
     pub dated: Day,
 }
 
+/// Who has a case.
+#[derive(Clone, Copy, Debug, PartialEq, Eq)]
+pub struct Assignment {
+    /// The number of the judge who has it, in the court's file.
+    pub judge: u8,
+    /// The number of the judge to whom it is referred, if it is.
+    pub referred: Option<u8>,
+    /// The day of the order or the paper that says so, from which on it counts.
+    pub dated: Day,
+}
+
 /// What is recorded of a case.
 #[derive(Clone, Copy, Debug, PartialEq, Eq)]
 pub enum Fact {
@@ -111,6 +122,15 @@ pub enum Fact {
         motion: u32,
         /// How.
         ruling: Ruling,
+        /// The day of the order or the paper that says so.
+        dated: Day,
+    },
+    /// The case is assigned to a judge, and may be referred to another.
+    Assigned {
+        /// The number of the judge who has it, in the court's file.
+        judge: u8,
+        /// The number of the judge to whom it is referred, if it is.
+        referred: Option<u8>,
         /// The day of the order or the paper that says so.
         dated: Day,
     },
@@ -185,6 +205,7 @@ impl Fact {
                 ruling,
                 dated,
             },
+            Fact::Assigned { .. } => *self,
         }
     }
 }
@@ -210,6 +231,7 @@ fn closed_then(before: Option<Closure>, fact: Fact) -> Option<Closure>
         Fact::Reopened { .. } => None,
         Fact::Ended { .. } | Fact::Resumed { .. } => before,
         Fact::Ruled { .. } => before,
+        Fact::Assigned { .. } => before,
     }
 }
 
@@ -251,6 +273,7 @@ fn ended_then(number: u32, before: Option<Ending>, fact: Fact) -> Option<Ending>
         Fact::Resumed { deadline, .. } => { if deadline == number { None } else { before } }
         Fact::Closed { .. } | Fact::Reopened { .. } => before,
         Fact::Ruled { .. } => before,
+        Fact::Assigned { .. } => before,
     }
 }
 
@@ -285,5 +308,55 @@ fn ruled_then(number: u32, before: Option<DatedRuling>, fact: Fact) -> Option<Da
         }
         Fact::Ended { .. } | Fact::Resumed { .. } => before,
         Fact::Closed { .. } | Fact::Reopened { .. } => before,
+        Fact::Assigned { .. } => before,
+    }
+}
+
+/// Who has a case of which these facts are recorded, from the first on. `None` where it wasn't assigned. An assignment of an earlier day
+/// takes no later one's place; of those of one day the last counts.
+#[tactic(auto, unfolding(crate::specs::Facts::assigned_in))]
+pub fn assigned_in(facts: &[Fact]) -> Option<Assignment>
+    ensures { result ≡ assigned_in facts.now }
+{
+    let mut assigned = None;
+    for fact in facts {
+        assigned = assigned_then(assigned, *fact);
+    }
+    assigned
+}
+
+/// Who has the case, after one fact more.
+fn assigned_then(before: Option<Assignment>, fact: Fact) -> Option<Assignment>
+    ensures { result ≡ assigned_then before fact }
+{
+    match fact {
+        Fact::Assigned {
+            judge,
+            referred,
+            dated,
+        } => {
+            if is_assigned_after(dated, before) {
+                before
+            } else {
+                Some(Assignment {
+                    judge,
+                    referred,
+                    dated,
+                })
+            }
+        }
+        Fact::Ended { .. } | Fact::Resumed { .. } => before,
+        Fact::Closed { .. } | Fact::Reopened { .. } => before,
+        Fact::Ruled { .. } => before,
+    }
+}
+
+/// Whether the assignment is of a day after this one.
+fn is_assigned_after(day: Day, assigned: Option<Assignment>) -> bool
+    ensures { result ≡ is_assigned_after day assigned }
+{
+    match assigned {
+        Some(assignment) => day.number() < assignment.dated.number(),
+        None => false,
     }
 }

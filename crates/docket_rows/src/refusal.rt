@@ -67,7 +67,7 @@ pub enum Refusal {
     NoSuchRoom,
     /// An extension by days or to a date of a period in hours, or by hours of one in days.
     WrongGrant,
-    /// A judge is named twice in the panel.
+    /// A judge is named twice in the panel, or the case is referred to the judge who has it.
     BadPanel,
     /// The case is closed.
     CaseIsClosed,

@@ -2,7 +2,7 @@
 
 ghost use Rattle.std.specs.Prelude.{◌≡◌, List};
 
-use crate::fact::{Closure, DatedRuling, Ending};
+use crate::fact::{Assignment, Closure, DatedRuling, Ending};
 use crate::hearing::Hearing;
 use court_clock::Day;
 use hearing_slots::Need;
@@ -149,6 +149,8 @@ pub struct Sheet {
     pub filed: Day,
     /// How it was closed, if it was and wasn't reopened.
     pub closed: Option<Closure>,
+    /// Who has it, if it was assigned.
+    pub assigned: Option<Assignment>,
     /// Its deadlines.
     pub deadlines: SheetDeadlines,
     /// Its motions.

@@ -58,6 +58,13 @@ is_timely Pending = false
 is_timely Late = false
 is_timely Undecided = false
 
+-- no act is recorded
+abbrev pub is_pending : State → Bool
+is_pending Pending = true
+is_pending Timely = false
+is_pending Late = false
+is_pending Undecided = false
+
 abbrev pub is_met : Matter → Bool
 is_met (Deadline d) = is_timely d.state
 is_met (Hearing h) = false

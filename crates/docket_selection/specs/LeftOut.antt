@@ -27,7 +27,7 @@ left_out_deadline clock case choice before d = left_out_only choice before (dead
 
 -- those of the case of a sheet
 unfoldable pub left_out_in : ClockView → Choice → Sheet → List DueItem
-left_out_in clock choice sheet = filter_map (left_out_deadline clock sheet.case choice (is_before choice sheet.motions)) sheet.deadlines
+left_out_in clock choice sheet = filter_map (left_out_deadline clock sheet.case choice (is_before choice sheet.assigned sheet.motions)) sheet.deadlines
 
 -- those of all open cases
 abbrev pub all_left_out : CourtSetup → Rows → Choice → List DueItem

@@ -1,6 +1,6 @@
 -- The words of clauses and definitions, for the crates above, from one place.
-pub use Rattle.docket_selection.specs.Choice.{is_case_chosen, is_day_chosen, is_end_chosen, is_panel_chosen, sits_in, sits_in_any, is_before}
-pub use Rattle.docket_selection.specs.Items.{end_of, deadline_item, set_item, hearing_item, is_timely, is_met, is_ended, time_of}
+pub use Rattle.docket_selection.specs.Choice.{is_case_chosen, is_day_chosen, is_end_chosen, is_panel_chosen, sits_in, sits_in_any, has_assigned, is_case_before, is_before, has_hearing}
+pub use Rattle.docket_selection.specs.Items.{end_of, deadline_item, set_item, hearing_item, is_timely, is_pending, is_met, is_ended, time_of}
 pub use Rattle.docket_selection.specs.Sheets.{sheet_seen, open_sheets}
 unfoldable pub use Rattle.docket_selection.specs.Sheets.{sheets_from}
 pub use Rattle.docket_selection.specs.Due.{is_matter_chosen, is_due_any_day, is_due, is_other_chosen, is_due_by_either, due_only, due_by_either, due_deadline, due_hearing, all_due, is_at_time_of, AreInOrder, IsDue}

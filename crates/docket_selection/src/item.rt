@@ -2,7 +2,7 @@
 
 ghost use Rattle.std.specs.Prelude.{◌≡◌, option_map};
 ghost use Rattle.court_clock.specs.Words.{CivilTime, second_of};
-ghost use Rattle.docket_selection.specs.Items.{deadline_item, end_of, hearing_item, is_ended, is_met, matter_with_other, set_item, time_of, with_other};
+ghost use Rattle.docket_selection.specs.Items.{deadline_item, end_of, hearing_item, is_ended, is_met, is_pending, matter_with_other, set_item, time_of, with_other};
 
 use court_clock::{Clock, Day};
 use docket_rows::{Ending, SheetDeadline, SheetHearing, SheetMotion, State};
@@ -156,6 +156,13 @@ pub(crate) fn is_met(matter: &Matter) -> bool
         Matter::Deadline(deadline) => deadline.state == State::Timely,
         Matter::Hearing(_) => false,
     }
+}
+
+/// Whether no act is recorded.
+pub(crate) fn is_pending(state: State) -> bool
+    ensures { result ≡ is_pending state }
+{
+    state == State::Pending
 }
 
 /// Whether a deadline was ended and not resumed, so that it is due no more.

@@ -60,7 +60,7 @@ fn push_left_out_in(
     ensures { OnOk result (list.new.items ≡ list.old.items ++ left_out_in clock.now choice.now sheet.now) }
 {
     let _types: DueTypes = None;
-    let before = is_before(choice, sheet.motions.as_slice());
+    let before = is_before(choice, &sheet.assigned, sheet.motions.as_slice());
     push_deadlines(
         list,
         clock,

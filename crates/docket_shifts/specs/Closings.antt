@@ -15,11 +15,11 @@ closing_told None = codes "not closed"
 closing_told (Some c) = codes "closed " ++ day_text c.dated ++ codes " " ++ closing_word c.why
 
 -- `  case 7: not closed, now closed 2025-11-03 settled`; nothing where both are told alike
-abbrev pub closing_line : List NamedCase → (case : ℕ) → (was is : List ℕ) → List ℕ
-closing_line named case was is =
+abbrev pub told_line : List NamedCase → (case : ℕ) → (was is : List ℕ) → List ℕ
+told_line named case was is =
     if bytes_eq was is then [] else codes "  case " ++ case_text named case ++ codes ": " ++ was ++ codes ", now " ++ is ++ 10 ∷ []
 
 -- the line of a case that is closed otherwise by the second of two sheets than by the first, where it is open by both
 abbrev pub closing_shift : List NamedCase → (case : ℕ) → (was is : View) → List ℕ
-closing_shift named case (view.Sheet was) (view.Sheet is) = closing_line named case (closing_told was.closed) (closing_told is.closed)
+closing_shift named case (view.Sheet was) (view.Sheet is) = told_line named case (closing_told was.closed) (closing_told is.closed)
 closing_shift named case was is = []

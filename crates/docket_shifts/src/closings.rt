@@ -1,7 +1,7 @@
 //! The line of a case that is closed in one docket alone, or was closed otherwise.
 ghost use Rattle.std.specs.Prelude.{OnOk};
 ghost use Rattle.office_texts.specs.Words.{AddsText};
-ghost use Rattle.docket_shifts.specs.Closings.{closing_line, closing_shift, closing_told};
+ghost use Rattle.docket_shifts.specs.Closings.{closing_shift, closing_told, told_line};
 
 use case_numbers::{Cases, push_case_text};
 use docket_rows::{Closure, View};
@@ -22,14 +22,14 @@ fn push_told(text: &mut String, closed: Option<Closure>) -> Result<(), AllocErro
 }
 
 // Adds the line of a case of which the first was told and now the second is; none where both are one.
-fn push_line(
+pub(crate) fn push_told_line(
     text: &mut String,
     cases: &Cases,
     case: u32,
     was: &str,
     is: &str,
 ) -> Result<(), AllocError>
-    ensures { OnOk result (AddsText text.old text.new (closing_line cases.now.named case was.now is.now)) }
+    ensures { OnOk result (AddsText text.old text.new (told_line cases.now.named case was.now is.now)) }
 {
     if was == is {
         return Ok(());
@@ -48,13 +48,13 @@ fn push_both(
     was: Option<Closure>,
     is: Option<Closure>,
 ) -> Result<(), AllocError>
-    ensures { OnOk result (AddsText text.old text.new (closing_line cases.now.named case (closing_told was) (closing_told is))) }
+    ensures { OnOk result (AddsText text.old text.new (told_line cases.now.named case (closing_told was) (closing_told is))) }
 {
     let mut before = String::new(alloc);
     push_told(&mut before, was)?;
     let mut after = String::new(alloc);
     push_told(&mut after, is)?;
-    push_line(text, cases, case, before.as_str(), after.as_str())
+    push_told_line(text, cases, case, before.as_str(), after.as_str())
 }
 
 /// Adds the line of a case that is closed otherwise by the second of two sheets than by the first, where it is open by both. `Err` says

@@ -9,6 +9,7 @@ ghost use Rattle.docket_shifts.specs.Compared.{rows_shown};
 ghost use Rattle.docket_shifts.specs.Sheets.{ends_in, hearings_in};
 ghost use Rattle.docket_shifts.specs.Shifts.{case_shifts, kept_line, lines_of, new_line, sheet_shifts, shifts, shifts_from};
 
+use crate::assignments::push_assignment;
 use crate::closings::push_closing;
 use crate::compared::Compared;
 use crate::filed::push_filed;
@@ -172,6 +173,16 @@ fn push_sheets(
         filed_in(is),
     )?;
     push_closing(alloc, text, after.cases, case, was, is)?;
+    push_assignment(
+        alloc,
+        text,
+        before.court,
+        after.court,
+        after.cases,
+        case,
+        was,
+        is,
+    )?;
     push_ends(alloc, text, before, after, case, was, is)?;
     push_hearings(alloc, text, before, after, case, was, is)
 }
@@ -219,9 +230,9 @@ fn push_cases(
     Ok(())
 }
 
-/// Adds a line for each case that is open before or after alone, for each deadline that ends otherwise after than before and for each
-/// motion that is heard or ruled on otherwise, with both: by the cases, and in each first what there was before, in its order, then what
-/// is new. `Err` says that memory ran out.
+/// Adds a line for each case that is open before or after alone, or is closed or assigned otherwise, for each deadline that ends otherwise
+/// after than before and for each motion that is heard or ruled on otherwise, with both: by the cases, and in each first what there was
+/// before, in its order, then what is new. `Err` says that memory ran out.
 pub fn push_shifts(
     alloc: Global,
     text: &mut String,

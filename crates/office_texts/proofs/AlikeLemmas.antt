@@ -9,6 +9,7 @@ use Rattle.rule6.specs.declared.timeliness.Shown.TheVariants as shown
 use Rattle.hearing_slots.specs.declared.booking.Booking.{Booking}
 use Rattle.docket_rows.specs.declared.answer.Answer.{Answer}
 use Rattle.docket_rows.specs.declared.answer.Answer.TheVariants.{Started, Filed, Extended, Resumed, Reset}
+use Rattle.docket_rows.specs.declared.fact.Assignment.{Assignment}
 use Rattle.docket_rows.specs.declared.sheet.Sheet.{Sheet}
 use Rattle.docket_rows.specs.declared.sheet.SheetDeadline.{SheetDeadline}
 use Rattle.docket_rows.specs.declared.sheet.SheetHearing.{SheetHearing}
@@ -18,7 +19,7 @@ use Rattle.docket_rows.specs.declared.view.View.TheVariants as view
 use Rattle.office_texts.specs.Answers.{answer_text}
 use Rattle.office_texts.specs.Calendars.{booking_line, booking_lines, calendar_lines}
 use Rattle.office_texts.specs.Periods.{period_text}
-use Rattle.office_texts.specs.Sheets.{and_ruled_text, deadline_line, hearing_line_if_set, hearing_text, motion_lines, need_text, sheet_lines, state_text}
+use Rattle.office_texts.specs.Sheets.{and_ruled_text, assigned_line, deadline_line, hearing_line_if_set, hearing_text, motion_lines, need_text, sheet_lines, state_text}
 use Rattle.office_texts.specs.Shown.{end_text, shown_text}
 use Rattle.office_texts.specs.Views.{view_lines}
 
@@ -79,9 +80,12 @@ module _ (a b : CourtView) (same : IsSameCourt a b) where
   motions_alike [] = refl
   motions_alike (m ∷ ms) = rw (motion_alike m, motions_alike ms) refl
 
+  assigned_alike : (assigned : Option Assignment) → assigned_line a.judges assigned ≡ assigned_line b.judges assigned
+  assigned_alike assigned = ap (λ (names : List (List ℕ)). assigned_line names assigned) same.judges
+
   pub sheet_lines_alike : (s : Sheet) → sheet_lines a s ≡ sheet_lines b s
   unfolding sheet_lines
-  sheet_lines_alike s = rw (deadline_lines_alike a.clock b.clock same.clock s.deadlines, motions_alike s.motions) refl
+  sheet_lines_alike s = rw (assigned_alike s.assigned, deadline_lines_alike a.clock b.clock same.clock s.deadlines, motions_alike s.motions) refl
 
   pub view_lines_alike : (v : View) → view_lines a v ≡ view_lines b v
   unfolding view_lines

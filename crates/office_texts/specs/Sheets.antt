@@ -9,6 +9,7 @@ use Rattle.rule6.specs.declared.timeliness.Means.{Means}
 use Rattle.rule6.specs.declared.timeliness.Means.TheVariants.{Electronic, Paper}
 use Rattle.hearing_slots.specs.declared.need.Need.{Need}
 use Rattle.hearing_slots.specs.declared.need.Need.TheVariants as need
+use Rattle.docket_rows.specs.declared.fact.Assignment.{Assignment}
 use Rattle.docket_rows.specs.declared.fact.Closure.{Closure}
 use Rattle.docket_rows.specs.declared.fact.DatedRuling.{DatedRuling}
 use Rattle.docket_rows.specs.declared.fact.Ending.{Ending}
@@ -107,7 +108,21 @@ and_closed_text (Some c) = codes ", closed " ++ day_text c.dated ++ codes " " ++
 abbrev pub case_line : Sheet → List ℕ
 case_line s = codes "case " ++ decimal s.case ++ codes " filed " ++ day_text s.filed ++ and_closed_text s.closed ++ (10 ∷ [])
 
--- the line of the case, then its deadlines, then its motions
+-- to whom a case is referred after who has it, if it is: `, referred to Cole`
+abbrev pub referred_text : (names : List (List ℕ)) → Option ℕ → List ℕ
+referred_text names None = []
+referred_text names (Some judge) = codes ", referred to " ++ name_of names judge
+
+-- `Ames, referred to Cole`
+abbrev pub assigned_text : (names : List (List ℕ)) → Assignment → List ℕ
+assigned_text names a = name_of names a.judge ++ referred_text names a.referred
+
+-- the line of who has a case, if it was assigned: `assigned Ames, referred to Cole`
+abbrev pub assigned_line : (names : List (List ℕ)) → Option Assignment → List ℕ
+assigned_line names None = []
+assigned_line names (Some a) = codes "assigned " ++ assigned_text names a ++ 10 ∷ []
+
+-- the line of the case, then who has it, then its deadlines, then its motions
 unfoldable pub sheet_lines : CourtView → Sheet → List ℕ
 sheet_lines court s =
-    case_line s ++ flat_map (deadline_line court.clock) s.deadlines ++ flat_map (motion_lines court) s.motions
+    case_line s ++ assigned_line court.judges s.assigned ++ flat_map (deadline_line court.clock) s.deadlines ++ flat_map (motion_lines court) s.motions

@@ -51,6 +51,7 @@ pub fn push_answer(text: &mut String, clock: &Clock, answer: &Answer) -> Result<
             text.push_str("ruled")?;
             push_off(text, *day)
         }
+        Answer::Assigned => text.push_str("assigned"),
         Answer::Resumed(shown) => {
             text.push_str("resumed ")?;
             push_shown(text, clock, shown)

@@ -213,6 +213,18 @@ is_narrowed given = ((is_some (first_of (codes "judge") given) || is_some (first
 abbrev pub lines_alone_faults : List Row → Kinds
 lines_alone_faults given = faults_together (is_flag (first_of (codes "lines") given)) (is_narrowed given)
 
+-- other days are said, or only what is overdue is asked for
+abbrev pub has_other_days : List Row → Bool
+has_other_days given = (is_some (first_of (codes "from") given) || is_some (first_of (codes "to") given)) || is_flag (first_of (codes "overdue") given)
+
+-- so many days from today on, as `--days` says them, don't go with other days
+abbrev pub days_alone_faults : List Row → Kinds
+days_alone_faults given = faults_together (is_some (first_of (codes "days") given)) (has_other_days given)
+
+-- the faults of options that don't go together
+abbrev pub apart_faults : List Row → Kinds
+apart_faults given = or_else (lines_alone_faults given) (days_alone_faults given)
+
 -- The places of a sheet are those of a folder and a case; where an input is given, the first is that of the case.
 abbrev pub sheet_folder : (first second input : Option Text) → Option Text
 sheet_folder first second None = first
@@ -248,6 +260,7 @@ sheet_asked clock_time case = record {
   stamp = None;
   clock_time = clock_time;
   lines = false;
+  overdue = false;
 }
 
 -- ---- the subcommands
@@ -296,7 +309,7 @@ faults_given sub.Cases given = kept_faults given
 faults_given sub.Check given = faults_without (first_of (codes "folder") given)
 faults_given sub.Rows given = kept_faults given
 faults_given sub.Log given = or_else (faults_without (first_of (codes "folder") given)) (log_faults given)
-faults_given sub.Report given = or_else (report_source_faults given) (or_else (lines_alone_faults given) (report_faults given))
+faults_given sub.Report given = or_else (report_source_faults given) (or_else (apart_faults given) (report_faults given))
 faults_given sub.Memo given = or_else (report_source_faults given) (memo_faults given)
 faults_given sub.Sheet given = or_else (sheet_source_faults given) (faults_reading case_called (case_given given))
 faults_given sub.Court given = MissingRequiredArgument ∷ []

@@ -53,6 +53,11 @@ full_lines (Inaccessible day from to) = ours_line (codes "the docket has 512 out
 full_lines (Fact case fact) = ours_line (codes "a case has 512 such rows at most")
 full_lines command = []
 
+-- who is named twice: a judge of a panel, or the judge to whom a case is referred
+abbrev pub panel_words : Command → List ℕ
+panel_words (Fact case fact) = codes "the case is referred to the judge who has it"
+panel_words command = codes "a panel is one to three judges, each once"
+
 -- a kind of service is given and none is taken, or one is taken and none given
 abbrev pub kind_words : Option ServiceKind → List ℕ
 kind_words (Some kind) = codes "this period takes no kind of service"
@@ -106,7 +111,7 @@ range_lines c command called motion NotSet = ours_line (codes "the motion has no
 range_lines c command called motion AlreadyHoliday = listed_lines command
 range_lines c command called motion NoSuchJudge = ours_line (codes "the court's file names no such judge")
 range_lines c command called motion NoSuchRoom = ours_line (codes "the court's file names no such room")
-range_lines c command called motion BadPanel = ours_line (codes "a panel is one to three judges, each once")
+range_lines c command called motion BadPanel = ours_line (panel_words command)
 range_lines c command called motion CaseIsClosed = ours_line (codes "the case is closed; `reopen` opens it again")
 range_lines c command called motion NotClosed = ours_line (codes "the case isn't closed; `close` closes one")
 range_lines c command called motion AlreadyEnded = ours_line (codes "the deadline is ended; `resume` takes it up again")

@@ -17,7 +17,8 @@ use Rattle.rule_periods.specs.declared.period.Entered.{Entered}
 use Rattle.rule_periods.specs.Words.{DeadlineRowView, EventView}
 use Rattle.hearing_slots.specs.declared.booking.Booking.{Booking}
 use Rattle.docket_rows.specs.declared.answer.Answer.{Answer}
-use Rattle.docket_rows.specs.declared.answer.Answer.TheVariants.{Opened, Started, Filed, Extended, Reset, MotionEntered, Booked, Moved, Cancelled, HolidayEntered, OutageEntered, Ended, Resumed, Closed, Reopened, Ruled, Refused}
+use Rattle.docket_rows.specs.declared.answer.Answer.TheVariants.{Opened, Started, Filed, Extended, Reset, MotionEntered, Booked, Moved, Cancelled, HolidayEntered, OutageEntered, Ended, Resumed, Closed, Reopened, Ruled, Assigned, Refused}
+use Rattle.docket_rows.specs.declared.fact.Assignment.{Assignment}
 use Rattle.docket_rows.specs.declared.fact.Closure.{Closure}
 use Rattle.docket_rows.specs.declared.fact.DatedRuling.{DatedRuling}
 use Rattle.docket_rows.specs.declared.fact.Ending.{Ending}
@@ -54,7 +55,7 @@ use Rattle.report_json.specs.Motions.{heard_fields, hearing_fields, hearing_valu
 use Rattle.report_json.specs.Names.{judges_value, name_value, names_from}
 use Rattle.report_json.specs.Periods.{code_of, day_of_grant, days_of_grant, days_of_length, entered_fields, entered_of, entered_value, extension_fields, grant_fields, grant_value, hours_of_grant, hours_of_length, order_fields, service_value}
 use Rattle.report_json.specs.Reasons.{case_value, explained_fields, explained_sheet_fields, explained_value, instant_shown, reason_fields, reason_value, reason_values, why_fields}
-use Rattle.report_json.specs.Sheets.{closed_fields, lists_docketed, sheet_docketed, sheet_fields, sheet_value, sheet_with}
+use Rattle.report_json.specs.Sheets.{assigned_fields, closed_fields, lists_docketed, sheet_docketed, sheet_fields, sheet_value, sheet_with, standing_fields}
 use Rattle.report_json.specs.Times.{day_value, happened_fields, instant_value}
 use Rattle.report_json.specs.Values.{amount, field, or_null}
 use Rattle.report_json.proofs.DepthLemmas.{AllWithin, FieldsWithin, append_within, array_within, deeper_within, happened_within, instant_within, list_within, name_within, nullable, object_within, span_within}
@@ -160,21 +161,33 @@ closed_within : (n : ℕ) (closed : Option Closure) → FieldsWithin n (closed_f
 closed_within n (Some c) = (omega arith, (omega arith, tt))
 closed_within n None = tt
 
+assigned_within : (n : ℕ) (court : CourtView) (assigned : Option Assignment) → FieldsWithin n (assigned_fields court assigned)
+assigned_within n court (Some a) =
+    let judge = nullable string n (λ _. omega arith) (slice_get court.judges a.judge) in
+    let referred = nullable (name_value court.judges) n (λ j. nullable string n (λ _. omega arith) (slice_get court.judges j)) a.referred in
+    (omega arith, (judge, (referred, tt)))
+assigned_within n court None = tt
+
+standing_within : (n : ℕ) (court : CourtView) (closed : Option Closure) (assigned : Option Assignment) → FieldsWithin n (standing_fields court closed assigned)
+unfolding standing_fields
+standing_within n court closed assigned =
+    append_within n (closed_fields closed) (assigned_fields court assigned) (closed_within n closed) (assigned_within n court assigned)
+
 lists_within : {D : Type 0} (value : D → Json) → ((d : D) → depth (value d) ≤ 3) → (court : CourtView) (deadlines : List D) (motions : List SheetMotion) → FieldsWithin 4 (lists_docketed value court deadlines motions)
 unfolding lists_docketed
 lists_within value within court deadlines motions = (array_within value 3 within deadlines, (array_within _ 3 (motion_within court) motions, tt))
 
-sheet_with_within : {D : Type 0} (value : D → Json) → ((d : D) → depth (value d) ≤ 3) → (court : CourtView) (named : List NamedCase) (case : ℕ) (filed : ℤ) (closed : Option Closure) (deadlines : List D) (motions : List SheetMotion)
-    → FieldsWithin 4 (sheet_with value court named case filed closed deadlines motions)
+sheet_with_within : {D : Type 0} (value : D → Json) → ((d : D) → depth (value d) ≤ 3) → (court : CourtView) (named : List NamedCase) (case : ℕ) (filed : ℤ) (closed : Option Closure) (assigned : Option Assignment) (deadlines : List D) (motions : List SheetMotion)
+    → FieldsWithin 4 (sheet_with value court named case filed closed assigned deadlines motions)
 unfolding sheet_docketed
-sheet_with_within value within court named case filed closed deadlines motions =
-    append_within 4 (case_fields named case) (sheet_docketed value court filed closed deadlines motions) (named_within 4 named case)
-    (omega arith, append_within 4 (closed_fields closed) (lists_docketed value court deadlines motions) (closed_within 4 closed) (lists_within value within court deadlines motions))
+sheet_with_within value within court named case filed closed assigned deadlines motions =
+    append_within 4 (case_fields named case) (sheet_docketed value court filed closed assigned deadlines motions) (named_within 4 named case)
+    (omega arith, append_within 4 (standing_fields court closed assigned) (lists_docketed value court deadlines motions) (standing_within 4 court closed assigned) (lists_within value within court deadlines motions))
 
 sheet_within : (court : CourtView) (named : List NamedCase) (s : Sheet) → depth (sheet_value court named s) ≤ 5
 unfolding sheet_value
 sheet_within court named s =
-    object_within 4 (sheet_fields court named s) (sheet_with_within (deadline_value court.clock.zone) (deadline_within court.clock.zone) court named s.case s.filed s.closed s.deadlines s.motions)
+    object_within 4 (sheet_fields court named s) (sheet_with_within (deadline_value court.clock.zone) (deadline_within court.clock.zone) court named s.case s.filed s.closed s.assigned s.deadlines s.motions)
 
 reason_within : (clock : ClockView) (course : Course) (r : Reason) → depth (reason_value clock course r) ≤ 1
 unfolding reason_value
@@ -197,7 +210,7 @@ explained_within clock e =
 case_within : (court : CourtView) (named : List NamedCase) (e : ExplainedSheet) → depth (case_value court named e) ≤ 5
 unfolding case_value
 case_within court named e =
-    object_within 4 (explained_sheet_fields court named e) (sheet_with_within (explained_value court.clock) (explained_within court.clock) court named e.case e.filed e.closed e.deadlines.items e.motions)
+    object_within 4 (explained_sheet_fields court named e) (sheet_with_within (explained_value court.clock) (explained_within court.clock) court named e.case e.filed e.closed e.assigned e.deadlines.items e.motions)
 
 booking_within : (court : CourtView) (named : List NamedCase) (b : Booking) → depth (booking_value court named b) ≤ 1
 unfolding booking_value booked_fields
@@ -243,6 +256,7 @@ answer_within zone named Ended = (zero_five, tt)
 answer_within zone named Closed = (zero_five, tt)
 answer_within zone named Reopened = (zero_five, tt)
 answer_within zone named (Ruled off) = (zero_five, (nullable day_value 5 (λ _. zero_five) off, tt))
+answer_within zone named Assigned = (zero_five, tt)
 answer_within zone named (Resumed end) = (zero_five, shown_deep zone end)
 answer_within zone named (Refused refusal) = (zero_five, (refusal_deep named refusal, tt))
 

@@ -57,7 +57,7 @@ explained_value clock e = object_of (explained_fields clock e)
 
 -- a case, with the reasons of each of its deadlines
 abbrev pub explained_sheet_fields : CourtView → List NamedCase → ExplainedSheet → List Field
-explained_sheet_fields court named e = sheet_with (explained_value court.clock) court named e.case e.filed e.closed e.deadlines.items e.motions
+explained_sheet_fields court named e = sheet_with (explained_value court.clock) court named e.case e.filed e.closed e.assigned e.deadlines.items e.motions
 
 unfoldable pub case_value : CourtView → List NamedCase → ExplainedSheet → Json
 case_value court named e = object_of (explained_sheet_fields court named e)

@@ -131,6 +131,7 @@ fn push_answer(
             push_kind(out, "ruled")?;
             out.field(court, labels, "hearing_cancelled", off)
         }
+        Answer::Assigned => push_kind(out, "assigned"),
         Answer::Resumed(shown) => {
             push_kind(out, "resumed")?;
             shown.write_fields(out, court, labels)

@@ -175,6 +175,7 @@ impl ToFields for ExplainedSheet {
             self.case,
             self.filed,
             self.closed,
+            self.assigned,
             self.deadlines.as_slice(),
             self.motions.as_slice(),
         )

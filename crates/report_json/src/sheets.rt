@@ -1,14 +1,16 @@
 //! The sheets of cases.
 
-ghost use Rattle.std.specs.Prelude.{OnOk};
-ghost use Rattle.report_json.specs.Sheets.{closed_fields, lists_docketed, sheet_docketed, sheet_with};
-ghost use Rattle.report_json.specs.Values.{AddsFields};
+ghost use Rattle.std.specs.Prelude.{[], ◌∷◌, OnOk, codes};
+ghost use Rattle.report_json.specs.Names.{name_value};
+ghost use Rattle.report_json.specs.Sheets.{assigned_fields, closed_fields, lists_docketed, sheet_docketed, sheet_with, standing_fields};
+ghost use Rattle.report_json.specs.Values.{AddsFields, field, or_null};
 
+use crate::names::push_name;
 use crate::to_json::{ToFields, ToJson};
 use crate::writer::JsonWriter;
 use court_clock::Day;
 use court_days::Court;
-use docket_rows::{Closure, Sheet, SheetMotion};
+use docket_rows::{Assignment, Closure, Sheet, SheetMotion};
 use report_texts::Labels;
 use std::alloc::AllocError;
 
@@ -21,16 +23,19 @@ pub(crate) fn push_sheet<D: ToJson>(
     case: u32,
     filed: Day,
     closed: Option<Closure>,
+    assigned: Option<Assignment>,
     deadlines: &[D],
     motions: &[SheetMotion],
 ) -> Result<(), AllocError>
-    ensures { OnOk result (AddsFields out.old out.new (sheet_with (D.value court.now labels.now.cases) court.now labels.now.cases case filed closed deadlines.now motions.now)) }
+    ensures { OnOk result (AddsFields out.old out.new (sheet_with (D.value court.now labels.now.cases) court.now labels.now.cases case filed closed assigned deadlines.now motions.now)) }
 {
     out.case_fields(court, labels, case)?;
-    push_docketed(out, court, labels, filed, closed, deadlines, motions)
+    push_docketed(
+        out, court, labels, filed, closed, assigned, deadlines, motions,
+    )
 }
 
-/// Writes when a case was filed, how it was closed, its deadlines and its motions.
+/// Writes when a case was filed, how it stands, its deadlines and its motions.
 #[tactic(auto, unfolding(crate::specs::Sheets::sheet_docketed), using(crate::proofs::TokenLemmas::more_fields))]
 fn push_docketed<D: ToJson>(
     out: &mut JsonWriter,
@@ -38,14 +43,30 @@ fn push_docketed<D: ToJson>(
     labels: &Labels<'_>,
     filed: Day,
     closed: Option<Closure>,
+    assigned: Option<Assignment>,
     deadlines: &[D],
     motions: &[SheetMotion],
 ) -> Result<(), AllocError>
-    ensures { OnOk result (AddsFields out.old out.new (sheet_docketed (D.value court.now labels.now.cases) court.now filed closed deadlines.now motions.now)) }
+    ensures { OnOk result (AddsFields out.old out.new (sheet_docketed (D.value court.now labels.now.cases) court.now filed closed assigned deadlines.now motions.now)) }
 {
     out.field(court, labels, "filed", &filed)?;
-    push_closed(out, court, labels, closed)?;
+    push_standing(out, court, labels, closed, assigned)?;
     push_lists(out, court, labels, deadlines, motions)
+}
+
+/// Writes how a case stands: how it was closed, and who has it.
+#[tactic(auto, unfolding(crate::specs::Sheets::standing_fields), using(crate::proofs::TokenLemmas::more_fields))]
+fn push_standing(
+    out: &mut JsonWriter,
+    court: &Court,
+    labels: &Labels<'_>,
+    closed: Option<Closure>,
+    assigned: Option<Assignment>,
+) -> Result<(), AllocError>
+    ensures { OnOk result (AddsFields out.old out.new (standing_fields court.now closed assigned)) }
+{
+    push_closed(out, court, labels, closed)?;
+    push_assigned(out, court, labels, assigned)
 }
 
 /// Writes since when a case is closed, and how, if it is.
@@ -63,6 +84,41 @@ fn push_closed(
             out.text_field("closing", why.word())
         }
         None => Ok(()),
+    }
+}
+
+/// Writes since when a case is assigned, who has it, and to whom it is referred, if it is assigned.
+fn push_assigned(
+    out: &mut JsonWriter,
+    court: &Court,
+    labels: &Labels<'_>,
+    assigned: Option<Assignment>,
+) -> Result<(), AllocError>
+    ensures { OnOk result (AddsFields out.old out.new (assigned_fields court.now assigned)) }
+{
+    match assigned {
+        Some(assignment) => {
+            out.field(court, labels, "assigned", &assignment.dated)?;
+            out.text_if_any("judge", court.judge_name(assignment.judge))?;
+            push_referred(out, court, assignment.referred)
+        }
+        None => Ok(()),
+    }
+}
+
+/// Writes to whom a case is referred, or `null` where it is to nobody.
+#[tactic(auto, unfolding(crate::specs::Values::field_tokens))]
+fn push_referred(
+    out: &mut JsonWriter,
+    court: &Court,
+    referred: Option<u8>,
+) -> Result<(), AllocError>
+    ensures { OnOk result (AddsFields out.old out.new (field (codes "referred") (or_null (name_value court.now.judges) referred) ∷ [])) }
+{
+    out.key("referred")?;
+    match referred {
+        Some(judge) => push_name(out, court.judge_name(judge)),
+        None => out.null(),
     }
 }
 
@@ -99,6 +155,7 @@ impl ToFields for Sheet {
             self.case,
             self.filed,
             self.closed,
+            self.assigned,
             self.deadlines.as_slice(),
             self.motions.as_slice(),
         )

@@ -38,6 +38,7 @@ made_same setup docketed (command.Fact case (fact.Resumed deadline dated)) None 
 made_same setup docketed (command.Fact case (fact.Closed why dated)) None is none = rw is refl
 made_same setup docketed (command.Fact case (fact.Reopened dated)) None is none = rw is refl
 made_same setup docketed (command.Fact case (fact.Ruled motion how dated)) None is none = rw is refl
+made_same setup docketed (command.Fact case (fact.Assigned judge referred dated)) None is none = rw is refl
 
 same_days : (setup : CourtSetup) (docketed : Rows) (work : Work) → changes_days (reply_to setup docketed work) ≡ false → (docketed_then setup docketed work).days ≡ docketed.days
 unfolding step

@@ -1,6 +1,7 @@
 -- A sheet with the reasons of its deadlines.
 use Rattle.std.specs.Prelude.{ℕ, ℤ, List, [], ◌++◌, Option, Some, None}
 use Rattle.std.specs.List.{flat_map}
+use Rattle.case_numbers.specs.declared.names.NamedCase.{NamedCase}
 use Rattle.court_clock.specs.Words.{ClockView}
 use Rattle.court_days.specs.Words.{CourtView, DaysView}
 use Rattle.docket_rows.specs.declared.fact.Ending.{Ending}
@@ -13,7 +14,7 @@ use Rattle.docket_rows.specs.declared.sheet.State.TheVariants.{Pending}
 use Rattle.docket_rows.specs.declared.view.View.{View}
 use Rattle.docket_rows.specs.declared.view.View.TheVariants as view
 use Rattle.rule6.specs.declared.timeliness.Shown.{Shown}
-use Rattle.office_texts.specs.Words.{deadline_line, motion_lines}
+use Rattle.office_texts.specs.Words.{assigned_line, deadline_line, motion_lines}
 use Rattle.office_texts.specs.Named.Words.{named_case_line}
 use Rattle.reason_notes.specs.Readings.Words.{DaysByReadingView}
 use Rattle.reason_notes.specs.Margins.Words.{ahead_line, recorded_lines}
@@ -66,10 +67,14 @@ abbrev pub motions_text : CourtView → DaysView → Detail → List SheetMotion
 motions_text court days Reasons motions = flat_map (motion_lines court) motions
 motions_text court days (Whole today sources) motions = flat_map (whole_motion court days) motions
 
--- the line of the case, then its deadlines, each with its reasons, then its motions
+-- the line of the case, and then that of who has it
+unfoldable pub case_lines : CourtView → List NamedCase → Sheet → List ℕ
+case_lines court named sheet = named_case_line named sheet ++ assigned_line court.judges sheet.assigned
+
+-- the lines of the case, then its deadlines, each with its reasons, then its motions
 abbrev pub IsSheet : CourtView → LabelsView → DaysByReadingView → Detail → Sheet → List ℕ → Type 0
 IsSheet court labels days detail sheet =
-    Then (Is (named_case_line labels.cases sheet)) (Then (Each (IsDeadline court labels days sheet.filed detail) sheet.deadlines) (Is (motions_text court days.here detail sheet.motions)))
+    Then (Is (case_lines court labels.cases sheet)) (Then (Each (IsDeadline court labels days sheet.filed detail) sheet.deadlines) (Is (motions_text court days.here detail sheet.motions)))
 
 -- a case that isn't open shows none
 abbrev pub IsSheetShown : CourtView → LabelsView → DaysByReadingView → View → List ℕ → Type 0

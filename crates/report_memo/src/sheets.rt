@@ -4,7 +4,7 @@ ghost use Rattle.std.specs.Prelude.{◌≡◌, ◌+◌, ◌++◌, ◌≤◌, OnO
 ghost use Rattle.docket_rows.specs.Words.{Rows, setup_of};
 ghost use Rattle.office_texts.specs.Run.Words.{Holds};
 ghost use Rattle.report_memo.specs.Memo.{AreSheets};
-ghost use Rattle.report_memo.specs.Sheets.{IsDeadline, IsSheet, IsSheetShown, first_lines};
+ghost use Rattle.report_memo.specs.Sheets.{IsDeadline, IsSheet, IsSheetShown, case_lines, first_lines};
 ghost use Rattle.report_memo.specs.Texts.{Each, Pushes};
 
 use crate::detail::Detail;
@@ -15,7 +15,7 @@ use court_clock::Day;
 use court_days::Court;
 use docket_core::Docket;
 use docket_rows::{Query, Sheet, SheetDeadline, View};
-use office_texts::{push_case_line, push_deadline};
+use office_texts::{push_assigned_line, push_case_line, push_deadline};
 use reason_notes::DaysByReading;
 use report_texts::Labels;
 use std::alloc::{AllocError, Global};
@@ -33,7 +33,7 @@ pub(crate) fn push_sheet(
 ) -> Result<(), AllocError>
     ensures { Pushes (IsSheet court.now labels.now days.now detail.now sheet.now) result text.old text.new }
 {
-    push_case_line(text, labels.cases, sheet)?;
+    push_case_lines(text, court, labels, sheet)?;
     push_deadlines(
         alloc,
         text,
@@ -45,6 +45,20 @@ pub(crate) fn push_sheet(
         sheet.deadlines.as_slice(),
     )?;
     push_all_motions(text, court, days.here(), detail, sheet.motions.as_slice())
+}
+
+/// Adds the line of the case, and that of who has it.
+#[tactic(auto, unfolding(crate::specs::Sheets::case_lines))]
+fn push_case_lines(
+    text: &mut String,
+    court: &Court,
+    labels: &Labels<'_>,
+    sheet: &Sheet,
+) -> Result<(), AllocError>
+    ensures { OnOk result (string_bytes text.new ≡ string_bytes text.old ++ case_lines court.now labels.now.cases sheet.now) }
+{
+    push_case_line(text, labels.cases, sheet)?;
+    push_assigned_line(text, court, sheet.assigned)
 }
 
 /// Adds the line of each deadline, its reasons, and what comes before and after them.

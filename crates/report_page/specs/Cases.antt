@@ -8,6 +8,7 @@ use Rattle.court_clock.specs.Words.{ClockView}
 use Rattle.court_days.specs.Words.{CourtView, DaysView}
 use Rattle.rule6.specs.declared.timeliness.Shown.{Shown}
 use Rattle.rule_periods.specs.Words.{DeadlineRowView}
+use Rattle.docket_rows.specs.declared.fact.Assignment.{Assignment}
 use Rattle.docket_rows.specs.declared.fact.Closure.{Closure}
 use Rattle.docket_rows.specs.declared.fact.DatedRuling.{DatedRuling}
 use Rattle.docket_rows.specs.declared.sheet.SheetDeadline.{SheetDeadline}
@@ -18,6 +19,7 @@ use Rattle.deadline_reasons.specs.declared.reason.Reason.{Reason}
 use Rattle.reason_texts.specs.Words.{course_of, reason_lines}
 use Rattle.reason_texts.specs.Periods.Words.{heading_lines}
 use Rattle.reason_notes.specs.Readings.Words.{DaysByReadingView, days_by_reading, reading_lines}
+use Rattle.office_texts.specs.Words.{assigned_text}
 use Rattle.page_markup.specs.declared.tag.Tag.TheVariants as tag
 use Rattle.page_markup.specs.Words.{element, text_in}
 use Rattle.report_texts.specs.Words.{LabelsView, period_words, reading_words, whole_day}
@@ -105,19 +107,24 @@ motion_table court named case (m ∷ motions) =
 unfoldable pub case_title : List NamedCase → (case : ℕ) → List ℕ
 case_title named case = codes "Case " ++ case_text named case
 
+-- `, assigned Mon 2025-09-15 to Ames, referred to Cole`, if the case is assigned
+abbrev pub assigned_words : (names : List (List ℕ)) → Option Assignment → List ℕ
+assigned_words names None = []
+assigned_words names (Some a) = codes ", assigned " ++ whole_day a.dated ++ codes " to " ++ assigned_text names a
+
 -- `, closed Mon 2025-11-03 settled`, if the case is closed
 abbrev pub closed_words : Option Closure → List ℕ
 closed_words None = []
 closed_words (Some c) = codes ", closed " ++ whole_day c.dated ++ codes " " ++ closing_word c.why
 
 -- `Filed Mon 2025-03-03`
-unfoldable pub filed_words : (filed : ℤ) → Option Closure → List ℕ
-filed_words filed closed = codes "Filed " ++ whole_day filed ++ closed_words closed
+unfoldable pub filed_words : (names : List (List ℕ)) → (filed : ℤ) → Option Assignment → Option Closure → List ℕ
+filed_words names filed assigned closed = codes "Filed " ++ whole_day filed ++ assigned_words names assigned ++ closed_words closed
 
 -- the sheet of a case
 unfoldable pub case_part : CourtView → DaysByReadingView → LabelsView → ExplainedSheet → List ℕ
 case_part court days labels s =
-    element (tag.CaseSection s.case) (text_in tag.Heading3 (case_title labels.cases s.case) ++ text_in tag.Paragraph (filed_words s.filed s.closed) ++ deadline_table days court.clock labels s.case s.deadlines.items ++ motion_table court labels.cases s.case s.motions)
+    element (tag.CaseSection s.case) (text_in tag.Heading3 (case_title labels.cases s.case) ++ text_in tag.Paragraph (filed_words court.judges s.filed s.assigned s.closed) ++ deadline_table days court.clock labels s.case s.deadlines.items ++ motion_table court labels.cases s.case s.motions)
 
 -- a part for each case, or that there is none
 abbrev pub case_parts : CourtView → DaysByReadingView → LabelsView → List ExplainedSheet → List ℕ

@@ -1,5 +1,5 @@
 -- What is written of a docket after all its rows.
-use Rattle.std.specs.Prelude.{◌≡◌, ℕ, ℤ, List, [], ◌++◌, Option, Some, None, codes, length, map, string_bytes, IsErrAnd, IsOkAnd, IsSome}
+use Rattle.std.specs.Prelude.{◌≡◌, ℕ, ℤ, true, List, [], ◌++◌, Option, Some, None, codes, length, map, string_bytes, IsErrAnd, IsOkAnd, IsSome}
 use Rattle.std.specs.declared.alloc.Global.{Global}
 use Rattle.std.specs.Prelude.{String}
 use Rattle.office_texts.specs.Names.Words.{called_text}
@@ -67,9 +67,9 @@ pub record IsPage (court : CourtView) (labels : LabelsView) (docketed : Rows) (c
   pub explained : AreExplained docketed.days court.clock labels.doubtful (map (numbered_sheet labels.moved) (chosen_sheets (setup_of court) docketed choice)) sheets
   pub page : text ≡ page_text court docketed.days labels choice list (map (numbered_calendar labels.moved) (chosen_calendars (setup_of court) docketed choice)) sheets
 
--- the same, of any judge
-abbrev pub of_any_judge : Choice → Choice
-of_any_judge choice = record choice { judge = None }
+-- the same, of the cases that aren't before the judge
+abbrev pub of_other_cases : Choice → Choice
+of_other_cases choice = record choice { elsewhere = true }
 
 -- The text of a calendar: an event for each item of the list of what is chosen, for each deadline and each chosen hearing that is off
 -- by the changes that were made, as the chosen judge saw them, and for each chosen deadline that no row starts any more.
@@ -77,7 +77,7 @@ pub record IsIcsText (court : CourtView) (labels : LabelsView) (docketed : Rows)
   pub items : List DueItem
   pub chosen : IsDue (setup_of court) docketed labels.doubtful choice items
   pub others : List DueItem
-  pub of_any : IsSome choice.judge → IsDue (setup_of court) docketed labels.doubtful (of_any_judge choice) others
+  pub of_others : IsSome choice.judge → IsDue (setup_of court) docketed labels.doubtful (of_other_cases choice) others
   pub lines : text ≡ icalendar_text court labels.cases stamp (map (numbered_appointment labels.moved corrections) (appointments_of choice (record { judge = choice.judge; changes = changes }) items others lost))
   pub short : HasShortLines text
 

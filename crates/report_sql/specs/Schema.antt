@@ -4,11 +4,11 @@ use Rattle.std.specs.List.{list_any}
 use Rattle.case_numbers.specs.declared.names.NamedCase.{NamedCase}
 use Rattle.docket_rows.specs.declared.command.Command.TheVariants as command
 use Rattle.docket_rows.specs.declared.fact.Fact.{Fact}
-use Rattle.docket_rows.specs.declared.fact.Fact.TheVariants.{Ruled}
+use Rattle.docket_rows.specs.declared.fact.Fact.TheVariants.{Ruled, Assigned}
 use Rattle.row_forms.specs.declared.numbered.NumberedRow.{NumberedRow}
 use Rattle.row_forms.specs.declared.row.Work.{Work}
 use Rattle.row_forms.specs.declared.row.Work.TheVariants.{Command}
-use Rattle.report_sql.specs.declared.schema.TheConstants.{NUMBERED_CASES, NAMED_CASES, DEADLINES, GRANTS, RESETS, MOTIONS, HEARINGS, PANELS, OUTAGES, CLOSINGS, ENDINGS, RULINGS, ANSWERS, DESK_ANSWERS}
+use Rattle.report_sql.specs.declared.schema.TheConstants.{NUMBERED_CASES, NAMED_CASES, DEADLINES, GRANTS, RESETS, MOTIONS, HEARINGS, PANELS, OUTAGES, CLOSINGS, ASSIGNMENTS, ENDINGS, RULINGS, ANSWERS, DESK_ANSWERS}
 
 -- a table of names where the court's file has names
 abbrev pub cases_table : List NamedCase → List ℕ
@@ -35,6 +35,14 @@ is_ruling other = false
 abbrev pub have_rulings : List NumberedRow → Bool
 have_rulings rows = list_any (λ (n : NumberedRow). is_ruling n.row.work) rows
 
+-- a row assigns a case, and so do some of these
+abbrev pub is_assignment : Work → Bool
+is_assignment (Command (command.Fact case (Assigned judge referred dated))) = true
+is_assignment other = false
+
+abbrev pub have_assignments : List NumberedRow → Bool
+have_assignments rows = list_any (λ (n : NumberedRow). is_assignment n.row.work) rows
+
 -- tables of the cases that are closed and of the deadlines that are due no more, where rows record facts of cases; such rows may be
 -- refused with further numbers
 abbrev pub closings_table : (facts : Bool) → List ℕ
@@ -47,11 +55,15 @@ endings_table facts = if facts then ENDINGS.now else []
 abbrev pub rulings_table : (rulings : Bool) → List ℕ
 rulings_table rulings = if rulings then RULINGS.now else []
 
+-- a table of who has cases, where rows assign some
+abbrev pub assignments_table : (assignments : Bool) → List ℕ
+assignments_table assignments = if assignments then ASSIGNMENTS.now else []
+
 abbrev pub answers_table : (facts : Bool) → List ℕ
 answers_table facts = if facts then DESK_ANSWERS.now else ANSWERS.now
 
-unfoldable pub tables : List NamedCase → (facts rulings : Bool) → List ℕ
-tables named facts rulings =
+unfoldable pub tables : List NamedCase → (facts rulings assignments : Bool) → List ℕ
+tables named facts rulings assignments =
     cases_table named
     ++ DEADLINES.now
     ++ GRANTS.now
@@ -61,6 +73,7 @@ tables named facts rulings =
     ++ PANELS.now
     ++ OUTAGES.now
     ++ closings_table facts
+    ++ assignments_table assignments
     ++ endings_table facts
     ++ rulings_table rulings
     ++ answers_table facts

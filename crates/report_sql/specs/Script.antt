@@ -14,10 +14,11 @@ use Rattle.office_texts.specs.Run.Words.{docketed_after}
 use Rattle.report_texts.specs.Words.{LabelsView}
 use Rattle.desk_numbers.specs.Words.{numbered_sheet}
 use Rattle.report_sql.specs.Answers.{answer_rows}
+use Rattle.report_sql.specs.Assignments.{assignment_row_if_any}
 use Rattle.report_sql.specs.Deadlines.{deadline_rows}
 use Rattle.report_sql.specs.Hearings.{motion_rows}
 use Rattle.report_sql.specs.Rows.{SqlValue, numbered, or_null, row_of, text}
-use Rattle.report_sql.specs.Schema.{have_facts, have_rulings, tables}
+use Rattle.report_sql.specs.Schema.{have_assignments, have_facts, have_rulings, tables}
 use Rattle.report_sql.specs.Times.{day_value, minute_value}
 
 -- the name of a case, where the court's file has names: NULL where the case has none
@@ -37,7 +38,9 @@ closing_row_if_any case (Some c) = closing_row case c
 closing_row_if_any case None = []
 
 unfoldable pub sheet_rows : CourtView → List NamedCase → Sheet → List ℕ
-sheet_rows court named s = case_row named s ++ closing_row_if_any s.case s.closed ++ flat_map (deadline_rows court.clock s.case) s.deadlines ++ flat_map (motion_rows court s.case) s.motions
+sheet_rows court named s =
+    case_row named s ++ closing_row_if_any s.case s.closed ++ assignment_row_if_any court s.case s.assigned
+    ++ flat_map (deadline_rows court.clock s.case) s.deadlines ++ flat_map (motion_rows court s.case) s.motions
 
 -- an outage, by its number, counted from 1 in the order in which they were entered
 unfoldable pub outage_row : (place : ℕ) → OutageView → List ℕ
@@ -60,7 +63,7 @@ unfoldable pub script_text : CourtView → LabelsView → List NumberedRow → L
 script_text court labels rows =
     let opening = opening_rows (setup_of court) in
     transaction_front
-    ++ tables labels.cases (have_facts rows) (have_rulings rows)
+    ++ tables labels.cases (have_facts rows) (have_rulings rows) (have_assignments rows)
     ++ answer_rows court labels opening rows
     ++ docketed_text court labels (docketed_after (setup_of court) opening (rows_of rows))
     ++ transaction_end

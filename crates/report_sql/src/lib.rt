@@ -3,6 +3,7 @@
 #![tactic(auto)]
 
 mod answers;
+mod assignments;
 mod deadlines;
 mod document;
 mod hearings;

@@ -1,7 +1,7 @@
 //! The tables.
 
 ghost use Rattle.std.specs.Prelude.{◌≡◌, ◌++◌, OnOk};
-ghost use Rattle.report_sql.specs.Schema.{answers_table, cases_table, closings_table, endings_table, have_facts, have_rulings, is_fact, is_of_ruling, is_ruling, rulings_table, tables};
+ghost use Rattle.report_sql.specs.Schema.{answers_table, assignments_table, cases_table, closings_table, endings_table, have_assignments, have_facts, have_rulings, is_assignment, is_fact, is_of_ruling, is_ruling, rulings_table, tables};
 
 use crate::script::Script;
 use docket_rows::{Command, Fact};
@@ -129,6 +129,15 @@ const CLOSINGS: &str = "CREATE TABLE closings (
 );
 ";
 
+// Who has the cases that are assigned, and to whom they are referred; NULL: to nobody.
+const ASSIGNMENTS: &str = "CREATE TABLE assignments (
+  case_number INTEGER NOT NULL PRIMARY KEY REFERENCES cases (number),
+  dated DATE NOT NULL,
+  judge VARCHAR(32) NOT NULL,
+  referred VARCHAR(32)
+);
+";
+
 // The deadlines that are due no more, and why.
 const ENDINGS: &str = "CREATE TABLE endings (
   case_number INTEGER NOT NULL,
@@ -212,16 +221,39 @@ pub(crate) fn have_rulings(rows: &[NumberedRow]) -> bool
     rows.iter().any(|row| is_ruling(&row.row.work))
 }
 
-/// Adds the statements that make the tables: `facts` says whether rows record facts of cases, and `rulings` whether some of these
-/// rule on motions. `Err` says that memory ran out.
+// Whether a row assigns a case.
+fn is_assignment(work: &Work) -> bool
+    ensures { result ≡ is_assignment work.now }
+{
+    match work {
+        Work::Command(
+            Command::Fact {
+                fact: Fact::Assigned { .. },
+                ..
+            },
+        ) => true,
+        _ => false,
+    }
+}
+
+// Whether some of these rows do.
+pub(crate) fn have_assignments(rows: &[NumberedRow]) -> bool
+    ensures { result ≡ have_assignments rows.now }
+{
+    rows.iter().any(|row| is_assignment(&row.row.work))
+}
+
+/// Adds the statements that make the tables: `facts` says whether rows record facts of cases, `rulings` whether some of these rule on
+/// motions, and `assignments` whether some assign cases. `Err` says that memory ran out.
 #[tactic(auto, unfolding(crate::specs::Schema::tables))]
 pub(crate) fn push_tables(
     out: &mut Script,
     labels: &Labels<'_>,
     facts: bool,
     rulings: bool,
+    assignments: bool,
 ) -> Result<(), AllocError>
-    ensures { OnOk result (out.new ≡ out.old ++ tables labels.now.cases facts rulings) }
+    ensures { OnOk result (out.new ≡ out.old ++ tables labels.now.cases facts rulings assignments) }
 {
     push_cases(out, labels)?;
     out.statement(DEADLINES)?;
@@ -232,6 +264,7 @@ pub(crate) fn push_tables(
     out.statement(PANELS)?;
     out.statement(OUTAGES)?;
     push_closings(out, facts)?;
+    push_assignments(out, assignments)?;
     push_endings(out, facts)?;
     push_rulings(out, rulings)?;
     push_answers(out, facts)
@@ -243,6 +276,17 @@ fn push_closings(out: &mut Script, facts: bool) -> Result<(), AllocError>
 {
     if facts {
         out.statement(CLOSINGS)
+    } else {
+        Ok(())
+    }
+}
+
+// Adds the table of who has cases, where rows assign some.
+fn push_assignments(out: &mut Script, assignments: bool) -> Result<(), AllocError>
+    ensures { OnOk result (out.new ≡ out.old ++ assignments_table assignments) }
+{
+    if assignments {
+        out.statement(ASSIGNMENTS)
     } else {
         Ok(())
     }

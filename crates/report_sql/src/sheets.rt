@@ -11,6 +11,7 @@ ghost use Rattle.report_sql.specs.Hearings.{motion_rows};
 ghost use Rattle.report_sql.specs.Rows.{AddsValues, numbered};
 ghost use Rattle.report_sql.specs.Script.{case_row, closing_row, closing_row_if_any, docketed_text, name_values, outage_row, sheet_rows};
 
+use crate::assignments::push_assignment_if_any;
 use crate::deadlines::push_deadline;
 use crate::hearings::push_motion;
 use crate::script::Script;
@@ -103,6 +104,7 @@ fn push_sheet(
 {
     push_case(out, labels, sheet)?;
     push_closing_if_any(out, sheet.case, sheet.closed)?;
+    push_assignment_if_any(out, court, sheet.case, sheet.assigned)?;
     push_deadlines(out, court.clock(), sheet.case, sheet.deadlines.as_slice())?;
     push_motions(out, court, sheet.case, sheet.motions.as_slice())
 }

@@ -1,5 +1,5 @@
 -- What is due, by day.
-use Rattle.std.specs.Prelude.{ℕ, ◌==◌, ℤ, Bool, false, List, [], ◌∷◌, ◌++◌, Option, Some, None, codes, if◌then◌else◌}
+use Rattle.std.specs.Prelude.{ℕ, ◌==◌, ℤ, Bool, true, false, List, [], ◌∷◌, ◌++◌, Option, Some, None, codes, if◌then◌else◌}
 use Rattle.std.specs.Fmt.{decimal}
 use Rattle.std.specs.Option.{option_map_or}
 use Rattle.std.specs.Ordering.{int_eq}
@@ -26,9 +26,14 @@ unfoldable pub chosen_words : CourtView → List NamedCase → Choice → List �
 chosen_words court named choice =
     whole_day choice.from ++ codes " to " ++ whole_day choice.to ++ judge_words court choice.judge ++ case_words named choice.case
 
+-- what is listed
+abbrev pub heading_front : (overdue : Bool) → List ℕ
+heading_front true = codes "Overdue from "
+heading_front false = codes "Due from "
+
 -- `Due from Mon 2025-09-01 to Sun 2025-09-07, judge Ames, case 3`
 unfoldable pub heading : CourtView → List NamedCase → Choice → List ℕ
-heading court named choice = codes "Due from " ++ chosen_words court named choice ++ 10 ∷ []
+heading court named choice = heading_front choice.overdue ++ chosen_words court named choice ++ 10 ∷ []
 
 unfoldable pub closing_front : List ℕ
 closing_front = codes "Filing on paper ends at "
@@ -53,9 +58,14 @@ unfoldable pub lines_after : CourtView → List NamedCase → (before : Option �
 lines_after court named before [] = []
 lines_after court named before (item ∷ items) = day_line_if_new before item.day ++ item_line court named item ++ lines_after court named (Some item.day) items
 
-abbrev pub lines_or_none : CourtView → List NamedCase → List DueItem → List ℕ
-lines_or_none court named [] = codes "\nNothing is due.\n"
-lines_or_none court named (item ∷ items) = lines_after court named None (item ∷ items)
+-- that nothing is listed
+abbrev pub none_words : (overdue : Bool) → List ℕ
+none_words true = codes "\nNothing is overdue.\n"
+none_words false = codes "\nNothing is due.\n"
+
+abbrev pub lines_or_none : CourtView → List NamedCase → (overdue : Bool) → List DueItem → List ℕ
+lines_or_none court named overdue [] = none_words overdue
+lines_or_none court named overdue (item ∷ items) = lines_after court named None (item ∷ items)
 
 -- how many deadlines aren't listed since they are ended; nothing where there are none
 abbrev pub left_out_line : (count : ℕ) → List ℕ
@@ -63,4 +73,4 @@ left_out_line count = if count == 0 then [] else codes "\nEnded, and so not list
 
 -- what was chosen, and then the items by day
 unfoldable pub due_text : CourtView → List NamedCase → Choice → List DueItem → List ℕ
-due_text court named choice items = heading court named choice ++ closing_line court ++ lines_or_none court named items
+due_text court named choice items = heading court named choice ++ closing_line court ++ lines_or_none court named choice.overdue items

@@ -3,7 +3,7 @@
 ghost use Rattle.std.specs.Prelude.{◌≡◌, None, OnOk};
 ghost use Rattle.office_texts.specs.Words.{AddsText};
 ghost use Rattle.reason_texts.specs.Words.{minute_time};
-ghost use Rattle.report_texts.specs.Due.{case_words, chosen_words, closing_back, closing_front, closing_line, day_line_if_new, due_text, heading, is_day_of, judge_words, left_out_line, lines_after, lines_or_none};
+ghost use Rattle.report_texts.specs.Due.{case_words, chosen_words, closing_back, closing_front, closing_line, day_line_if_new, due_text, heading, heading_front, is_day_of, judge_words, left_out_line, lines_after, lines_or_none, none_words};
 
 use crate::days::push_whole_day;
 use crate::items::push_item;
@@ -29,7 +29,7 @@ pub fn push_due(
 {
     push_heading(text, court, labels, choice)?;
     push_closing(text, court)?;
-    push_lines(text, court, labels, items)
+    push_lines(text, court, labels, choice.overdue, items)
 }
 
 /// Adds the line that says what was chosen.
@@ -42,9 +42,20 @@ fn push_heading(
 ) -> Result<(), AllocError>
     ensures { OnOk result (AddsText text.old text.new (heading court.now labels.now.cases choice.now)) }
 {
-    text.push_str("Due from ")?;
+    text.push_str(heading_front(choice.overdue))?;
     push_chosen(text, court, labels, choice)?;
     text.push_str("\n")
+}
+
+/// What is listed.
+fn heading_front(overdue: bool) -> &'static str
+    ensures { result.now ≡ heading_front overdue }
+{
+    if overdue {
+        "Overdue from "
+    } else {
+        "Due from "
+    }
 }
 
 /// Adds which days, which judge and which case were chosen. `Err` says that memory ran out.
@@ -123,14 +134,26 @@ fn push_lines(
     text: &mut String,
     court: &Court,
     labels: &Labels<'_>,
+    overdue: bool,
     items: &[DueItem],
 ) -> Result<(), AllocError>
-    ensures { OnOk result (AddsText text.old text.new (lines_or_none court.now labels.now.cases items.now)) }
+    ensures { OnOk result (AddsText text.old text.new (lines_or_none court.now labels.now.cases overdue items.now)) }
 {
     if items.is_empty() {
-        return text.push_str("\nNothing is due.\n");
+        return text.push_str(none_words(overdue));
     }
     push_items(text, court, labels, items)
+}
+
+/// That nothing is listed.
+fn none_words(overdue: bool) -> &'static str
+    ensures { result.now ≡ none_words overdue }
+{
+    if overdue {
+        "\nNothing is overdue.\n"
+    } else {
+        "\nNothing is due.\n"
+    }
 }
 
 /// Adds how many deadlines aren't listed since they are ended, if there are some. `Err` says that memory ran out.

@@ -11,7 +11,7 @@ use Rattle.row_forms.specs.declared.fault.RowCause.{RowCause}
 use Rattle.row_forms.specs.declared.fault.RowCause.TheVariants.{BadClerk, NotText, TooManyRows, WrongCount}
 use Rattle.row_forms.specs.declared.forms.periods.Measured.{Measured}
 use Rattle.row_forms.specs.declared.forms.table.Form.{Form}
-use Rattle.row_forms.specs.declared.forms.table.Form.TheVariants.{Close, Compute, End, Extend, Reopen, Reset, Resume, Rule, Set, Start}
+use Rattle.row_forms.specs.declared.forms.table.Form.TheVariants.{Assign, Close, Compute, End, Extend, Reopen, Reset, Resume, Rule, Set, Start}
 use Rattle.row_forms.specs.declared.row.Row.{Row}
 use Rattle.row_forms.specs.declared.row.Work.{Work}
 use Rattle.row_forms.specs.declared.row.Work.TheVariants.{Query}
@@ -34,6 +34,7 @@ of_desk Resume = true
 of_desk Close = true
 of_desk Reopen = true
 of_desk Rule = true
+of_desk Assign = true
 of_desk other = false
 
 -- a form whose own word clerk_office doesn't take has no word there
@@ -54,6 +55,7 @@ never_of_desk word Resume own h = none_has Resume word refl h
 never_of_desk word Close own h = none_has Close word refl h
 never_of_desk word Reopen own h = none_has Reopen word refl h
 never_of_desk word Rule own h = none_has Rule word refl h
+never_of_desk word Assign own h = none_has Assign word refl h
 never_of_desk word other own h = cc own
 
 -- what is read, if anything is, is work of clerk_office
@@ -91,6 +93,7 @@ form_is_office names Resume fields office = cc office
 form_is_office names Close fields office = cc office
 form_is_office names Reopen fields office = cc office
 form_is_office names Rule fields office = cc office
+form_is_office names Assign fields office = cc office
 form_is_office names Extend fields office =
     counted (not (length fields == length (columns_of_form Extend))) (extend_row fields) (record { office = λ work h. (extend_is fields work h).1 })
 form_is_office names Start fields office =

@@ -7,7 +7,7 @@ use Rattle.row_forms.specs.declared.fault.RowCause.{RowCause}
 use Rattle.row_forms.specs.declared.fault.RowCause.TheVariants.{BadClerk, BadField, NotText, WrongCount}
 use Rattle.row_forms.specs.declared.forms.table.Form.{Form}
 use Rattle.row_forms.specs.declared.forms.table.Form.TheVariants as form
-use Rattle.row_forms.specs.declared.headings.columns.Column.TheVariants.{TimeOrNone, SecondOrNone, ServiceOrNone, ResumeDay, Clerk, Command}
+use Rattle.row_forms.specs.declared.headings.columns.Column.TheVariants.{TimeOrNone, SecondOrNone, ServiceOrNone, ResumeDay, JudgeOrNone, Clerk, Command}
 use Rattle.row_forms.specs.declared.row.Row.{Row}
 use Rattle.row_forms.specs.declared.row.Work.{Work}
 use Rattle.row_forms.specs.Columns.{◌>>=◌, column, day_in, number_in}
@@ -88,6 +88,7 @@ empty_fields_are_taken_lem TimeOrNone clerks names e = refl
 empty_fields_are_taken_lem SecondOrNone clerks names e = refl
 empty_fields_are_taken_lem ServiceOrNone clerks names e = refl
 empty_fields_are_taken_lem ResumeDay clerks names e = refl
+empty_fields_are_taken_lem JudgeOrNone clerks names e = refl
 empty_fields_are_taken_lem other clerks names e = cc e
 
 pub brackets_show_what_may_be_empty_lem : BracketsShowWhatMayBeEmpty

@@ -8,7 +8,7 @@ use Rattle.row_forms.specs.declared.fault.RowCause.{RowCause}
 use Rattle.row_forms.specs.declared.fault.RowCause.TheVariants.{BadClerk, BadField, NotText, UnknownCommand, WrongCount}
 use Rattle.row_forms.specs.declared.forms.table.Form.{Form}
 use Rattle.row_forms.specs.declared.headings.columns.Column.{Column}
-use Rattle.row_forms.specs.declared.headings.columns.Column.TheVariants.{Clerk, Command, Case, Deadline, Motion, Period, Date, Time, Start, TimeOrNone, SecondOrNone, ServiceOrNone, Means, Grant, ByMotion, Cause, Neglect, Need, Holidays, From, To, Judge, Judges, Room, Slots, Notice, Act, Why, Closing, ResumeDay, Ruling, Dated}
+use Rattle.row_forms.specs.declared.headings.columns.Column.TheVariants.{Clerk, Command, Case, Deadline, Motion, Period, Date, Time, Start, TimeOrNone, SecondOrNone, ServiceOrNone, Means, Grant, ByMotion, Cause, Neglect, Need, Holidays, From, To, Judge, Judges, Room, Slots, Notice, Act, Why, Closing, ResumeDay, Ruling, JudgeOrNone, Dated}
 use Rattle.row_forms.specs.Columns.{column}
 use Rattle.row_forms.specs.CourtNames.{CourtNames}
 use Rattle.row_forms.specs.Fields.Choices.{closing_of, ending_of, is_so, kind_if_given, list_of, means_of, ruling_of}
@@ -55,6 +55,7 @@ takes clerks names Why field = is_some (ending_of field)
 takes clerks names Closing field = is_some (closing_of field)
 takes clerks names ResumeDay field = is_some (day_anew field)
 takes clerks names Ruling field = is_some (ruling_of field)
+takes clerks names JudgeOrNone field = true
 
 module _ (clerks : ℕ) (names : CourtNames) (fields : List (List ℕ)) where
   -- the number of the first column that doesn't take its field, of columns the first of which has this number

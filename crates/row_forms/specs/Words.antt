@@ -1,6 +1,6 @@
 -- The words of clauses and definitions, for the crates above, from one place.
 pub use Rattle.row_forms.specs.CourtNames.{CourtNames, names_of}
-unfoldable pub use Rattle.row_forms.specs.CourtNames.{number_named}
+unfoldable pub use Rattle.row_forms.specs.CourtNames.{number_if_named, number_named}
 pub use Rattle.row_forms.specs.Fields.Numbers.{is_number}
 unfoldable pub use Rattle.row_forms.specs.Fields.Numbers.{count_of, number_of}
 unfoldable pub use Rattle.row_forms.specs.Fields.Period.{length_of, entered_of, period_of}

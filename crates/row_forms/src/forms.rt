@@ -2,14 +2,14 @@
 
 ghost use Rattle.std.specs.Prelude.{◌≡◌};
 ghost use Rattle.csv.specs.Records.{fields_of};
-ghost use Rattle.row_forms.specs.Forms.{calendar_row, cancel_row, close_row, compute_row, end_row, extend_row, file_row, holiday_row, inaccessible_row, motion_row, open_row, read_as, reopen_row, reset_row, resume_row, rule_row, set_length, set_row, set_to, start_row, work_as};
+ghost use Rattle.row_forms.specs.Forms.{assign_row, calendar_row, cancel_row, close_row, compute_row, end_row, extend_row, file_row, holiday_row, inaccessible_row, motion_row, open_row, read_as, reopen_row, reset_row, resume_row, rule_row, set_length, set_row, set_to, start_row, work_as};
 ghost use Rattle.row_forms.specs.CourtNames.{names_of};
 
 use crate::columns::{column, day_in, number_in};
 use crate::fault::RowCause;
 use crate::fields::choices::{closing_of, ending_of, is_so, list_of, means_of, ruling_of};
 use crate::fields::grants::{grant_of, need_of, order_dated, reset_to};
-use crate::fields::hearings::judge_named;
+use crate::fields::hearings::{judge_if_named, judge_named};
 use crate::fields::period::act_of;
 use crate::fields::times::{day_anew, ending_minute, minute_or_midnight};
 use crate::row::Work;
@@ -67,6 +67,7 @@ fn read_as(court: &Court, form: Form, fields: &StringRecord) -> Result<Work, Row
         Form::Close => close_row(fields),
         Form::Reopen => reopen_row(fields),
         Form::Rule => rule_row(fields),
+        Form::Assign => assign_row(court, fields),
     }
 }
 
@@ -305,6 +306,22 @@ fn rule_row(fields: &StringRecord) -> Result<Work, RowCause>
     let fact = Fact::Ruled {
         motion,
         ruling,
+        dated,
+    };
+    Ok(Work::Command(Command::Fact { case, fact }))
+}
+
+// A judge has a case, and it may be referred to another. Any texts are read as the judges' names.
+fn assign_row(court: &Court, fields: &StringRecord) -> Result<Work, RowCause>
+    ensures { result ≡ assign_row (names_of court.now) (fields_of fields.now) }
+{
+    let case = number_in(fields, 3)?;
+    let judge = judge_named(court, column(fields, 4));
+    let referred = judge_if_named(court, column(fields, 5));
+    let dated = day_in(fields, 6)?;
+    let fact = Fact::Assigned {
+        judge,
+        referred,
         dated,
     };
     Ok(Work::Command(Command::Fact { case, fact }))

@@ -32,6 +32,6 @@ pub(crate) type RowTypes = Option<
         Option<Day>,
         Grant,
         Request,
-        (Fact, Ending, Closing, Ruling),
+        (Fact, Ending, Closing, Ruling, Option<u8>),
     ),
 >;

@@ -9,10 +9,10 @@ use std::alloc::{AllocError, Global};
 use strsim::osa_distance;
 
 /// The headings of columns.
-const HEADINGS: [&str; 27] = [
+const HEADINGS: [&str; 28] = [
     "clerk", "command", "case", "deadline", "motion", "period", "date", "time", "second", "kind",
-    "means", "grant", "cause", "neglect", "need", "list", "from", "to", "judge", "room", "slots",
-    "notice", "act", "why", "ruling", "dated", "note",
+    "means", "grant", "cause", "neglect", "need", "list", "from", "to", "judge", "referred",
+    "room", "slots", "notice", "act", "why", "ruling", "dated", "note",
 ];
 
 /// The word from which a text that is folded differs by no more than a slip: a letter that is added, lost or another, or two
@@ -90,7 +90,7 @@ fn nearest_in(
     word: &str,
 ) -> Result<Option<String>, AllocError> {
     match column {
-        Column::Judge | Column::Judges => nearest_judge(alloc, court, found),
+        Column::Judge | Column::Judges | Column::JudgeOrNone => nearest_judge(alloc, court, found),
         Column::Room => {
             let names = rooms_of(alloc, court)?;
             nearest_of(alloc, word, &names)

@@ -37,6 +37,7 @@ fn held(column: Column) -> &'static str {
         Column::Closing => "dismissed, judgment, settled, transferred, remanded or otherwise",
         Column::ResumeDay => "nothing, since the deadline has its days as before",
         Column::Ruling => "granted, denied, in part, moot, withdrawn or reserved",
+        Column::JudgeOrNone => "a judge of the court's file, or nothing",
     }
 }
 
@@ -48,7 +49,7 @@ pub(crate) fn expected(flaw: Flaw) -> &'static str {
         Flaw::Excess => "nothing, since the row has no column for it",
         Flaw::NoCommand => commands_listed(),
         Flaw::NoHeading => {
-            "a heading: clerk, command, case, deadline, motion, period, date, time, second, kind, means, grant, cause, neglect, need, list, from, to, judge, room, slots, notice, act, why, ruling, dated or note"
+            "a heading: clerk, command, case, deadline, motion, period, date, time, second, kind, means, grant, cause, neglect, need, list, from, to, judge, referred, room, slots, notice, act, why, ruling, dated or note"
         }
         Flaw::TwiceNamed => "another heading, since a column before it has this one",
     }

@@ -10,7 +10,7 @@ use Rattle.row_fields.specs.declared.said.Said.TheVariants.{Unknown, Clear}
 use Rattle.row_fields.specs.declared.dates.DateOrder.{DateOrder}
 use Rattle.row_fields.specs.Words.{act_said, answer_said, bare, closing_said, date_said, folded, list_said, means_said, rule_said, ruling_said, said_map, section_said, service_said, time_said, why_said}
 use Rattle.row_forms.specs.declared.headings.columns.Column.{Column}
-use Rattle.row_forms.specs.declared.headings.columns.Column.TheVariants.{Clerk, Command, Case, Deadline, Motion, Period, Date, Time, Start, TimeOrNone, SecondOrNone, ServiceOrNone, Means, Grant, ByMotion, Cause, Neglect, Need, Holidays, From, To, Judge, Judges, Room, Slots, Notice, Act, Why, Closing, ResumeDay, Ruling, Dated}
+use Rattle.row_forms.specs.declared.headings.columns.Column.TheVariants.{Clerk, Command, Case, Deadline, Motion, Period, Date, Time, Start, TimeOrNone, SecondOrNone, ServiceOrNone, Means, Grant, ByMotion, Cause, Neglect, Need, Holidays, From, To, Judge, Judges, Room, Slots, Notice, Act, Why, Closing, ResumeDay, Ruling, JudgeOrNone, Dated}
 use Rattle.row_written.specs.Names.{name_said, panel_said}
 
 -- this, where it is so, and else nothing that is known
@@ -91,6 +91,7 @@ may_be_empty TimeOrNone = true
 may_be_empty SecondOrNone = true
 may_be_empty ServiceOrNone = true
 may_be_empty ResumeDay = true
+may_be_empty JudgeOrNone = true
 may_be_empty _ = false
 
 -- what a field says that isn't left empty
@@ -128,6 +129,7 @@ filled_said names order Closing text = word_said Closing text
 -- a deadline that is resumed has its days as before
 filled_said names order ResumeDay text = Unknown
 filled_said names order Ruling text = word_said Ruling text
+filled_said names order JudgeOrNone text = name_said names.judges text
 
 -- what a field of a column says, as a plain row writes it
 unfoldable pub field_said : CourtNames → Option DateOrder → Column → List ℕ → Said (List ℕ)

@@ -47,6 +47,7 @@ heading_said word =
     else if is_one_of word (codes "from" ∷ []) then Some (codes "from")
     else if is_one_of word (codes "to" ∷ []) then Some (codes "to")
     else if is_one_of word (codes "judge" ∷ codes "judges" ∷ []) then Some (codes "judge")
+    else if is_one_of word (codes "referred" ∷ codes "referredto" ∷ codes "magistrate" ∷ codes "magistratejudge" ∷ []) then Some (codes "referred")
     else if is_one_of word (codes "room" ∷ codes "courtroom" ∷ []) then Some (codes "room")
     else if is_one_of word (codes "slots" ∷ []) then Some (codes "slots")
     else if is_one_of word (codes "notice" ∷ codes "noticeserved" ∷ []) then Some (codes "notice")

@@ -235,7 +235,11 @@ fn may_be_empty(column: Column) -> bool
 {
     matches!(
         column,
-        Column::TimeOrNone | Column::SecondOrNone | Column::ServiceOrNone | Column::ResumeDay
+        Column::TimeOrNone
+            | Column::SecondOrNone
+            | Column::ServiceOrNone
+            | Column::ResumeDay
+            | Column::JudgeOrNone
     )
 }
 
@@ -275,7 +279,7 @@ fn filled_said(
         | Column::Ruling => word_said(alloc, column, text),
         Column::Grant => grant_said(alloc, order, text),
         Column::Need => need_said(alloc, text),
-        Column::Judge => name_said(alloc, court, Named::Judges, text),
+        Column::Judge | Column::JudgeOrNone => name_said(alloc, court, Named::Judges, text),
         Column::Judges => panel_said(alloc, court, text),
         Column::Room => name_said(alloc, court, Named::Rooms, text),
         Column::Slots => slots_said(alloc, text),

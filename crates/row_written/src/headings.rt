@@ -69,6 +69,7 @@ pub fn heading_said(word: &str) -> Option<&'static str>
         "from" => Some("from"),
         "to" => Some("to"),
         "judge" | "judges" => Some("judge"),
+        "referred" | "referredto" | "magistrate" | "magistratejudge" => Some("referred"),
         "room" | "courtroom" => Some("room"),
         "slots" => Some("slots"),
         "notice" | "noticeserved" => Some("notice"),

@@ -16,7 +16,7 @@ type RowTypes = Option<
         Option<Day>,
         Grant,
         Request,
-        (Fact, Ending, Closing, Ruling),
+        (Fact, Ending, Closing, Ruling, Option<u8>),
     ),
 >;
 

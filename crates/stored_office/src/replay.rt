@@ -22,9 +22,7 @@ type AnswerTypes = Option<
         Request,
         Shown,
         Fact,
-        Ending,
-        Closing,
-        Ruling,
+        (Ending, Closing, Ruling, Option<u8>),
     ),
 >;
 

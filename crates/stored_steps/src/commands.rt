@@ -12,7 +12,15 @@ use rule_periods::{Grant, Request};
 use std::alloc::Global;
 
 // The checker finds these types only where they have names, so a function that puts commands into a list names them.
-type CommandTypes = Option<(Option<Day>, Grant, Request, Fact, Ending, Closing, Ruling)>;
+type CommandTypes = Option<
+    (
+        Option<Day>,
+        Grant,
+        Request,
+        Fact,
+        (Ending, Closing, Ruling, Option<u8>),
+    ),
+>;
 
 /// The commands of these rows, in their order. An error says which row can't be read or is no command, or that memory ran
 /// out.

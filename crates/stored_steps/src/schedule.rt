@@ -13,7 +13,15 @@ use std::alloc::Global;
 use versioned_steps::Step;
 
 // The checker finds these types only where they have names, so a function that puts steps into a list names them.
-type StepTypes = Option<(Option<Day>, Grant, Request, Fact, Ending, Closing, Ruling)>;
+type StepTypes = Option<
+    (
+        Option<Day>,
+        Grant,
+        Request,
+        Fact,
+        (Ending, Closing, Ruling, Option<u8>),
+    ),
+>;
 
 /// How many clerks there are, and their steps in the order in which they are made.
 #[derive(Drop)]

@@ -8,7 +8,7 @@ use court_days::Days;
 use docket_decisions::{DocketRules, Sight, is_beyond, shown_now};
 use docket_rows::{
     CaseRecord, Fact, Hearing, MotionRecord, Sheet, SheetDeadline, SheetDeadlines, SheetHearing,
-    SheetMotion, SheetMotions, State, closing_in, ending_in, ruling_in,
+    SheetMotion, SheetMotions, State, assigned_in, closing_in, ending_in, ruling_in,
 };
 use rule_periods::{DocketRow, affidavit_day};
 use rule6::{Filing, Shown, is_timely};
@@ -130,6 +130,7 @@ pub(crate) fn sheet_of<S: Sight>(
         case: number,
         filed: case.filed(),
         closed: closing_in(case.facts()),
+        assigned: assigned_in(case.facts()),
         deadlines: SheetDeadlines::from_vec(deadlines),
         motions: SheetMotions::from_vec(motions),
     })

@@ -4,15 +4,15 @@ use Rattle.std.specs.Option.{IsSome}
 use Rattle.std.proofs.lemmas.List.Elements.{All-push}
 use Rattle.docket_rows.specs.declared.command.Command.TheVariants as command
 use Rattle.docket_rows.specs.declared.fact.Fact.{Fact}
-use Rattle.docket_rows.specs.declared.fact.Fact.TheVariants.{Ended, Resumed, Closed, Reopened, Ruled}
-use Rattle.docket_rows.specs.Words.{CourtSetup, Rows, DocketedFact, AreSound, AreLawful, parts_of, hearing_of, if_ahead, is_case, end_checks, resume_checks, close_checks, reopen_checks, rule_checks, end_refusal, resume_refusal, close_refusal, reopen_refusal, rule_refusal, refusal, with_fact, without_hearing, hearings_until, rows_after}
+use Rattle.docket_rows.specs.declared.fact.Fact.TheVariants.{Ended, Resumed, Closed, Reopened, Ruled, Assigned}
+use Rattle.docket_rows.specs.Words.{CourtSetup, Rows, DocketedFact, AreSound, AreLawful, parts_of, hearing_of, if_ahead, is_case, end_checks, resume_checks, close_checks, reopen_checks, rule_checks, assign_checks, end_refusal, resume_refusal, close_refusal, reopen_refusal, rule_refusal, assign_refusal, refusal, with_fact, without_hearing, hearings_until, rows_after}
 use Rattle.docket_laws.proofs.MadeLemmas.{none_of, when-not-None}
 use Rattle.docket_laws.proofs.LawfulLemmas.HearingLemmas.{sound_without, lawful_without}
 use Rattle.docket_laws.proofs.LawfulLemmas.SeenLemmas.{IsOpen, is_open_of}
 
 -- the case of a fact that isn't refused is open
 fact_open : (setup : CourtSetup) (rows : Rows) (case : ℕ) (fact : Fact) → refusal setup (parts_of rows) (command.Fact case fact) ≡ None → IsOpen rows case
-unfolding end_refusal resume_refusal close_refusal reopen_refusal rule_refusal
+unfolding end_refusal resume_refusal close_refusal reopen_refusal rule_refusal assign_refusal
 fact_open setup rows case (Ended deadline why dated) h =
     is_open_of rows case (when-not-None _ _ (none_of (end_checks (parts_of rows) case deadline dated) h).0)
 fact_open setup rows case (Resumed deadline dated) h =
@@ -23,6 +23,8 @@ fact_open setup rows case (Reopened dated) h =
     is_open_of rows case (when-not-None _ _ (none_of (reopen_checks (parts_of rows) case dated) h).0)
 fact_open setup rows case (Ruled motion how dated) h =
     is_open_of rows case (when-not-None _ _ (none_of (rule_checks (parts_of rows) case motion dated) h).0)
+fact_open setup rows case (Assigned judge referred dated) h =
+    is_open_of rows case (when-not-None _ _ (none_of (assign_checks setup (parts_of rows) case judge referred dated) h).0)
 
 -- rows with one more fact of an open case
 sound_recorded : (setup : CourtSetup) (rows : Rows) (case : ℕ) (fact : Fact) → AreSound setup rows → IsOpen rows case → AreSound setup (with_fact case fact rows)
@@ -74,6 +76,8 @@ sound_fact setup rows case (Reopened dated) s h =
     sound_recorded setup rows case (Reopened dated) s (fact_open setup rows case (Reopened dated) h)
 sound_fact setup rows case (Ruled motion how dated) s h =
     sound_until setup (with_fact case (Ruled motion how dated) rows) case motion dated (sound_recorded setup rows case (Ruled motion how dated) s (fact_open setup rows case (Ruled motion how dated) h))
+sound_fact setup rows case (Assigned judge referred dated) s h =
+    sound_recorded setup rows case (Assigned judge referred dated) s (fact_open setup rows case (Assigned judge referred dated) h)
 
 pub lawful_fact : (setup : CourtSetup) (rows : Rows) (case : ℕ) (fact : Fact) → AreLawful setup rows → AreLawful setup (rows_after rows (command.Fact case fact))
 lawful_fact setup rows case (Ended deadline why dated) l = lawful_recorded setup rows case (Ended deadline why dated) l
@@ -82,3 +86,4 @@ lawful_fact setup rows case (Closed why dated) l = lawful_recorded setup rows ca
 lawful_fact setup rows case (Reopened dated) l = lawful_recorded setup rows case (Reopened dated) l
 lawful_fact setup rows case (Ruled motion how dated) l =
     lawful_until setup (with_fact case (Ruled motion how dated) rows) case motion dated (lawful_recorded setup rows case (Ruled motion how dated) l)
+lawful_fact setup rows case (Assigned judge referred dated) l = lawful_recorded setup rows case (Assigned judge referred dated) l

@@ -11,7 +11,7 @@ use Rattle.docket_rows.specs.declared.answer.Answer.TheVariants as answer
 use Rattle.docket_rows.specs.declared.command.Command.{Command}
 use Rattle.docket_rows.specs.declared.command.Command.TheVariants.{OpenCase, Start, FileAct, Extend, Motion, Book, MoveHearing, Cancel, Holiday, Inaccessible, Fact}
 use Rattle.docket_rows.specs.declared.fact.Fact.{Fact as FactOf}
-use Rattle.docket_rows.specs.declared.fact.Fact.TheVariants.{Ended, Resumed, Closed, Reopened, Ruled}
+use Rattle.docket_rows.specs.declared.fact.Fact.TheVariants.{Ended, Resumed, Closed, Reopened, Ruled, Assigned}
 use Rattle.docket_rows.specs.declared.fact.Ruling.{Ruling}
 use Rattle.docket_rows.specs.declared.hearing.Hearing.{Hearing}
 use Rattle.docket_rows.specs.declared.refusal.Refusal.{Refusal}
@@ -65,6 +65,7 @@ module _ (Holds : ℕ → Type 0) (row : ℕ) (command : Command) (holds : Holds
   made_at answer.Closed = asked_at (change_asked command)
   made_at answer.Reopened = asked_at (change_asked command)
   made_at (answer.Ruled day) = asked_at (change_by command day)
+  made_at answer.Assigned = asked_at (change_asked command)
   made_at (answer.Resumed shown) = asked_at (change_asked command)
   made_at (answer.Refused refusal) = All-nil (λ (c : RowChange). Holds c.row)
 
@@ -183,6 +184,7 @@ made_keeps setup rows case row sound (Fact of (Reopened dated)) free other = rec
 made_keeps setup rows case row sound (Fact of (Ruled of_motion how dated)) free other =
     let P : Option Hearing → Type 0 = λ set. made_touches case (change_made row (Fact of (Ruled of_motion how dated)) (answer.Ruled (option_map (λ (h : Hearing). h.day) (if_ahead dated set)))) ≡ false in
     ruled_elsewhere rows case row of of_motion how dated (if_ahead dated (hearing_of rows of of_motion)) (subst P (hearing_seen setup rows sound of of_motion) other)
+made_keeps setup rows case row sound (Fact of (Assigned judge referred dated)) free other = recorded_elsewhere rows case of (Assigned judge referred dated) other
 
 step_keeps : (setup : CourtSetup) (rows : Rows) (case row : ℕ) → AreSound setup rows → (command : Command) → made_touches case (change_made row command (step setup rows command).1) ≡ false → KeepsEvents case rows (step setup rows command).0
 unfolding step answered

@@ -28,6 +28,7 @@ pub record IsSheetExplained (days : DaysByReadingView) (clock : ClockView) (s : 
   pub case : e.case ≡ s.case
   pub filed : e.filed ≡ s.filed
   pub closed : e.closed ≡ s.closed
+  pub assigned : e.assigned ≡ s.assigned
   pub deadlines : AreAlike (IsExplained days clock) s.deadlines e.deadlines.items
   pub motions : e.motions ≡ s.motions
 

@@ -1,10 +1,10 @@
 //! What a row changed of what calendars show.
 
 ghost use Rattle.std.specs.Prelude.{◌≡◌, None};
-ghost use Rattle.docket_selection.specs.Changes.Change.{change_asked, change_by, change_made, day_taken, hearing_change, setting_made};
+ghost use Rattle.docket_selection.specs.Changes.Change.{change_asked, change_by, change_made, day_taken, fact_change, hearing_change, setting_made};
 
 use court_clock::Day;
-use docket_rows::{Answer, Command, Hearing, Setting};
+use docket_rows::{Answer, Command, Fact, Hearing, Setting};
 
 /// A change of the hearing of a motion.
 #[derive(Clone, Copy, Debug, PartialEq, Eq)]
@@ -26,6 +26,8 @@ pub enum Change {
     Deadline(u32),
     /// The hearing of a motion.
     Hearing(HearingChange),
+    /// The judges of the case of that number: it was assigned to the first, and may be referred to the second.
+    Judges(u32, u8, Option<u8>),
 }
 
 /// A change, with the row that made it.
@@ -75,13 +77,29 @@ fn change_asked(command: &Command) -> Option<Change>
     match command {
         Command::Start { case, .. }
         | Command::FileAct { case, .. }
-        | Command::Extend { case, .. }
-        | Command::Fact { case, .. } => Some(Change::Deadline(*case)),
+        | Command::Extend { case, .. } => Some(Change::Deadline(*case)),
+        Command::Fact { case, fact } => Some(fact_change(*case, fact)),
         Command::Holiday { .. } | Command::Inaccessible { .. } => Some(Change::Days),
         Command::OpenCase { .. } | Command::Motion { .. } => None,
         Command::Book(_) | Command::MoveHearing(_) | Command::Cancel { .. } => {
             Some(Change::Hearing(hearing_change(command)?))
         }
+    }
+}
+
+/// What a fact of a case changes.
+fn fact_change(case: u32, fact: &Fact) -> Change
+    ensures { result ≡ fact_change case fact.now }
+{
+    match *fact {
+        Fact::Ended { .. } | Fact::Resumed { .. } => Change::Deadline(case),
+        Fact::Closed { .. } | Fact::Reopened { .. } => Change::Deadline(case),
+        Fact::Ruled { .. } => Change::Deadline(case),
+        Fact::Assigned {
+            judge,
+            referred,
+            ..
+        } => Change::Judges(case, judge, referred),
     }
 }
 

@@ -6,7 +6,7 @@ ghost use Rattle.docket_selection.specs.Explained.Explained.{AreAlike, AreExplai
 use court_clock::{Clock, Day};
 use court_days::Days;
 use deadline_reasons::{Reason, reasons_of};
-use docket_rows::{Closure, Sheet, SheetDeadline, SheetMotions};
+use docket_rows::{Assignment, Closure, Sheet, SheetDeadline, SheetMotions};
 use reason_notes::{DaysByReading, other_end};
 use rule6::Shown;
 use std::alloc::{AllocError, Global};
@@ -31,6 +31,8 @@ pub struct ExplainedSheet {
     pub filed: Day,
     /// How it was closed, if it was and wasn't reopened.
     pub closed: Option<Closure>,
+    /// Who has it, if it was assigned.
+    pub assigned: Option<Assignment>,
     /// Its deadlines, in the order in which they were started or entered.
     pub deadlines: Vec<ExplainedDeadline>,
     /// Its motions.
@@ -83,6 +85,7 @@ fn explained_sheet(
         case,
         filed,
         closed,
+        assigned,
         deadlines,
         motions,
     } = sheet;
@@ -90,6 +93,7 @@ fn explained_sheet(
         case,
         filed,
         closed,
+        assigned,
         deadlines: explained_deadlines(alloc, days, clock, deadlines.into_vec())?,
         motions,
     })

@@ -15,7 +15,7 @@ use Rattle.docket_rows.specs.declared.sheet.Sheet.{Sheet}
 use Rattle.docket_rows.specs.declared.view.View.{View}
 use Rattle.docket_rows.specs.declared.view.View.TheVariants as view
 use Rattle.docket_rows.specs.Words.{refusal_number, refusal_name}
-use Rattle.office_texts.specs.Words.{and_closed_text, answer_text, deadline_line, motion_lines, name_of, refusal_detail, span_text, view_lines}
+use Rattle.office_texts.specs.Words.{and_closed_text, answer_text, assigned_line, deadline_line, motion_lines, name_of, refusal_detail, span_text, view_lines}
 use Rattle.office_texts.specs.Run.Words.{row_numbers}
 use Rattle.office_texts.specs.declared.run.reply.Reply.{Reply}
 use Rattle.office_texts.specs.declared.run.reply.Reply.TheVariants.{Made, Viewed}
@@ -60,9 +60,10 @@ named_calendar court named judge bookings = codes "judge " ++ name_of court.judg
 abbrev pub named_case_line : List NamedCase → Sheet → List ℕ
 named_case_line named s = codes "case " ++ case_text named s.case ++ codes " filed " ++ day_text s.filed ++ and_closed_text s.closed ++ (10 ∷ [])
 
--- the line of the case, then its deadlines, then its motions
+-- the line of the case, then who has it, then its deadlines, then its motions
 unfoldable pub named_sheet : CourtView → List NamedCase → Sheet → List ℕ
-named_sheet court named s = named_case_line named s ++ flat_map (deadline_line court.clock) s.deadlines ++ flat_map (motion_lines court) s.motions
+named_sheet court named s =
+    named_case_line named s ++ assigned_line court.judges s.assigned ++ flat_map (deadline_line court.clock) s.deadlines ++ flat_map (motion_lines court) s.motions
 
 -- what a query shows
 abbrev pub named_view : CourtView → List NamedCase → View → List ℕ

@@ -15,6 +15,7 @@ fn number_sheet(alloc: Global, moved: &MovedNumbers, sheet: &mut Sheet)
         case: sheet.case,
         filed: sheet.filed,
         closed: sheet.closed,
+        assigned: sheet.assigned,
         deadlines: SheetDeadlines::from_vec(Vec::new(alloc)),
         motions: SheetMotions::from_vec(Vec::new(alloc)),
     };

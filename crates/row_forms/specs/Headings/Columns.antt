@@ -1,7 +1,7 @@
 -- The columns of rows, and what these are called.
 use Rattle.std.specs.Prelude.{ℕ, Bool, true, false, List, codes, slice_get, unwrap_or}
 use Rattle.row_forms.specs.declared.headings.columns.Column.{Column}
-use Rattle.row_forms.specs.declared.headings.columns.Column.TheVariants.{Clerk, Command, Case, Deadline, Motion, Period, Date, Time, Start, TimeOrNone, SecondOrNone, ServiceOrNone, Means, Grant, ByMotion, Cause, Neglect, Need, Holidays, From, To, Judge, Judges, Room, Slots, Notice, Act, Why, Closing, ResumeDay, Ruling, Dated}
+use Rattle.row_forms.specs.declared.headings.columns.Column.TheVariants.{Clerk, Command, Case, Deadline, Motion, Period, Date, Time, Start, TimeOrNone, SecondOrNone, ServiceOrNone, Means, Grant, ByMotion, Cause, Neglect, Need, Holidays, From, To, Judge, Judges, Room, Slots, Notice, Act, Why, Closing, ResumeDay, Ruling, JudgeOrNone, Dated}
 
 -- the column of that number, counted from 0
 abbrev pub column_at : List Column → ℕ → Column
@@ -41,6 +41,7 @@ name_of Why = codes "why"
 name_of Closing = codes "why"
 name_of ResumeDay = codes "date"
 name_of Ruling = codes "ruling"
+name_of JudgeOrNone = codes "referred"
 
 -- What stands for a column where the form of a row is shown. What may be left empty is in brackets. The command word stands
 -- for itself.
@@ -77,6 +78,7 @@ mark_of word Why = codes "WHY"
 mark_of word Closing = codes "WHY"
 mark_of word ResumeDay = codes "[DAY]"
 mark_of word Ruling = codes "RULING"
+mark_of word JudgeOrNone = codes "[JUDGE2]"
 
 -- the field of a column may be empty, and then says none
 abbrev pub may_be_empty : Column → Bool
@@ -84,4 +86,5 @@ may_be_empty TimeOrNone = true
 may_be_empty SecondOrNone = true
 may_be_empty ServiceOrNone = true
 may_be_empty ResumeDay = true
+may_be_empty JudgeOrNone = true
 may_be_empty _ = false

@@ -6,8 +6,8 @@ ghost use Rattle.row_forms.specs.Forms.Table.{columns_of, columns_of_form, comma
 
 use crate::headings::Column::{
     self, Act, ByMotion, Case, Cause, Clerk, Closing, Command, Date, Dated, Deadline, From, Grant,
-    Holidays, Judge, Judges, Means, Motion, Need, Neglect, Notice, Period, ResumeDay, Room, Ruling,
-    SecondOrNone, ServiceOrNone, Slots, Start, Time, TimeOrNone, To, Why,
+    Holidays, Judge, JudgeOrNone, Judges, Means, Motion, Need, Neglect, Notice, Period, ResumeDay,
+    Room, Ruling, SecondOrNone, ServiceOrNone, Slots, Start, Time, TimeOrNone, To, Why,
 };
 
 /// The form of a row: which command or query it asks for.
@@ -53,6 +53,8 @@ pub enum Form {
     Reopen,
     /// Rules on a motion. It is of the desk alone.
     Rule,
+    /// Assigns a case to a judge. It is of the desk alone.
+    Assign,
 }
 
 /// The forms of the rows of clerk_office.
@@ -73,7 +75,7 @@ pub const OFFICE_FORMS: [Form; 13] = [
 ];
 
 /// The forms of the rows of the desk.
-pub const FORMS: [Form; 20] = [
+pub const FORMS: [Form; 21] = [
     Form::Open,
     Form::Start,
     Form::File,
@@ -94,10 +96,11 @@ pub const FORMS: [Form; 20] = [
     Form::Close,
     Form::Reopen,
     Form::Rule,
+    Form::Assign,
 ];
 
 /// The command words, in the order of the forms.
-pub const COMMANDS: [&str; 20] = [
+pub const COMMANDS: [&str; 21] = [
     "open",
     "start",
     "file",
@@ -118,6 +121,7 @@ pub const COMMANDS: [&str; 20] = [
     "close",
     "reopen",
     "rule",
+    "assign",
 ];
 
 /// The columns of a form's rows, from the first on.
@@ -165,6 +169,7 @@ pub fn columns_of_form(form: Form) -> &'static [Column]
         Form::Close => &[Clerk, Command, Case, Closing, Dated],
         Form::Reopen => &[Clerk, Command, Case, Dated],
         Form::Rule => &[Clerk, Command, Case, Motion, Ruling, Dated],
+        Form::Assign => &[Clerk, Command, Case, Judge, JudgeOrNone, Dated],
     }
 }
 
@@ -187,7 +192,7 @@ pub fn commands() -> &'static [&'static str]
 pub fn commands_listed() -> &'static str
     ensures { result.now ≡ commands_listed }
 {
-    "open, start, file, extend, motion, book, move, cancel, holiday, inaccessible, compute, sheet, calendar, set, reset, end, resume, close, reopen or rule"
+    "open, start, file, extend, motion, book, move, cancel, holiday, inaccessible, compute, sheet, calendar, set, reset, end, resume, close, reopen, rule or assign"
 }
 
 // Whether the word is this form's.

@@ -70,6 +70,8 @@ pub enum Column {
     ResumeDay,
     /// How a motion was ruled on.
     Ruling,
+    /// A judge to whom a case is referred, or nothing.
+    JudgeOrNone,
 }
 
 /// The column of that number, counted from 0.
@@ -110,6 +112,7 @@ pub fn name_of(column: Column) -> &'static str
         Column::Dated => "dated",
         Column::Why | Column::Closing => "why",
         Column::Ruling => "ruling",
+        Column::JudgeOrNone => "referred",
     }
 }
 
@@ -149,6 +152,7 @@ pub fn mark_of(word: &str, column: Column) -> &str
         Column::Why | Column::Closing => "WHY",
         Column::ResumeDay => "[DAY]",
         Column::Ruling => "RULING",
+        Column::JudgeOrNone => "[JUDGE2]",
     }
 }
 
@@ -158,6 +162,10 @@ pub fn may_be_empty(column: Column) -> bool
 {
     matches!(
         column,
-        Column::TimeOrNone | Column::SecondOrNone | Column::ServiceOrNone | Column::ResumeDay
+        Column::TimeOrNone
+            | Column::SecondOrNone
+            | Column::ServiceOrNone
+            | Column::ResumeDay
+            | Column::JudgeOrNone
     )
 }

@@ -4,7 +4,8 @@ use super::{court, day};
 use court_days::HolidayList;
 use docket_core::Docket;
 use docket_rows::{
-    Answer, Closing, Command, Ending, Fact, Query, Refusal, Ruling, Setting, Sheet, View,
+    Answer, Assignment, Closing, Command, Ending, Fact, Query, Refusal, Ruling, Setting, Sheet,
+    View,
 };
 use hearing_slots::{Need, Panel};
 use rule_periods::{Event, Period, RulePeriod};
@@ -186,6 +187,62 @@ fn closes_and_reopens(rt: &impl Abort, alloc: Global, docket: &mut Docket) -> Re
 fn a_case_is_closed_and_reopened(rt: HostRuntime) -> Result<(), Fail> {
     let mut docket = opening(rt.alloc())?;
     closes_and_reopens(&rt, rt.alloc(), &mut docket)
+}
+
+/// Assigns case 1 on this day.
+fn assign(rt: &impl Abort, judge: u8, referred: Option<u8>, text: &str) -> Command {
+    let dated = day(rt, text);
+    fact(Fact::Assigned {
+        judge,
+        referred,
+        dated,
+    })
+}
+
+/// Who has case 1.
+fn assigned(alloc: Global, docket: &Docket) -> Result<Option<Assignment>, Fail> {
+    match docket.show(alloc, &Query::Sheet(1))? {
+        View::Sheet(sheet) => Ok(sheet.assigned),
+        _ => Err(Fail::new("no sheet")),
+    }
+}
+
+/// Assigns case 1 to a judge, and refers it. An assignment of an earlier day doesn't change who has it.
+fn assigns_by_day(rt: &impl Abort, alloc: Global, docket: &mut Docket) -> Result<(), Fail> {
+    let later = assign(rt, 0, Some(1), "2025-03-12");
+    let earlier = assign(rt, 1, None, "2025-03-10");
+    let of_none = assign(rt, 0, Some(2), "2025-03-12");
+    let twice = assign(rt, 1, Some(1), "2025-03-12");
+    gives(rt, alloc, docket, &open_case(rt), &Answer::Opened)?;
+    gives(rt, alloc, docket, &later, &Answer::Assigned)?;
+    gives(rt, alloc, docket, &earlier, &Answer::Assigned)?;
+    gives(
+        rt,
+        alloc,
+        docket,
+        &of_none,
+        &Answer::Refused(Refusal::NoSuchJudge),
+    )?;
+    gives(
+        rt,
+        alloc,
+        docket,
+        &twice,
+        &Answer::Refused(Refusal::BadPanel),
+    )?;
+    let judge = Assignment {
+        judge: 0,
+        referred: Some(1),
+        dated: day(rt, "2025-03-12"),
+    };
+    assert!(rt; assigned(alloc, docket)? == Some(judge));
+    Ok(())
+}
+
+#[test]
+fn an_earlier_assignment_takes_no_later_ones_place(rt: HostRuntime) -> Result<(), Fail> {
+    let mut docket = opening(rt.alloc())?;
+    assigns_by_day(&rt, rt.alloc(), &mut docket)
 }
 
 #[test]
