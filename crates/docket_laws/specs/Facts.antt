@@ -1,5 +1,5 @@
--- What facts of cases come to: without them nothing is closed, ended or assigned, a closed case ends its deadlines, and a ruling leaves no later
--- hearing.
+-- What facts of cases come to: without them nothing is closed, ended or assigned, a closed case ends its deadlines, and a ruling leaves
+-- no later hearing.
 use Rattle.std.specs.Prelude.{◌≡◌, ℕ, ℤ, Bool, true, false, not, List, [], Some, None}
 use Rattle.std.specs.List.{list_all}
 use Rattle.docket_rows.specs.declared.command.Command.{Command}

@@ -29,7 +29,8 @@ pub struct Appointment {
 pub(crate) type AppointmentTypes = Option<(DueTypes, DueItem, Hearing, Panel, Day, Instant)>;
 
 /// The items; then the deadlines, among what is due in the cases that aren't before the chosen judge, of those that were; the chosen
-/// hearings that are off, by case and motion; and those of the deadlines that no row starts any more which that judge may have had. The histories are as that judge saw them. `Err` says that memory ran out.
+/// hearings that are off, by case and motion; and those of the deadlines that no row starts any more which that judge may have had. The
+/// histories are as that judge saw them. `Err` says that memory ran out.
 #[tactic(auto, unfolding(crate::specs::Appointments::appointments_of))]
 pub fn appointments_of(
     alloc: Global,
