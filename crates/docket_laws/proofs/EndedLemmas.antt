@@ -1,4 +1,4 @@
--- Without facts nothing is closed, ended or assigned, and a closed case ends its deadlines.
+-- Without facts nothing is closed, ended, ruled on or assigned, and a closed case ends its deadlines.
 use Rattle.std.proofs.Common.{◌≡◌, ℕ, true, false, not, is_some, List, [], ◌∷◌, find, Option, Some, None, option_map, refl, subst}
 use Rattle.std.specs.List.{list_all}
 use Rattle.std.specs.Option.{option_map_or}
@@ -7,7 +7,7 @@ use Rattle.docket_rows.specs.declared.command.Command.{Command}
 use Rattle.docket_rows.specs.declared.command.Command.TheVariants.{OpenCase, Start, FileAct, Extend, Motion, Book, MoveHearing, Cancel, Holiday, Inaccessible, Fact}
 use Rattle.docket_rows.specs.declared.fact.Ending.TheVariants.{CaseClosed}
 use Rattle.docket_rows.specs.declared.refusal.Refusal.{Refusal}
-use Rattle.docket_rows.specs.Words.{CourtSetup, Rows, CaseRecordView, DocketedCase, DocketedDeadline, assigned_in, case_shown, closing_in, ending_in, facts_of, is_case, is_closed, opening_rows, parts_of, refusal, rows_after, rows_from, step}
+use Rattle.docket_rows.specs.Words.{CourtSetup, Rows, CaseRecordView, DocketedCase, DocketedDeadline, assigned_in, case_shown, closing_in, ending_in, facts_of, is_case, is_closed, opening_rows, parts_of, refusal, rows_after, rows_from, ruling_in, step}
 use Rattle.docket_laws.specs.Facts.{records_fact}
 use Rattle.docket_laws.specs.Lawful.{deadline_on_sheet, docket_after}
 use Rattle.docket_laws.proofs.LawfulLemmas.ListLemmas.{found_stands}
@@ -58,6 +58,10 @@ all_open rows case none = found_open rows (find (is_case case) rows.cases) none
 pub all_due : (rows : Rows) (case number : ℕ) → rows.facts ≡ [] → ending_in (facts_of rows case) number ≡ None
 unfolding ending_in closing_in
 all_due rows case number none = rw none refl
+
+pub all_unruled : (rows : Rows) (case number : ℕ) → rows.facts ≡ [] → ruling_in (facts_of rows case) number ≡ None
+unfolding ruling_in
+all_unruled rows case number none = rw none refl
 
 pub all_unassigned : (rows : Rows) (case : ℕ) → rows.facts ≡ [] → assigned_in (facts_of rows case) ≡ None
 unfolding assigned_in

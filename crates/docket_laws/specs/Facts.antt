@@ -1,5 +1,5 @@
--- What facts of cases come to: without them nothing is closed, ended or assigned, a closed case ends its deadlines, and a ruling leaves
--- no later hearing.
+-- What facts of cases come to: without them nothing is closed, ended, ruled on or assigned, a closed case ends its deadlines, and a
+-- ruling leaves no later hearing.
 use Rattle.std.specs.Prelude.{◌≡◌, ℕ, ℤ, Bool, true, false, not, List, [], Some, None}
 use Rattle.std.specs.List.{list_all}
 use Rattle.docket_rows.specs.declared.command.Command.{Command}
@@ -7,7 +7,7 @@ use Rattle.docket_rows.specs.declared.command.Command.TheVariants.{Fact}
 use Rattle.docket_rows.specs.declared.fact.Ending.TheVariants.{CaseClosed}
 use Rattle.docket_rows.specs.declared.fact.Fact.TheVariants.{Ruled}
 use Rattle.docket_rows.specs.declared.fact.Ruling.{Ruling}
-use Rattle.docket_rows.specs.Words.{CourtSetup, Rows, DocketedDeadline, assigned_in, ending_in, facts_of, hearing_of, if_ahead, is_closed, parts_of, refusal, step}
+use Rattle.docket_rows.specs.Words.{CourtSetup, Rows, DocketedDeadline, assigned_in, ending_in, facts_of, hearing_of, if_ahead, is_closed, parts_of, refusal, ruling_in, step}
 use Rattle.docket_laws.specs.Lawful.{deadline_on_sheet, docket_after}
 
 -- the command records a fact of a case
@@ -15,12 +15,13 @@ abbrev pub records_fact : Command → Bool
 records_fact (Fact case fact) = true
 records_fact other = false
 
--- Commands that record no fact, such as those of clerk_office, leave none. And where there is none, no case is closed or assigned and
--- no deadline is ended: so nothing is refused for that, and sheets show what they show without facts.
+-- Commands that record no fact, such as those of clerk_office, leave none. And where there is none, no case is closed or assigned, no
+-- deadline is ended and no motion is ruled on: so nothing is refused for that, and sheets show what they show without facts.
 pub record WithoutFactsNothingIsEnded : Type 0 where
   pub none_recorded : (setup : CourtSetup) (commands : List Command) → list_all (λ command. not (records_fact command)) commands ≡ true → (docket_after setup commands).facts ≡ []
   pub none_closed : (rows : Rows) (case : ℕ) → rows.facts ≡ [] → is_closed (parts_of rows) case ≡ false
   pub none_ended : (rows : Rows) (case number : ℕ) → rows.facts ≡ [] → ending_in (facts_of rows case) number ≡ None
+  pub none_ruled : (rows : Rows) (case number : ℕ) → rows.facts ≡ [] → ruling_in (facts_of rows case) number ≡ None
   pub none_assigned : (rows : Rows) (case : ℕ) → rows.facts ≡ [] → assigned_in (facts_of rows case) ≡ None
 
 -- each deadline on the sheet of a closed case is ended

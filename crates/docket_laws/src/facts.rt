@@ -2,8 +2,8 @@
 
 ghost use Rattle.docket_laws.specs.Facts.{ClosedCasesEndTheirDeadlines, RulingsLeaveNoLaterHearing, WithoutFactsNothingIsEnded};
 
-/// Commands that record no fact of a case leave none, and without facts no case is closed or assigned and no deadline is ended. So a
-/// docket of the office's commands alone is as it was before there were facts.
+/// Commands that record no fact of a case leave none, and without facts no case is closed or assigned, no deadline is ended and no motion
+/// is ruled on. So a docket of the office's commands alone is as it was before there were facts.
 pub fn without_facts_nothing_is_ended()
     ensures { WithoutFactsNothingIsEnded }
 {}
