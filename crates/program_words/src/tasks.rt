@@ -194,7 +194,7 @@ pub(crate) fn memo(
 {
     let (source, asked) = both(
         source_in(alloc, clock_time, given),
-        report_memo::asked_by(alloc, given),
+        report_memo::asked_by(alloc, clock_time, given),
     )?;
     Ok(Task::Memo(source, asked))
 }

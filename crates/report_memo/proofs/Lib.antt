@@ -1,5 +1,6 @@
 pub mod AnswerLemmas
 pub mod AskedLemmas
+pub mod CourtNameLemmas
 pub mod DaysLemmas
 pub mod DocketLemmas
 pub mod MarginLemmas

@@ -9,5 +9,7 @@ pub mod Memo
 pub mod Case
 pub mod CommandLine
 pub mod Asked
+pub mod CourtName
+pub mod Head
 pub mod Answer
 pub mod Words

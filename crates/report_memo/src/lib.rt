@@ -5,7 +5,9 @@
 mod asked;
 mod calendars;
 mod case;
+mod court_name;
 mod detail;
+mod head;
 mod laws;
 mod memo;
 mod notes;
@@ -17,7 +19,7 @@ mod sources;
 mod subcommand;
 mod whole;
 
-pub use asked::{Asked, asked_by};
+pub use asked::{Asked, asked_by, day_made};
 pub use laws::margins_say_the_state;
 pub use report::memo_of;
 pub use subcommand::with_memo;

@@ -1,12 +1,16 @@
 //! What is asked for, as what is written.
 
-ghost use Rattle.std.specs.Prelude.{◌≡◌, IfOk, string_bytes};
+ghost use Rattle.std.specs.Prelude.{◌≡◌, ◌++◌, List, IfOk, string_bytes};
+ghost use Rattle.court_days.specs.Words.{CourtView};
 ghost use Rattle.program_runs.specs.Words.{IsFinding};
-ghost use Rattle.report_memo.specs.Answer.{IsAnswer, IsCalled, IsCalledMissing, IsMissing, no_case};
-ghost use Rattle.report_texts.specs.Words.{labels_of};
+ghost use Rattle.row_forms.specs.declared.numbered.NumberedRow.{NumberedRow};
+ghost use Rattle.report_memo.specs.Answer.{IsAnswer, IsCalled, IsCalledMissing, IsHeaded, IsMissing, no_case};
+ghost use Rattle.report_memo.specs.Head.{head_of};
+ghost use Rattle.report_texts.specs.Words.{LabelsView, labels_of};
 
 use crate::asked::Asked;
 use crate::case::case_text;
+use crate::head::head_of;
 use crate::memo::memo_text;
 use case_numbers::Cases;
 use court_clock::Day;
@@ -21,9 +25,11 @@ use std::sync::Wait;
 use std::thread::Threads;
 
 /// The memo of an input: no case has a name, what is counted in a case has its place as its number, and rows are numbered from 1.
+/// Nobody knows on which day it is made but the day that is asked for.
 impl Report for Asked {
     ghost use Rattle.std.specs.Prelude.{[]};
     ghost use Rattle.report_memo.specs.Answer.{IsAnswerOf, IsMissingOf};
+    ghost use Rattle.report_memo.specs.Head.{head_of};
     ghost use Rattle.report_texts.specs.Words.{labels_of};
 
     type Text = Vec<u8>;
@@ -31,7 +37,7 @@ impl Report for Asked {
     // The rows are one history, whoever gave them.
     ghost clerk_count = { λ asked. 64 };
 
-    ghost is_text = { λ asked file. IsAnswerOf asked (labels_of file [] []) };
+    ghost is_text = { λ asked file. IsAnswerOf asked (head_of file [] asked.case asked.today) (labels_of file [] []) };
 
     ghost is_missing = { λ asked file. IsMissingOf asked (labels_of file [] []) };
 
@@ -57,6 +63,7 @@ impl Report for Asked {
             alloc,
             self,
             file,
+            self.today,
             &checked.court,
             &cases,
             &moved,
@@ -66,10 +73,57 @@ impl Report for Asked {
 }
 
 /// What is asked for of these rows in a court whose file has these bytes, where cases have these names, and deadlines and motions
-/// whose numbers aren't their places these numbers: the reply to each row with the reasons of each deadline that it shows, then
-/// the sheets of all open cases and the calendars of all judges; or the whole sheet of the case that is asked for, or the line
-/// that says that the case isn't there. The bytes are asked for the names of holidays alone. `Err` says that memory ran out.
+/// whose numbers aren't their places these numbers: a head, with the day on which the memo is made where that is known; and the reply
+/// to each row with the reasons of each deadline that it shows, then the sheets of all open cases and the calendars of all judges; or
+/// the whole sheet of the case that is asked for, or the line that says that the case isn't there. The bytes are asked for the names
+/// of the court and of holidays alone. `Err` says that memory ran out.
 pub fn memo_of(
+    alloc: Global,
+    asked: &Asked,
+    file: &[u8],
+    made: Option<Day>,
+    court: &Court,
+    cases: &Cases,
+    moved: &MovedNumbers,
+    rows: &[NumberedRow],
+) -> Result<Finding<Vec<u8>>, AllocError>
+    ensures { IfOk result (IsFinding (λ text. text.items) (IsHeaded (head_of file.now cases.now.named asked.now.case made) asked.now court.now (labels_of file.now cases.now.named moved.now) rows.now) (IsMissing asked.now court.now (labels_of file.now cases.now.named moved.now) rows.now)) }
+{
+    let found = body_of(alloc, asked, file, court, cases, moved, rows)?;
+    match found {
+        Finding::Text(body) => headed(alloc, asked, file, made, cases, body),
+        Finding::Missing(line) => Ok(Finding::Missing(line)),
+    }
+}
+
+/// The head of what is asked for, and then this text of it.
+fn headed(
+    alloc: Global,
+    asked: &Asked,
+    file: &[u8],
+    made: Option<Day>,
+    cases: &Cases,
+    body: Vec<u8>,
+) -> Result<Finding<Vec<u8>>, AllocError>
+    ensures { (court : CourtView) (labels : LabelsView) (rows : List NumberedRow) → IsAnswer asked.now court labels rows body.items →
+        IfOk result (IsFinding (λ text. text.items) (IsHeaded (head_of file.now cases.now.named asked.now.case made) asked.now court labels rows) (IsMissing asked.now court labels rows)) }
+{
+    let head = head_of(alloc, file, cases, &asked.case, made)?;
+    let text = joined(head, &body)?;
+    Ok(Finding::Text(text))
+}
+
+/// A text, and then these bytes.
+fn joined(front: String, back: &[u8]) -> Result<Vec<u8>, AllocError>
+    ensures { IfOk result (λ text. text.items ≡ string_bytes front ++ back.now) }
+{
+    let mut text = front.into_bytes();
+    text.extend_from_slice(back)?;
+    Ok(text)
+}
+
+/// The same without its head.
+fn body_of(
     alloc: Global,
     asked: &Asked,
     file: &[u8],
