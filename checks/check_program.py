@@ -176,6 +176,22 @@ COURTS = [
     ("a court that is named before CR LF", b"# The court's file of the Court\r\n", b"Court"),
     ("a court whose name isn't ASCII", "# The court's file of the Tribunal de São Tomé.\n".encode(), "Tribunal de São Tomé".encode()),
 ]
+# The holidays of the federal list that the names below are of: Independence Day is kept on 2021-07-05, a Monday
+OBSERVED = COURT.replace(b'"2025-07-04"', b'"2021-07-05"') + b"[holiday_names]\n2021-07-05 = "
+OBSERVED_ROW = b"%%\n1,compute,7d/after/filing/event/plain,2021-06-28,,,\n"
+
+
+def observed(name):
+    """Why 7 days after 2021-06-28 end on 2021-07-06, where the holiday between them is called so."""
+    return (b"1 1 last 2021-07-06\n"
+            + reason(b" " * 14, b"7 days after the event, to file", b"entered")
+            + reason(b"Mon 2021-06-28", b"day of the event, excluded", b"6(a)(1)(A)")
+            + reason(b"Mon 2021-07-05", b"day 7, every day counted", b"6(a)(1)(B)")
+            + reason(b"Mon 2021-07-05", name + b", passed over", b"6(a)(1)(C), 6(a)(6)")
+            + reason(b"Tue 2021-07-06", b"the time runs to this day", b"6(a)(1)(C)")
+            + reason(b"Tue 2021-07-06", b"last day, to 17:00, e-filing to midnight", b"6(a)(4)"))
+
+
 TOLD = b"docket: "
 TRY_HELP = b"\n\nFor more information, try '--help'.\n"
 NO_DAY = b"error: invalid value 'X' for '--today <DAY>': write a day as 2025-09-15" + TRY_HELP
@@ -183,6 +199,9 @@ NO_CASE = b"error: '--today <DAY>' counts for one case: name it by '--case <N>'"
 
 MEMO_RUNS = [(name, [], named(entries), 0, HEAD + LINE + reasons(cause) + JUDGE, b"") for name, entries, cause in NAMES] + [
     (name, [], line + COURT, 0, b"Court    " + court + b"\n" + HEAD + JUDGE, b"") for name, line, court in COURTS] + [
+    ("a name of a holiday that is observed", [], OBSERVED + b'"Independence Day"\n' + OBSERVED_ROW, 0,
+     HEAD + observed(b"Independence Day, observed") + JUDGE, b""),
+    ("another name of such a day", [], OBSERVED + b'"Day of mourning"\n' + OBSERVED_ROW, 0, HEAD + observed(b"Day of mourning") + JUDGE, b""),
     ("names that are no table", [], b"holiday_names = 3\n" + ROWS, 0, HEAD + LINE + reasons(b"Labor Day") + JUDGE, b""),
     ("a day that is named twice", [], named(LABOR + LABOR), 2, b"", b"court fault 1 NotToml\n"),
     ("an option of the office", ["--clerks", "1"], ROWS, 1, b"", usage(b"unexpected argument '--clerks' found\n")),
