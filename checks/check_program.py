@@ -67,7 +67,7 @@ def reason(day, what, section):
 
 def reasons(cause):
     """Why 28 days after 2025-08-04 end on 2025-09-02, where the holiday between them is passed over for this cause."""
-    return (reason(b" " * 14, b"28 days after the event, to file", b"entered")
+    return (reason(b" " * 14, b"28 days after the event, to file (28d/after/filing/event/plain)", b"entered")
             + reason(b"Mon 2025-08-04", b"day of the event, excluded", b"6(a)(1)(A)")
             + reason(b"Mon 2025-09-01", b"day 28, every day counted", b"6(a)(1)(B)")
             + reason(b"Mon 2025-09-01", cause + b", passed over", b"6(a)(1)(C), 6(a)(6)")
@@ -184,7 +184,7 @@ OBSERVED_ROW = b"%%\n1,compute,7d/after/filing/event/plain,2021-06-28,,,\n"
 def observed(name):
     """Why 7 days after 2021-06-28 end on 2021-07-06, where the holiday between them is called so."""
     return (b"1 1 last 2021-07-06\n"
-            + reason(b" " * 14, b"7 days after the event, to file", b"entered")
+            + reason(b" " * 14, b"7 days after the event, to file (7d/after/filing/event/plain)", b"entered")
             + reason(b"Mon 2021-06-28", b"day of the event, excluded", b"6(a)(1)(A)")
             + reason(b"Mon 2021-07-05", b"day 7, every day counted", b"6(a)(1)(B)")
             + reason(b"Mon 2021-07-05", name + b", passed over", b"6(a)(1)(C), 6(a)(6)")

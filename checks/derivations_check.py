@@ -24,7 +24,7 @@ from lib.desk import desk_rows, report_of
 from lib.derivation_steps import AFTER, COLUMN, WEEKDAYS, Calendar, Deadline, Line, Wrong, checked, expect, line_of
 from lib.made_inputs import CODES, HOLIDAYS, ZONES, listed, quoted
 from lib.memo_head import below_head, head_of, without_made
-from lib.period_words import COUNTING, SET, SUMMONS, heading
+from lib.period_words import COUNTING, SET, SUMMONS, called
 from lib.programs import TOP, programs_of, seed_and_count
 from reference import periods
 from reference.civil import day_of_text, day_text, minute_of_text, minute_text, weekday
@@ -227,12 +227,12 @@ def asked(deadline):
 
 
 def follow(calendar, deadline, texts, shown, more, first):
-    """That the lines are the first ones, the deadline's period in words, its reasons, the other readings, and the others."""
+    """That the lines are the first ones, the deadline's period by its Rule, its reasons, the other readings, and the others."""
     lines = [line_of(text) for text in texts]
     expect(lines[:len(first)] == [Line(*line) for line in first], "other rows made the deadline")
     lines = lines[len(first):]
     event = deadline.event if deadline.second is None else max(deadline.event, deadline.second)
-    wanted = [Line(*line) for line in heading(deadline.text, event)]
+    wanted = [Line(*line) for line in called(deadline.text, event)]
     expect(lines[:len(wanted)] == wanted, "the period is another")
     left = checked(calendar, deadline, lines[len(wanted):], shown)
     readings = [Line(*line) for line in other_readings.lines(calendar, asked(deadline))]

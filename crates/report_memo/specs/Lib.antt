@@ -1,4 +1,5 @@
 pub mod Texts
+pub mod Called
 pub mod Reasons
 pub mod Sources
 pub mod Sheets

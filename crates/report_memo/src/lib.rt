@@ -4,6 +4,7 @@
 
 mod asked;
 mod calendars;
+mod called;
 mod case;
 mod court_name;
 mod detail;
