@@ -17,6 +17,7 @@ import subprocess
 import sys
 
 from lib.memo_head import head_of
+from lib.memo_page import page_of
 
 COURT = b"""\
 zone = "EST5EDT,M3.2.0/2,M11.1.0/2"
@@ -228,6 +229,11 @@ MEMO_RUNS = [(name, [], named(entries), 0, HEAD + LINE + reasons(cause) + JUDGE,
     ("a name that isn't whole", ["--case", "1:25-cv"], OPEN_CASE, 1, b"", usage(b"invalid value '1:25-cv' for '--case <N>'")),
     ("a case twice", ["--case=1", "--case=1"], OPEN_CASE, 1, b"", Has(b"cannot be used multiple times")),
     ("a day without its text", ["--case=1", "--today"], OPEN_CASE, 1, b"", usage(b"a value is required for '--today <DAY>'")),
+    ("a page", ["--html"], named(b'2025-09-01 = "<b>Labor</b> & \'Day\'"\n'), 0,
+     page_of((HEAD + LINE + reasons(b"<b>Labor</b> & 'Day'") + JUDGE).decode()).encode(), b""),
+    ("a page of a case and a day", ["--html", "--today=2025-03-03", "--case=1"], OPEN_CASE, 0, page_of((FROM_DAY + CASE).decode()).encode(), b""),
+    ("a page of a case that isn't open", ["--html", "--case", "2"], OPEN_CASE, 6, b"", TOLD + b"case 2 isn't open: no row has opened it\n"),
+    ("a page twice", ["--html", "--html"], ROWS, 1, b"", Has(b"cannot be used multiple times")),
 ]
 
 # Of each program the words with which it is called, its runs, and how it ends where there is no room for what it writes of no row and

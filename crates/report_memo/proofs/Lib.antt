@@ -5,5 +5,6 @@ pub mod DaysLemmas
 pub mod DocketLemmas
 pub mod MarginLemmas
 pub mod MemoLemmas
+pub mod PageLemmas
 pub mod ReplyLemmas
 pub mod TextLemmas

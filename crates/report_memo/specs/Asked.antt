@@ -11,7 +11,7 @@ use Rattle.program_main.specs.Texts.Words.{faults_unless, is_case_taken, is_day_
 use Rattle.report_memo.specs.declared.asked.Asked.{Asked}
 
 -- what the options were given asks for that: the case and the day are those that the texts of their options write; they say nothing
--- of the clock's time
+-- of the clock's time, nor whether it is a page
 pub record IsAskedBy (given : List Row) (asked : Asked) : Type 0 where
   pub case : asked.case ≡ option_and_then case_called (first_of (codes "case") given)
   pub today : asked.today ≡ option_and_then day_of_text (first_of (codes "today") given)

@@ -12,5 +12,6 @@ pub mod CommandLine
 pub mod Asked
 pub mod CourtName
 pub mod Head
+pub mod Page
 pub mod Answer
 pub mod Words

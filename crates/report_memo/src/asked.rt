@@ -24,17 +24,22 @@ pub struct Asked {
     pub today: Option<Day>,
     /// The instant that the clock shows, by which the memo of a folder is made where no day is given.
     pub clock_time: Instant,
+    /// Whether it is a page.
+    pub html: bool,
 }
 
-/// What is asked for by the texts of the options `case` and `today` that were given, at the clock's time. BadWords where a text calls
-/// no case or writes no day, or where a day is given and no case, and OutOfMemory where memory runs out.
+/// What is asked for by the texts of the options `case` and `today` that were given, at the clock's time, as a page where `html` says
+/// so. BadWords where a text calls no case or writes no day, or where a day is given and no case, and OutOfMemory where memory runs
+/// out.
 pub fn asked_by(
     alloc: Global,
     clock_time: Instant,
+    html: bool,
     given: &ArgMatches<'_>,
 ) -> Result<Asked, OptionsFault>
     ensures asked { IfOk result (λ asked. IsAskedBy (rows_of (found_of given.now)) asked) }
     ensures timed { IfOk result (λ asked. asked.clock_time ≡ clock_time) }
+    ensures shown { IfOk result (λ asked. asked.html ≡ html) }
     ensures faults { IsAnswerFor (faults_given (rows_of (found_of given.now))) result }
     ensures taken { are_given_taken (rows_of (found_of given.now)) ≡ true → IfErr result (λ fault. fault ≡ OptionsFault.OutOfMemory) }
 {
@@ -47,6 +52,7 @@ pub fn asked_by(
             case,
             today,
             clock_time,
+            html,
         }),
         Err(fault) => Err(fault),
     }

@@ -12,6 +12,7 @@ mod head;
 mod laws;
 mod memo;
 mod notes;
+mod page;
 mod reasons;
 mod replies;
 mod report;
@@ -21,6 +22,6 @@ mod subcommand;
 mod whole;
 
 pub use asked::{Asked, asked_by, day_made};
-pub use laws::margins_say_the_state;
+pub use laws::{margins_say_the_state, page_is_markup};
 pub use report::memo_of;
 pub use subcommand::with_memo;

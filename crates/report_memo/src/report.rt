@@ -4,14 +4,16 @@ ghost use Rattle.std.specs.Prelude.{◌≡◌, ◌++◌, List, IfOk, string_byte
 ghost use Rattle.court_days.specs.Words.{CourtView};
 ghost use Rattle.program_runs.specs.Words.{IsFinding};
 ghost use Rattle.row_forms.specs.declared.numbered.NumberedRow.{NumberedRow};
-ghost use Rattle.report_memo.specs.Answer.{IsAnswer, IsCalled, IsCalledMissing, IsHeaded, IsMissing, no_case};
+ghost use Rattle.report_memo.specs.Answer.{IsAnswer, IsCalled, IsCalledMissing, IsMissing, IsWritten, no_case};
 ghost use Rattle.report_memo.specs.Head.{head_of};
+ghost use Rattle.report_memo.specs.Page.{shown_as};
 ghost use Rattle.report_texts.specs.Words.{LabelsView, labels_of};
 
 use crate::asked::Asked;
 use crate::case::case_text;
 use crate::head::head_of;
 use crate::memo::memo_text;
+use crate::page::page_of;
 use case_numbers::Cases;
 use court_clock::Day;
 use court_days::Court;
@@ -75,8 +77,8 @@ impl Report for Asked {
 /// What is asked for of these rows in a court whose file has these bytes, where cases have these names, and deadlines and motions
 /// whose numbers aren't their places these numbers: a head, with the day on which the memo is made where that is known; and the reply
 /// to each row with the reasons of each deadline that it shows, then the sheets of all open cases and the calendars of all judges; or
-/// the whole sheet of the case that is asked for, or the line that says that the case isn't there. The bytes are asked for the names
-/// of the court and of holidays alone. `Err` says that memory ran out.
+/// the whole sheet of the case that is asked for, or the line that says that the case isn't there. It is a text or a page. The bytes
+/// are asked for the names of the court and of holidays alone. `Err` says that memory ran out.
 pub fn memo_of(
     alloc: Global,
     asked: &Asked,
@@ -87,38 +89,64 @@ pub fn memo_of(
     moved: &MovedNumbers,
     rows: &[NumberedRow],
 ) -> Result<Finding<Vec<u8>>, AllocError>
-    ensures { IfOk result (IsFinding (λ text. text.items) (IsHeaded (head_of file.now cases.now.named asked.now.case made) asked.now court.now (labels_of file.now cases.now.named moved.now) rows.now) (IsMissing asked.now court.now (labels_of file.now cases.now.named moved.now) rows.now)) }
+    ensures { IfOk result (IsFinding (λ text. text.items) (IsWritten (head_of file.now cases.now.named asked.now.case made) asked.now court.now (labels_of file.now cases.now.named moved.now) rows.now) (IsMissing asked.now court.now (labels_of file.now cases.now.named moved.now) rows.now)) }
 {
     let found = body_of(alloc, asked, file, court, cases, moved, rows)?;
     match found {
-        Finding::Text(body) => headed(alloc, asked, file, made, cases, body),
+        Finding::Text(body) => written(alloc, asked, file, made, cases, body.as_str()),
         Finding::Missing(line) => Ok(Finding::Missing(line)),
     }
 }
 
-/// The head of what is asked for, and then this text of it.
+/// The head of what is asked for, and below it this text of it.
+fn written(
+    alloc: Global,
+    asked: &Asked,
+    file: &[u8],
+    made: Option<Day>,
+    cases: &Cases,
+    body: &str,
+) -> Result<Finding<Vec<u8>>, AllocError>
+    ensures { (court : CourtView) (labels : LabelsView) (rows : List NumberedRow) → IsAnswer asked.now court labels rows body.now →
+        IfOk result (IsFinding (λ text. text.items) (IsWritten (head_of file.now cases.now.named asked.now.case made) asked.now court labels rows) (IsMissing asked.now court labels rows)) }
+{
+    let text = headed(alloc, asked, file, made, cases, body)?;
+    Ok(Finding::Text(text))
+}
+
+/// The head of what is asked for, and below it this text, as they are or as a page.
 fn headed(
     alloc: Global,
     asked: &Asked,
     file: &[u8],
     made: Option<Day>,
     cases: &Cases,
-    body: Vec<u8>,
-) -> Result<Finding<Vec<u8>>, AllocError>
-    ensures { (court : CourtView) (labels : LabelsView) (rows : List NumberedRow) → IsAnswer asked.now court labels rows body.items →
-        IfOk result (IsFinding (λ text. text.items) (IsHeaded (head_of file.now cases.now.named asked.now.case made) asked.now court labels rows) (IsMissing asked.now court labels rows)) }
+    body: &str,
+) -> Result<Vec<u8>, AllocError>
+    ensures { IfOk result (λ text. text.items ≡ shown_as asked.now.html (head_of file.now cases.now.named asked.now.case made) body.now) }
 {
     let head = head_of(alloc, file, cases, &asked.case, made)?;
-    let text = joined(head, &body)?;
-    Ok(Finding::Text(text))
+    shown_as(alloc, asked.html, head.as_str(), body)
 }
 
-/// A text, and then these bytes.
-fn joined(front: String, back: &[u8]) -> Result<Vec<u8>, AllocError>
-    ensures { IfOk result (λ text. text.items ≡ string_bytes front ++ back.now) }
+/// A head and what is below it, as they are or as a page.
+fn shown_as(alloc: Global, html: bool, head: &str, body: &str) -> Result<Vec<u8>, AllocError>
+    ensures { IfOk result (λ text. text.items ≡ shown_as html head.now body.now) }
 {
-    let mut text = front.into_bytes();
-    text.extend_from_slice(back)?;
+    if html {
+        page_of(alloc, head, body)
+    } else {
+        joined(alloc, head, body)
+    }
+}
+
+/// A text, and after it another.
+fn joined(alloc: Global, front: &str, back: &str) -> Result<Vec<u8>, AllocError>
+    ensures { IfOk result (λ text. text.items ≡ front.now ++ back.now) }
+{
+    let mut text = Vec::new(alloc);
+    text.extend_from_slice(front.as_bytes())?;
+    text.extend_from_slice(back.as_bytes())?;
     Ok(text)
 }
 
@@ -131,8 +159,8 @@ fn body_of(
     cases: &Cases,
     moved: &MovedNumbers,
     rows: &[NumberedRow],
-) -> Result<Finding<Vec<u8>>, AllocError>
-    ensures { IfOk result (IsFinding (λ text. text.items) (IsAnswer asked.now court.now (labels_of file.now cases.now.named moved.now) rows.now) (IsMissing asked.now court.now (labels_of file.now cases.now.named moved.now) rows.now)) }
+) -> Result<Finding<String>, AllocError>
+    ensures { IfOk result (IsFinding string_bytes (IsAnswer asked.now court.now (labels_of file.now cases.now.named moved.now) rows.now) (IsMissing asked.now court.now (labels_of file.now cases.now.named moved.now) rows.now)) }
 {
     let found = holiday_names(alloc, file)?;
     let labels = Labels {
@@ -142,7 +170,7 @@ fn body_of(
         doubtful: found.doubtful.as_slice(),
     };
     match answer(alloc, asked, court, &labels, rows)? {
-        Finding::Text(text) => Ok(Finding::Text(text.into_bytes())),
+        Finding::Text(text) => Ok(Finding::Text(text)),
         Finding::Missing(line) => Ok(Finding::Missing(line)),
     }
 }
