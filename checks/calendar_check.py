@@ -8,12 +8,12 @@ makes the list of what is due or overdue, a judge's week and what a page says by
 any days, any judge, any case, and words that say nothing of the court. Half of the inputs are entered into a folder, in which
 cases have names (lib/given_docket.py), and each is called by its name. Of the cases of runs/assigned, which are assigned to
 judges, it must say what was worked out by hand. A page is read by Python's own reader of HTML; its
-markup is looked at too (lib/pages.py). What it says of the reasons of a deadline must be the lines of `docket memo`. In half of
-the inputs rows are given to several clerks (lib/several_clerks.py), which changes nothing. A faulty input must end both
-programs alike, and so must names that no court's file may have, such as `<b>`. Words that write no day, no instant, no number of
-days or no case must be refused, and words such as `friday` or `+7d` must say the days that this script finds by them. A judge,
-a case or the day of a week that isn't there must end the program with status 6 and one line on standard error, in each format.
-It needs Python 3.8 or later; the status is 0 where all is alike.
+markup is looked at too (lib/pages.py). What it says of the reasons of a deadline must be the lines of `docket memo`, but for how
+its period is called. In half of the inputs rows are given to several clerks (lib/several_clerks.py), which changes nothing. A
+faulty input must end both programs alike, and so must names that no court's file may have, such as `<b>`. Words that write no
+day, no instant, no number of days or no case must be refused, and words such as `friday` or `+7d` must say the days that this
+script finds by them. A judge, a case or the day of a week that isn't there must end the program with status 6 and one line on
+standard error, in each format. It needs Python 3.8 or later; the status is 0 where all is alike.
 """
 import datetime
 import random
@@ -28,7 +28,7 @@ from lib.case_names import asked, called, made_name, read
 from lib.desk import Desk, divided
 from lib.given_docket import LAST_ROW, given_docket
 from lib.made_inputs import INPUTS, made_input
-from lib.memo_lines import closing_of, ended_in, other_day, other_of, reasons_of
+from lib.memo_lines import as_on_page, closing_of, ended_in, other_day, other_of, reasons_of
 from lib.pages import faults_of, parts_of
 from lib.period_words import SET
 from lib.programs import TOP, programs_of, seed_and_count
@@ -299,7 +299,7 @@ def page_fault(names, page, text, docket, sheets, reasons, first, last, judge, c
                 cells != [deadline_cells(words) for words in s.deadlines] or \
                 [title for title, _ in found.reasons] != ["Reasons of deadline " + words[1] for words in s.deadlines] or \
                 [note + why for note, (_, why) in zip(notes, found.reasons)] != \
-                [reasons[s.case, int(words[1])] for words in s.deadlines] or others != [[mark] if mark else [] for mark in marks] or \
+                [as_on_page(words[2], reasons[s.case, int(words[1])]) for words in s.deadlines] or others != [[mark] if mark else [] for mark in marks] or \
                 [[cell.lines() for cell in row] for _, row in found.motions] != [motion_cells(*m) for m in s.motions]:
             return "another sheet of case {}".format(s.case)
     return None

@@ -19,7 +19,9 @@ import sys
 import tempfile
 
 from lib.given_docket import LAST_ROW, input_of
+from lib.memo_head import below_head, head_of
 from lib.memo_lines import closing_of, reasons_of
+from lib.memo_page import memo_on, page_of
 from lib.programs import CHECKS, Programs, programs_of, run as run_program
 from lib.runs_made import sum_of
 from lib.stored_calendars import calls_of, data_of, is_of_desk, runs, wanted_of
@@ -77,10 +79,16 @@ def reference_text(run, programs):
 
 
 def memo_fault(run, text):
-    """What is wrong with the reasons of a memo, or none."""
+    """What is wrong with the reasons of a memo, or none. Its head must be that of the court and of what is asked for. A page is looked
+    at as one, and then as the memo on it."""
     from derivations_check import derivations, docket_after, whole_case, wrong_with
     from reference.civil import day_of_text
     case, today = option(run.words, "--case"), option(run.words, "--today")
+    if "--html" in run.words:
+        page, text = text.decode(), memo_on(text.decode()).encode()
+        if page != page_of(text.decode()):
+            return "another page"
+    text = below_head(text.decode(), head_of(split(data_of(run))[0], case, today)).encode()
     found = derivations(data_of(run), text) if case is None else \
         whole_case(docket_after(data_of(run)), text, int(case), None if today is None else day_of_text(today))
     return next((why for why in (wrong_with(*each) for each in found) if why), None)

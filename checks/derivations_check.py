@@ -8,11 +8,12 @@ computed, and deadlines that are started, set and reset by orders, extended, end
 outages that are entered meanwhile. Every deadline that an answer or a sheet shows must have its period in words, then reasons that lead to
 what is shown, by the steps of lib/derivation_steps.py alone, which computes no deadline, and then the other readings that
 give another end, which the second program in plain Python computes (lib/other_readings.py). The lines of an act, of a
-refusal and of what a reader is warned of must be those of lib/note_lines.py. So must those of the examples and of the stored
-run. Of each input the sheets of some cases are asked for too, from days at random: they must have the lines of the sheet that
-the second program writes, each with the rows that made it what it is, its reasons, its act, how far its end lies from that
-day, and what a reader is warned of. Then lines of every shape are spoiled in every way below and must be refused. The status
-is 0 where all of this is so. It needs Python 3.8 or later.
+refusal and of what a reader is warned of must be those of lib/note_lines.py, the head that of lib/memo_head.py, and the page
+with these lines that of lib/memo_page.py. So must those of the examples and of the stored run. Of each input the sheets of some
+cases are asked for too, from days at random: they must have the lines of the sheet that the second program writes, each with
+the rows that made it what it is, its reasons, its act, how far its end lies from that day, and what a reader is warned of. Then
+lines of every shape are spoiled in every way below and must be refused. The status is 0 where all of this is so. It needs Python
+3.8 or later.
 """
 import random
 import re
@@ -23,7 +24,9 @@ from lib import note_lines, other_readings
 from lib.desk import desk_rows, report_of
 from lib.derivation_steps import AFTER, COLUMN, WEEKDAYS, Calendar, Deadline, Line, Wrong, checked, expect, line_of
 from lib.made_inputs import CODES, HOLIDAYS, ZONES, listed, quoted
-from lib.period_words import COUNTING, SET, SUMMONS, heading
+from lib.memo_head import below_head, head_of, without_made
+from lib.memo_page import memo_on, page_of
+from lib.period_words import COUNTING, SET, SUMMONS, called
 from lib.programs import TOP, programs_of, seed_and_count
 from reference import periods
 from reference.civil import day_of_text, day_text, minute_of_text, minute_text, weekday
@@ -227,12 +230,12 @@ def asked(deadline):
 
 
 def follow(calendar, deadline, texts, shown, more, first):
-    """That the lines are the first ones, the deadline's period in words, its reasons, the other readings, and the others."""
+    """That the lines are the first ones, the deadline's period by its Rule, its reasons, the other readings, and the others."""
     lines = [line_of(text) for text in texts]
     expect(lines[:len(first)] == [Line(*line) for line in first], "other rows made the deadline")
     lines = lines[len(first):]
     event = deadline.event if deadline.second is None else max(deadline.event, deadline.second)
-    wanted = [Line(*line) for line in heading(deadline.text, event)]
+    wanted = [Line(*line) for line in called(deadline.text, event)]
     expect(lines[:len(wanted)] == wanted, "the period is another")
     left = checked(calendar, deadline, lines[len(wanted):], shown)
     readings = [Line(*line) for line in other_readings.lines(calendar, asked(deadline))]
@@ -528,13 +531,19 @@ def shape(texts):
 
 
 def memo_of(programs, data, *words):
-    """What the memo says, or the status and the line where what is asked for isn't there."""
+    """What the memo says below its head, which must be that of the court and of these words, or the status and the line where what is
+    asked for isn't there. Its page must have the same lines."""
     ended = report_of(programs, ["memo", *words], data)
     if ended.status == 6 and not ended.output:
         return b"status 6\n" + ended.errors
     if ended.status:
         sys.exit("status {}: {}".format(ended.status, ended.errors.decode()))
-    return ended.output
+    given, text = dict(zip(words[::2], words[1::2])), ended.output.decode()
+    page = report_of(programs, ["memo", *words, "--html"], data).output.decode()
+    if page != page_of(text) or memo_on(page) != text:
+        sys.exit("another page: {}".format(words))
+    text = text if "--today" in given else without_made(text)
+    return below_head(text, head_of(split(data)[0], given.get("--case"), given.get("--today"))).encode()
 
 
 def all_derivations(programs, data, chance):

@@ -28,6 +28,7 @@ from lib.case_names import asked, called, named_text
 from lib.given_docket import given_docket
 from lib.json_text import office_text
 from lib.made_inputs import INPUTS, made_input
+from lib.memo_head import below_head
 from lib.memo_lines import other_of
 from lib.programs import TOP, programs_of, seed_and_count
 from lib.several_clerks import renumbered
@@ -182,11 +183,13 @@ def read(text):
 
 
 def memo_fault(given, text):
-    """Whether `docket memo` says of a folder otherwise than clerk_office, but for the lines of reasons, or none."""
+    """Whether `docket memo` says of a folder otherwise than clerk_office, but for its head and the lines of reasons, or none."""
     ended = given.report(["memo"])
-    bare = "".join(line for line in ended.output.decode().splitlines(keepends=True) if not line.startswith(" "))
+    if ended.status != 0:
+        return "there is no memo"
+    bare = "".join(line for line in below_head(ended.output.decode()).splitlines(keepends=True) if not line.startswith(" "))
     wanted = named_text(given.names, renumbered(text, given.clerks))
-    return None if ended.status == 0 and bare == wanted else "the memo says something else"
+    return None if bare == wanted else "the memo says something else"
 
 
 def differs(chance, given, valid):

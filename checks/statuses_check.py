@@ -45,7 +45,7 @@ FILES = {
     "rows.txt": SHORT_COURT + b"%%\n" + FAULT,
 }
 REPORTS = ("due", "week --judge Ames --of 2025-03-03", "page", "ics --stamp 20250901T120000Z", "json", "json --lines", "sql", "memo",
-           "memo --case 1 --today 2025-03-10")
+           "memo --case 1 --today 2025-03-10", "memo --html")
 # As of when a folder is read: before any case was opened, and after that.
 BEFORE = ("0", "yesterday", "-1d", "2025-03-03", "2025-03-09T02:30", "2025-11-02T01:30:00")
 AS_OF = (*BEFORE, "2", "3", "99", "today", "+7d", "monday", "2190-01-01", "2190-01-01T14:05", "2190-01-01T23:59:59")

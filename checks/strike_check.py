@@ -28,6 +28,7 @@ from lib.desk import Desk, REFUSED, SHORT_COURT, has_rows_of_desk, report_of
 from lib.journal import CORRECTIONS, Said, corrections_in, packed, rows_of as rows_kept, said_in, struck_in, with_said
 from lib.json_text import office_text
 from lib.kept_numbers import GIVES, Numbers, said_wanted, to_say
+from lib.memo_head import below_head, without_made
 from lib.programs import Ended, programs_of, seed_and_count
 from office_reference import ended as ended_by_reference
 from reference.civil import day_text
@@ -407,8 +408,8 @@ def compare_case(desk, numbers, rows, case):
     told = desk.call("memo", "--case", case)
     other = report_of(desk.programs, ["memo", "--case", str(case)], rows)
     wanted = [numbers.line(case, BY_ROW.sub(lambda found: "by row {}".format(numbers.of_row(int(found[1]))).ljust(len(found[0])), line))
-              for line in other.output.decode().splitlines()]
-    assert (told.status, told.output.decode()) == (other.status, "".join(line + "\n" for line in wanted)), (told, other)
+              for line in without_made(other.output.decode()).splitlines()]
+    assert (told.status, without_made(told.output.decode())) == (other.status, "".join(line + "\n" for line in wanted)), (told, other)
 
 
 def rows_written(desk, replay):
@@ -435,7 +436,7 @@ def compare_reports(desk, replay, rows, what):
     wanted = answers_in(kept)[0]
     assert closing == closing_lines(replay.court, replay.docket), (what, closing)
     assert found == wanted, (what, found, wanted)
-    bare = "".join(line + "\n" for line in report(desk, "memo").splitlines() if not line.startswith(" "))
+    bare = "".join(line + "\n" for line in below_head(report(desk, "memo")).splitlines() if not line.startswith(" "))
     assert bare == text, (what, bare, text)
     base = sqlite3.connect(":memory:")
     base.executescript(report(desk, "sql"))

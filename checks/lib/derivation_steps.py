@@ -7,7 +7,7 @@ and the court's file.
 import re
 from collections import namedtuple
 
-from lib.legal_names import legal_name
+from lib.legal_names import called
 from reference.civil import civil, day_of_text, day_text, instant_at, minute_of_text, minute_text, offset_at, weekday
 
 # The calendar as it is when the deadline is shown: its span, its lists of holidays, its outages (day, from, to).
@@ -82,7 +82,7 @@ def causes(calendar, day, holidays, accessible):
     if weekday(day) == 6:
         found.append(("Sunday", ""))
     if day in calendar.federal:
-        found.append((name or legal_name(day), ", 6(a)(6)"))
+        found.append((called(day, name), ", 6(a)(6)"))
     if holidays == AFTER and day in calendar.state:
         found.append((name or "legal holiday of the state", ", 6(a)(6)(C)"))
     if accessible and any(outage[0] == day for outage in calendar.outages):

@@ -12,6 +12,7 @@ from typing import NamedTuple
 from lib.case_names import made_name
 from lib.desk import Desk, FAULTY, desk_rows, divided, has_rows_of_desk, report_of
 from lib.kept_numbers import Numbers
+from lib.memo_head import below_head
 from lib.programs import Ended, Programs, run
 from lib.several_clerks import with_clerks
 from office_reference import ended as ended_by_reference
@@ -53,12 +54,13 @@ class Given(NamedTuple):
         return Ended(0, self.numbers.text(data, ended.output.decode()).encode(), ended.errors)
 
     def memo(self, last=b""):
-        """The reasons of what clerk_office says, with the numbers of the folder."""
+        """What clerk_office says, with its reasons and the numbers of the folder: the memo without its head."""
         data = self.read_by_office(last)
         ended = report_of(self.programs, ["memo"], data)
-        if ended.status != 0 or self.numbers is None:
+        if ended.status != 0:
             return ended
-        return Ended(0, self.numbers.text(data, ended.output.decode()).encode(), ended.errors)
+        text = below_head(ended.output.decode())
+        return Ended(0, (text if self.numbers is None else self.numbers.text(data, text)).encode(), ended.errors)
 
     def as_several(self):
         """What clerk_office says of the input as it is, with all clerks that there may be."""

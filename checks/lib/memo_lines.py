@@ -2,6 +2,8 @@
 import datetime
 import re
 
+from lib.period_words import called, heading
+
 
 def closing_of(text):
     """The lines after the last answer: sheets and calendars."""
@@ -22,6 +24,12 @@ def reasons_of(lines):
         elif line.startswith("  ") and case is not None:
             reasons[case, number] += line + "\n"
     return reasons
+
+
+def as_on_page(period, reasons):
+    """The lines below a deadline with its period as a page describes it; None where they don't call it by its Rule."""
+    in_memo, on_page = ("{:18}{:<50}  {}\n".format("", *words(period, None)[0][1:]) for words in (called, heading))
+    return reasons.replace(in_memo, on_page, 1) if in_memo in reasons else None
 
 
 def other_of(reasons):

@@ -19,7 +19,7 @@ use desk_program::{DeskFault, OpenFault};
 use program_runs::{Finding, Report, run_report};
 use program_streams::Watched;
 use program_words::Source;
-use report_memo::{Asked as MemoAsked, memo_of};
+use report_memo::{Asked as MemoAsked, day_made, memo_of};
 use report_program::{Asked as ReportAsked, Past, report_of};
 use std::alloc::{AllocError, Global};
 use std::io::{IsTerminal, Read, Write};
@@ -181,7 +181,17 @@ fn memo_on(
     let moved = register.numbers().moved();
     let court = &docketed.standing.court;
     let file = standing_file(entries);
-    memo_of(alloc, asked, file, court, register.cases(), moved, &rows)
+    let made = Some(day_made(court, asked));
+    memo_of(
+        alloc,
+        asked,
+        file,
+        made,
+        court,
+        register.cases(),
+        moved,
+        &rows,
+    )
 }
 
 // What the memo finds after entries.

@@ -21,7 +21,9 @@ pub(crate) fn push_period(text: &mut String, period: &Period) -> Result<(), Allo
     }
 }
 
-fn push_entered(text: &mut String, entered: &Entered) -> Result<(), AllocError>
+/// Adds the five words of a period that a court enters, or the two of an end that an order sets, as rows name it. `Err` says that
+/// memory ran out.
+pub fn push_entered(text: &mut String, entered: &Entered) -> Result<(), AllocError>
     ensures { OnOk result (AddsText text.old text.new (entered_text entered.now)) }
 {
     if entered.length.is_set() {

@@ -280,7 +280,8 @@ IsTask clock_time sub.Check name given (task.Check folder) = IsText (codes "fold
 IsTask clock_time sub.Rows name given (task.Rows folder as_of) = IsText (codes "folder") given folder × (as_of ≡ as_of_in clock_time given)
 IsTask clock_time sub.Log name given (task.Log folder asked) = IsText (codes "folder") given folder × IsLog clock_time given asked
 IsTask clock_time sub.Report name given (task.Report of asked) = IsSource clock_time given of × IsReportAsked name given asked × (asked.clock_time ≡ clock_time)
-IsTask clock_time sub.Memo name given (task.Memo of asked) = IsSource clock_time given of × IsMemoAsked given asked
+IsTask clock_time sub.Memo name given (task.Memo of asked) =
+    IsSource clock_time given of × IsMemoAsked given asked × (asked.clock_time ≡ clock_time) × (asked.html ≡ has (codes "html") given)
 IsTask clock_time sub.Sheet name given (task.Report of asked) =
     IsSheetSource clock_time given of × (asked ≡ sheet_asked clock_time (option_and_then case_called (case_given given)))
 IsTask clock_time sub.CourtCheck name given (task.CourtCheck file asked shown) =

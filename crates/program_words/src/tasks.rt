@@ -222,9 +222,10 @@ pub(crate) fn memo(
     ensures task { (name : Text) → IfOk result (IsTask clock_time Subcommand.Memo name (rows_of (found_of given.now))) }
     ensures faults { IsAnswerFor (faults_given Subcommand.Memo (rows_of (found_of given.now))) result }
 {
+    let html = has_flag(given, "html");
     let (source, asked) = both(
         source_in(alloc, clock_time, given),
-        report_memo::asked_by(alloc, given),
+        report_memo::asked_by(alloc, clock_time, html, given),
     )?;
     Ok(Task::Memo(source, asked))
 }

@@ -1,5 +1,5 @@
 -- What happened, in words.
-use Rattle.std.specs.Prelude.{ℕ, ◌/◌, ◌==◌, ℤ, pos, int_lt, unsigned_abs, List, [], ◌++◌, Option, None, unwrap_or, codes, if◌then◌else◌}
+use Rattle.std.specs.Prelude.{ℕ, ◌/◌, ◌==◌, ℤ, pos, int_lt, unsigned_abs, List, [], ◌++◌, Option, Some, None, codes, if◌then◌else◌}
 use Rattle.std.specs.Fmt.{decimal}
 use Rattle.std.specs.Ordering.{int_eq}
 use Rattle.court_clock.specs.declared.direction.Direction.{Direction}
@@ -14,7 +14,7 @@ use Rattle.deadline_reasons.specs.declared.reason.Cause.{Cause}
 use Rattle.deadline_reasons.specs.declared.reason.Cause.TheVariants as cause
 use Rattle.deadline_reasons.specs.declared.reason.Reason.{Reason}
 use Rattle.deadline_reasons.specs.declared.reason.Reason.TheVariants as reason
-use Rattle.reason_texts.specs.Names.{NamedDay, legal_text, name_on}
+use Rattle.reason_texts.specs.Names.{NamedDay, federal_name, legal_text, name_on}
 use Rattle.reason_texts.specs.Times.{day_end_time, minute_time, time_of_civil}
 
 abbrev pub cause_text : Cause → List ℕ
@@ -35,9 +35,19 @@ abbrev pub cause_unnamed : ℤ → Cause → List ℕ
 cause_unnamed day cause.FederalHoliday = legal_text day
 cause_unnamed day cause = cause_text cause
 
+-- a cause to which the court's file gives this name
+abbrev pub cause_named : ℤ → Cause → (name : List ℕ) → List ℕ
+cause_named day cause.FederalHoliday name = federal_name day name
+cause_named day cause name = name
+
+-- a cause with this name, or with none
+abbrev pub cause_called : ℤ → Cause → (name : Option (List ℕ)) → List ℕ
+cause_called day cause (Some name) = cause_named day cause name
+cause_called day cause None = cause_unnamed day cause
+
 -- a cause by the name that the court's file gives it, or else as it is called without one
 abbrev pub cause_shown : List NamedDay → ℤ → Cause → List ℕ
-cause_shown names day cause = unwrap_or (name_of_cause names day cause) (cause_unnamed day cause)
+cause_shown names day cause = cause_called day cause (name_of_cause names day cause)
 
 -- how a paper was served, by the paragraphs of Rule 5(b)(2)
 abbrev pub kind_text : ServiceKind → List ℕ

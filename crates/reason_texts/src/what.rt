@@ -1,9 +1,9 @@
 //! What happened, in words.
 
 ghost use Rattle.std.specs.Prelude.{◌≡◌, ◌++◌, OnOk, codes, option_copied, string_bytes};
-ghost use Rattle.reason_texts.specs.What.{cause_shown, cause_text, cause_unnamed, change_text, change_words, days_or_hours, detail_text, end_times, first_words, grant_text, grant_words, hours_text, kind_text, last_words, name_of_cause, outage_text, what_text};
+ghost use Rattle.reason_texts.specs.What.{cause_called, cause_named, cause_shown, cause_text, cause_unnamed, change_text, change_words, days_or_hours, detail_text, end_times, first_words, grant_text, grant_words, hours_text, kind_text, last_words, name_of_cause, outage_text, what_text};
 
-use crate::names::{HolidayName, name_on, push_legal};
+use crate::names::{HolidayName, name_on, push_federal_name, push_legal};
 use crate::times::{push_day_end, push_minute, push_time_at};
 use court_clock::{Clock, Day, Direction, Instant};
 use court_days::Outage;
@@ -208,9 +208,31 @@ fn push_cause(
 ) -> Result<(), AllocError>
     ensures { OnOk result (string_bytes text.new ≡ string_bytes text.old ++ cause_shown names.now day cause) }
 {
-    match name_of_cause(names, day, cause) {
-        Some(name) => text.push_str(name),
+    push_called(text, day, cause, name_of_cause(names, day, cause))
+}
+
+/// Adds a cause with this name, or with none.
+fn push_called(
+    text: &mut String,
+    day: Day,
+    cause: Cause,
+    name: Option<&str>,
+) -> Result<(), AllocError>
+    ensures { OnOk result (string_bytes text.new ≡ string_bytes text.old ++ cause_called day cause (option_copied name.entry)) }
+{
+    match name {
+        Some(name) => push_named(text, day, cause, name),
         None => push_unnamed(text, day, cause),
+    }
+}
+
+/// Adds a cause to which the court's file gives this name.
+fn push_named(text: &mut String, day: Day, cause: Cause, name: &str) -> Result<(), AllocError>
+    ensures { OnOk result (string_bytes text.new ≡ string_bytes text.old ++ cause_named day cause name.now) }
+{
+    match cause {
+        Cause::FederalHoliday => push_federal_name(text, day, name),
+        _ => text.push_str(name),
     }
 }
 

@@ -1,13 +1,19 @@
 //! What is asked for, as what is written.
 
-ghost use Rattle.std.specs.Prelude.{◌≡◌, IfOk, string_bytes};
+ghost use Rattle.std.specs.Prelude.{◌≡◌, ◌++◌, List, IfOk, string_bytes};
+ghost use Rattle.court_days.specs.Words.{CourtView};
 ghost use Rattle.program_runs.specs.Words.{IsFinding};
-ghost use Rattle.report_memo.specs.Answer.{IsAnswer, IsCalled, IsCalledMissing, IsMissing, no_case};
-ghost use Rattle.report_texts.specs.Words.{labels_of};
+ghost use Rattle.row_forms.specs.declared.numbered.NumberedRow.{NumberedRow};
+ghost use Rattle.report_memo.specs.Answer.{IsAnswer, IsCalled, IsCalledMissing, IsMissing, IsWritten, no_case};
+ghost use Rattle.report_memo.specs.Head.{head_of};
+ghost use Rattle.report_memo.specs.Page.{shown_as};
+ghost use Rattle.report_texts.specs.Words.{LabelsView, labels_of};
 
 use crate::asked::Asked;
 use crate::case::case_text;
+use crate::head::head_of;
 use crate::memo::memo_text;
+use crate::page::page_of;
 use case_numbers::Cases;
 use court_clock::Day;
 use court_days::Court;
@@ -21,9 +27,11 @@ use std::sync::Wait;
 use std::thread::Threads;
 
 /// The memo of an input: no case has a name, what is counted in a case has its place as its number, and rows are numbered from 1.
+/// Nobody knows on which day it is made but the day that is asked for.
 impl Report for Asked {
     ghost use Rattle.std.specs.Prelude.{[]};
     ghost use Rattle.report_memo.specs.Answer.{IsAnswerOf, IsMissingOf};
+    ghost use Rattle.report_memo.specs.Head.{head_of};
     ghost use Rattle.report_texts.specs.Words.{labels_of};
 
     type Text = Vec<u8>;
@@ -31,7 +39,7 @@ impl Report for Asked {
     // The rows are one history, whoever gave them.
     ghost clerk_count = { λ asked. 64 };
 
-    ghost is_text = { λ asked file. IsAnswerOf asked (labels_of file [] []) };
+    ghost is_text = { λ asked file. IsAnswerOf asked (head_of file [] asked.case asked.today) (labels_of file [] []) };
 
     ghost is_missing = { λ asked file. IsMissingOf asked (labels_of file [] []) };
 
@@ -57,6 +65,7 @@ impl Report for Asked {
             alloc,
             self,
             file,
+            self.today,
             &checked.court,
             &cases,
             &moved,
@@ -66,10 +75,83 @@ impl Report for Asked {
 }
 
 /// What is asked for of these rows in a court whose file has these bytes, where cases have these names, and deadlines and motions
-/// whose numbers aren't their places these numbers: the reply to each row with the reasons of each deadline that it shows, then
-/// the sheets of all open cases and the calendars of all judges; or the whole sheet of the case that is asked for, or the line
-/// that says that the case isn't there. The bytes are asked for the names of holidays alone. `Err` says that memory ran out.
+/// whose numbers aren't their places these numbers: a head, with the day on which the memo is made where that is known; and the reply
+/// to each row with the reasons of each deadline that it shows, then the sheets of all open cases and the calendars of all judges; or
+/// the whole sheet of the case that is asked for, or the line that says that the case isn't there. It is a text or a page. The bytes
+/// are asked for the names of the court and of holidays alone. `Err` says that memory ran out.
 pub fn memo_of(
+    alloc: Global,
+    asked: &Asked,
+    file: &[u8],
+    made: Option<Day>,
+    court: &Court,
+    cases: &Cases,
+    moved: &MovedNumbers,
+    rows: &[NumberedRow],
+) -> Result<Finding<Vec<u8>>, AllocError>
+    ensures { IfOk result (IsFinding (λ text. text.items) (IsWritten (head_of file.now cases.now.named asked.now.case made) asked.now court.now (labels_of file.now cases.now.named moved.now) rows.now) (IsMissing asked.now court.now (labels_of file.now cases.now.named moved.now) rows.now)) }
+{
+    let found = body_of(alloc, asked, file, court, cases, moved, rows)?;
+    match found {
+        Finding::Text(body) => written(alloc, asked, file, made, cases, body.as_str()),
+        Finding::Missing(line) => Ok(Finding::Missing(line)),
+    }
+}
+
+/// The head of what is asked for, and below it this text of it.
+fn written(
+    alloc: Global,
+    asked: &Asked,
+    file: &[u8],
+    made: Option<Day>,
+    cases: &Cases,
+    body: &str,
+) -> Result<Finding<Vec<u8>>, AllocError>
+    ensures { (court : CourtView) (labels : LabelsView) (rows : List NumberedRow) → IsAnswer asked.now court labels rows body.now →
+        IfOk result (IsFinding (λ text. text.items) (IsWritten (head_of file.now cases.now.named asked.now.case made) asked.now court labels rows) (IsMissing asked.now court labels rows)) }
+{
+    let text = headed(alloc, asked, file, made, cases, body)?;
+    Ok(Finding::Text(text))
+}
+
+/// The head of what is asked for, and below it this text, as they are or as a page.
+fn headed(
+    alloc: Global,
+    asked: &Asked,
+    file: &[u8],
+    made: Option<Day>,
+    cases: &Cases,
+    body: &str,
+) -> Result<Vec<u8>, AllocError>
+    ensures { IfOk result (λ text. text.items ≡ shown_as asked.now.html (head_of file.now cases.now.named asked.now.case made) body.now) }
+{
+    let head = head_of(alloc, file, cases, &asked.case, made)?;
+    shown_as(alloc, asked.html, head.as_str(), body)
+}
+
+/// A head and what is below it, as they are or as a page.
+fn shown_as(alloc: Global, html: bool, head: &str, body: &str) -> Result<Vec<u8>, AllocError>
+    ensures { IfOk result (λ text. text.items ≡ shown_as html head.now body.now) }
+{
+    if html {
+        page_of(alloc, head, body)
+    } else {
+        joined(alloc, head, body)
+    }
+}
+
+/// A text, and after it another.
+fn joined(alloc: Global, front: &str, back: &str) -> Result<Vec<u8>, AllocError>
+    ensures { IfOk result (λ text. text.items ≡ front.now ++ back.now) }
+{
+    let mut text = Vec::new(alloc);
+    text.extend_from_slice(front.as_bytes())?;
+    text.extend_from_slice(back.as_bytes())?;
+    Ok(text)
+}
+
+/// The same without its head.
+fn body_of(
     alloc: Global,
     asked: &Asked,
     file: &[u8],
@@ -77,8 +159,8 @@ pub fn memo_of(
     cases: &Cases,
     moved: &MovedNumbers,
     rows: &[NumberedRow],
-) -> Result<Finding<Vec<u8>>, AllocError>
-    ensures { IfOk result (IsFinding (λ text. text.items) (IsAnswer asked.now court.now (labels_of file.now cases.now.named moved.now) rows.now) (IsMissing asked.now court.now (labels_of file.now cases.now.named moved.now) rows.now)) }
+) -> Result<Finding<String>, AllocError>
+    ensures { IfOk result (IsFinding string_bytes (IsAnswer asked.now court.now (labels_of file.now cases.now.named moved.now) rows.now) (IsMissing asked.now court.now (labels_of file.now cases.now.named moved.now) rows.now)) }
 {
     let found = holiday_names(alloc, file)?;
     let labels = Labels {
@@ -88,7 +170,7 @@ pub fn memo_of(
         doubtful: found.doubtful.as_slice(),
     };
     match answer(alloc, asked, court, &labels, rows)? {
-        Finding::Text(text) => Ok(Finding::Text(text.into_bytes())),
+        Finding::Text(text) => Ok(Finding::Text(text)),
         Finding::Missing(line) => Ok(Finding::Missing(line)),
     }
 }

@@ -1,7 +1,6 @@
 -- Each part of a page is made of elements and escaped texts alone.
-use Rattle.std.proofs.Common.{ℕ, ℤ, Bool, true, false, List, [], ◌∷◌, ◌++◌, Option, Some, None}
+use Rattle.std.proofs.Common.{ℕ, ℤ, Bool, true, false, List, [], ◌∷◌, Option, Some, None}
 use Rattle.std.specs.Prelude.{if◌then◌else◌}
-use Rattle.std.specs.List.{flat_map}
 use Rattle.case_numbers.specs.declared.names.NamedCase.{NamedCase}
 use Rattle.court_clock.specs.Words.{ClockView}
 use Rattle.court_days.specs.Words.{CourtView, DaysView}
@@ -18,7 +17,8 @@ use Rattle.docket_selection.specs.declared.item.DueItem.{DueItem}
 use Rattle.page_markup.specs.declared.tag.Tag.{Tag}
 use Rattle.page_markup.specs.declared.tag.Tag.TheVariants as tag
 use Rattle.page_markup.specs.Words.{IsMarkup, element, text_in}
-use Rattle.page_markup.specs.Elements.IsMarkup.{nothing, text, inside, after}
+use Rattle.page_markup.specs.Elements.IsMarkup.{nothing, text}
+use Rattle.page_markup.proofs.CallerLemmas.{both, each, within, words}
 use Rattle.report_texts.specs.Words.{LabelsView, is_day_of, whole_day}
 use Rattle.docket_selection.specs.declared.explained.explained.ExplainedDeadline.{ExplainedDeadline}
 use Rattle.docket_selection.specs.declared.explained.explained.ExplainedSheet.{ExplainedSheet}
@@ -28,21 +28,6 @@ use Rattle.report_page.specs.Judges.{booking_heads, booking_row, is_week_of, jud
 use Rattle.report_page.specs.Page.{ContentIsMarkup, content}
 use Rattle.report_page.specs.Phrases.{motion_name}
 use Rattle.report_page.specs.Tables.{case_cell, case_link, four_heads, motion_cell, rows_by_day, three_heads}
-
-both : {first second : List ℕ} → IsMarkup first → IsMarkup second → IsMarkup (first ++ second)
-both {first} {second} p q = after first second p q
-
-within : (t : Tag) {inner : List ℕ} → IsMarkup inner → IsMarkup (element t inner)
-within t {inner} p = inside t inner p
-
-words : (t : Tag) (written : List ℕ) → IsMarkup (text_in t written)
-unfolding text_in
-words t written = within t (text written)
-
--- what each of some things has, one after another
-each : {X : Type 0} (f : X → List ℕ) → ((x : X) → IsMarkup (f x)) → (xs : List X) → IsMarkup (flat_map f xs)
-each f is [] = nothing
-each f is (x ∷ xs) = both (is x) (each f is xs)
 
 -- nothing, or a row
 row_unless : (test : Bool) (t : Tag) (written : List ℕ) → IsMarkup (if test then [] else element tag.Row (text_in t written))
