@@ -160,6 +160,8 @@ came_of answer.OutageEntered = Taken
 came_of answer.Ended = Taken
 came_of answer.Closed = Taken
 came_of answer.Reopened = Taken
+came_of answer.Titled = Taken
+came_of answer.Labelled = Taken
 came_of (answer.Resumed shown) = Taken
 came_of (answer.Refused refusal) = Refused
 

@@ -5,13 +5,13 @@ ghost use Rattle.std.specs.Option.{option_map_or};
 ghost use Rattle.rule6.specs.declared.timeliness.Shown.TheVariants.{Beyond};
 ghost use Rattle.docket_rows.specs.declared.command.Command.TheVariants as command;
 ghost use Rattle.docket_rows.specs.declared.hearing.Hearing.{Hearing};
-ghost use Rattle.docket_rows.specs.Words.{answer_if_made, close_refusal, deadline_in, end_refusal, ending_in, facts_in, first_ahead, has_one, motions_in, numbered_motions, refusal, reopen_refusal, resume_refusal, shown_now};
+ghost use Rattle.docket_rows.specs.Words.{answer_if_made, close_refusal, deadline_in, end_refusal, ending_in, facts_in, first_ahead, has_one, motions_in, numbered_motions, refusal, label_refusal, not_counted, reopen_refusal, resume_refusal, shown_now, title_refusal};
 
 use crate::rules::DocketRules;
-use crate::seen::{deadline_in, has_case, is_beyond, is_closed, shown_now};
+use crate::seen::{deadline_in, has_case, is_beyond, is_closed, motion_in, shown_now};
 use crate::sight::Sight;
 use court_clock::Day;
-use docket_rows::{Answer, Ending, Fact, MOST_FACTS, MotionRecord, Refusal, ending_in};
+use docket_rows::{Answer, Counted, Ending, Fact, MOST_FACTS, MotionRecord, Refusal, ending_in};
 use rule6::Shown;
 
 /// How many facts are recorded of the case.
@@ -89,6 +89,8 @@ pub(crate) fn fact_refusal<S: Sight>(
         Fact::Resumed { deadline, dated } => resume_refusal(rules, sight, case, deadline, dated),
         Fact::Closed { dated, .. } => close_refusal(sight, case, dated),
         Fact::Reopened { dated } => reopen_refusal(sight, case, dated),
+        Fact::Titled => title_refusal(sight, case),
+        Fact::Labelled { counted, number } => label_refusal(sight, case, counted, number),
     }
 }
 
@@ -202,6 +204,53 @@ fn reopen_refusal<S: Sight>(sight: &S, case: u32, dated: Day) -> Option<Refusal>
     None
 }
 
+/// Why the case can't be given a title, if it can't.
+#[tactic(auto, unfolding(docket_rows::specs::Words::title_refusal))]
+fn title_refusal<S: Sight>(sight: &S, case: u32) -> Option<Refusal>
+    ensures { result ≡ title_refusal (S.parts sight.now) case }
+{
+    if !has_case(sight, case) {
+        return Some(Refusal::NoSuchCase);
+    }
+    if is_closed(sight, case) {
+        return Some(Refusal::CaseIsClosed);
+    }
+    None
+}
+
+/// Why the case has no deadline, or no motion, of that number, if it has none.
+fn not_counted<S: Sight>(sight: &S, case: u32, counted: Counted, number: u32) -> Option<Refusal>
+    ensures { result ≡ not_counted (S.parts sight.now) case counted number }
+{
+    match counted {
+        Counted::Deadline => match deadline_in(sight, case, number) {
+            Some(_) => None,
+            None => Some(Refusal::NoSuchDeadline),
+        },
+        Counted::Motion => match motion_in(sight, case, number) {
+            Some(_) => None,
+            None => Some(Refusal::NoSuchMotion),
+        },
+    }
+}
+
+/// Why the deadline or the motion can't be given a label, if it can't.
+#[tactic(auto, unfolding(docket_rows::specs::Words::label_refusal))]
+fn label_refusal<S: Sight>(sight: &S, case: u32, counted: Counted, number: u32) -> Option<Refusal>
+    ensures { result ≡ label_refusal (S.parts sight.now) case counted number }
+{
+    if !has_case(sight, case) {
+        return Some(Refusal::NoSuchCase);
+    }
+    if is_closed(sight, case) {
+        return Some(Refusal::CaseIsClosed);
+    }
+    if let Some(refusal) = not_counted(sight, case, counted, number) {
+        return Some(refusal);
+    }
+    None
+}
+
 /// What a fact is answered that isn't refused.
 pub(crate) fn answer_to_fact<S: Sight>(
     rules: &DocketRules,
@@ -218,6 +267,8 @@ pub(crate) fn answer_to_fact<S: Sight>(
         }
         Fact::Closed { .. } => Answer::Closed,
         Fact::Reopened { .. } => Answer::Reopened,
+        Fact::Titled => Answer::Titled,
+        Fact::Labelled { .. } => Answer::Labelled,
     }
 }
 

@@ -1,5 +1,5 @@
 -- What the facts that are recorded of a case come to, and what each is about.
-use Rattle.std.specs.Prelude.{ℕ, ◌==◌, is_some, List, [], ◌∷◌, ◌++◌, codes, fold, Option, Some, None, if◌then◌else◌}
+use Rattle.std.specs.Prelude.{ℕ, ◌==◌, Bool, true, false, is_some, List, [], ◌∷◌, ◌++◌, codes, fold, Option, Some, None, if◌then◌else◌}
 use Rattle.docket_rows.specs.declared.command.Counted.TheVariants.{Deadline}
 use Rattle.docket_rows.specs.declared.command.Subject.{Subject}
 use Rattle.docket_rows.specs.declared.fact.Closing.{Closing}
@@ -8,12 +8,25 @@ use Rattle.docket_rows.specs.declared.fact.Closure.{Closure}
 use Rattle.docket_rows.specs.declared.fact.Ending.{Ending}
 use Rattle.docket_rows.specs.declared.fact.Ending.TheVariants.{Moot, Vacated, Stayed, Suspended, Withdrawn, CaseClosed}
 use Rattle.docket_rows.specs.declared.fact.Fact.{Fact}
-use Rattle.docket_rows.specs.declared.fact.Fact.TheVariants.{Ended, Resumed, Closed, Reopened}
+use Rattle.docket_rows.specs.declared.fact.Fact.TheVariants.{Ended, Resumed, Closed, Reopened, Titled, Labelled}
 use Rattle.docket_rows.specs.Cases.{CaseRecordView}
 
--- the case with one fact more
+-- A fact that its case keeps. What a case, a deadline or a motion is called is decided, and changes nothing of the docket: the text is
+-- kept outside of it, with the row that says it.
+abbrev pub is_kept : Fact → Bool
+is_kept (Ended deadline why dated) = true
+is_kept (Resumed deadline dated) = true
+is_kept (Closed why dated) = true
+is_kept (Reopened dated) = true
+is_kept Titled = false
+is_kept (Labelled counted number) = false
+
+-- the case with one fact more, and the same if that is one that is kept
+abbrev pub keep_fact : Fact → CaseRecordView → CaseRecordView
+keep_fact fact c = record c { facts = c.facts ++ fact ∷ [] }
+
 abbrev pub add_fact : Fact → CaseRecordView → CaseRecordView
-add_fact fact c = record c { facts = c.facts ++ fact ∷ [] }
+add_fact fact c = if is_kept fact then keep_fact fact c else c
 
 -- how the case was closed and not reopened, after one fact more
 abbrev pub closed_then : Option Closure → Fact → Option Closure
@@ -21,6 +34,8 @@ closed_then before (Ended deadline why dated) = before
 closed_then before (Resumed deadline dated) = before
 closed_then before (Closed why dated) = Some (record { why = why; dated = dated })
 closed_then before (Reopened dated) = None
+closed_then before Titled = before
+closed_then before (Labelled counted number) = before
 
 -- how the case was closed, if it was and wasn't reopened
 unfoldable pub closing_in : List Fact → Option Closure
@@ -32,6 +47,8 @@ ended_then number before (Ended deadline why dated) = if deadline == number then
 ended_then number before (Resumed deadline dated) = if deadline == number then None else before
 ended_then number before (Closed why dated) = before
 ended_then number before (Reopened dated) = before
+ended_then number before Titled = before
+ended_then number before (Labelled counted other) = before
 
 -- why the deadline of that number was ended, if it was and wasn't resumed
 abbrev pub ended_in : List Fact → (number : ℕ) → Option Ending
@@ -59,16 +76,20 @@ closing_word Transferred = codes "transferred"
 closing_word Remanded = codes "remanded"
 closing_word Otherwise = codes "otherwise"
 
--- the deadline that a fact of a case is about, if it is about one
+-- the deadline or the motion that a fact of a case is about, if it is about one
 abbrev pub fact_subject : (case : ℕ) → Fact → Option Subject
 fact_subject case (Ended deadline why dated) = Some (record { case = case; counted = Deadline; number = deadline })
 fact_subject case (Resumed deadline dated) = Some (record { case = case; counted = Deadline; number = deadline })
 fact_subject case (Closed why dated) = None
 fact_subject case (Reopened dated) = None
+fact_subject case Titled = None
+fact_subject case (Labelled counted number) = Some (record { case = case; counted = counted; number = number })
 
--- the same fact of the deadline of that number; one of no deadline stays as it is
+-- the same fact of the deadline or the motion of that number; one of neither stays as it is
 abbrev pub fact_naming : Fact → (number : ℕ) → Fact
 fact_naming (Ended deadline why dated) number = Ended number why dated
 fact_naming (Resumed deadline dated) number = Resumed number dated
 fact_naming (Closed why dated) number = Closed why dated
 fact_naming (Reopened dated) number = Reopened dated
+fact_naming Titled number = Titled
+fact_naming (Labelled counted other) number = Labelled counted number

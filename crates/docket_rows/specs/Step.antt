@@ -10,13 +10,15 @@ use Rattle.docket_rows.specs.declared.answer.Answer.{Answer}
 use Rattle.docket_rows.specs.declared.answer.Answer.TheVariants as answer
 use Rattle.docket_rows.specs.declared.command.Command.{Command}
 use Rattle.docket_rows.specs.declared.command.Command.TheVariants.{OpenCase, Start, FileAct, Extend, Motion, Book, MoveHearing, Cancel, Holiday, Inaccessible, Fact}
-use Rattle.docket_rows.specs.declared.fact.Fact.TheVariants.{Ended, Resumed, Closed, Reopened}
+use Rattle.docket_rows.specs.declared.fact.Fact.{Fact as FactOf}
+use Rattle.docket_rows.specs.declared.fact.Fact.TheVariants.{Ended, Resumed, Closed, Reopened, Titled, Labelled}
 use Rattle.docket_rows.specs.declared.hearing.Setting.{Setting}
 use Rattle.docket_rows.specs.CourtSetup.{CourtSetup}
+use Rattle.docket_rows.specs.Facts.{is_kept}
 use Rattle.docket_rows.specs.Hearings.{hearing_asked}
 use Rattle.docket_rows.specs.Parts.{Parts, parts_of}
 use Rattle.docket_rows.specs.Refusals.{refusal}
-use Rattle.docket_rows.specs.Rows.{Rows, DocketedDeadline, is_deadline, is_hearing}
+use Rattle.docket_rows.specs.Rows.{Rows, DocketedDeadline, DocketedFact, is_deadline, is_hearing}
 use Rattle.docket_rows.specs.Seen.{has_one, deadline_in, next_deadline, next_motion, started, shown_now}
 
 -- the row with a change, if it is that deadline's
@@ -33,6 +35,10 @@ with_hearing s rows = record rows { hearings = rows.hearings ++ record { case = 
 abbrev pub without_hearing : (case motion : ℕ) → Rows → Rows
 without_hearing case motion rows = record rows { hearings = filter (λ h. not (is_hearing case motion h)) rows.hearings }
 
+-- the row of a fact of the case, if it is one that is kept
+abbrev pub fact_kept : (case : ℕ) → FactOf → List DocketedFact
+fact_kept case fact = if is_kept fact then record { case = case; fact = fact } ∷ [] else []
+
 -- the rows after a command that isn't refused
 abbrev pub rows_after : Rows → Command → Rows
 rows_after rows (OpenCase case filed) =
@@ -48,7 +54,7 @@ rows_after rows (MoveHearing s) = with_hearing s (without_hearing s.case s.motio
 rows_after rows (Cancel case motion) = without_hearing case motion rows
 rows_after rows (Holiday day list) = record rows { days = add_holiday rows.days list day }
 rows_after rows (Inaccessible day from to) = record rows { days = add_outage rows.days (record { day = day; from = from; to = to }) }
-rows_after rows (Fact case fact) = record rows { facts = rows.facts ++ record { case = case; fact = fact } ∷ [] }
+rows_after rows (Fact case fact) = record rows { facts = rows.facts ++ fact_kept case fact }
 
 -- the answer to an extension, and to an order that sets another end: when the time ends now
 abbrev pub ended_answer : (order : Bool) → Shown → Answer
@@ -75,6 +81,8 @@ answer_if_made setup parts (Fact case (Resumed deadline dated)) =
     answer.Resumed (option_map_or (λ row. shown_now setup parts row) (deadline_in parts case deadline) shown.Beyond)
 answer_if_made setup parts (Fact case (Closed why dated)) = answer.Closed
 answer_if_made setup parts (Fact case (Reopened dated)) = answer.Reopened
+answer_if_made setup parts (Fact case Titled) = answer.Titled
+answer_if_made setup parts (Fact case (Labelled counted number)) = answer.Labelled
 
 -- what a command is answered where the parts are these
 unfoldable pub answered : CourtSetup → Parts → Command → Answer

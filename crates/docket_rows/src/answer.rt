@@ -39,6 +39,10 @@ pub enum Answer {
     Closed,
     /// The case is open again.
     Reopened,
+    /// The case has that title.
+    Titled,
+    /// The deadline or the motion has that label.
+    Labelled,
     /// The command is refused, and changes nothing.
     Refused(Refusal),
 }

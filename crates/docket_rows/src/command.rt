@@ -230,7 +230,7 @@ impl Command {
     }
 }
 
-/// The deadline that a fact of a case is about, if it is about one.
+/// The deadline or the motion that a fact of a case is about, if it is about one.
 fn fact_subject(case: u32, fact: Fact) -> Option<Subject>
     ensures { result ≡ fact_subject case fact }
 {
@@ -241,5 +241,11 @@ fn fact_subject(case: u32, fact: Fact) -> Option<Subject>
             number: deadline,
         }),
         Fact::Closed { .. } | Fact::Reopened { .. } => None,
+        Fact::Titled => None,
+        Fact::Labelled { counted, number } => Some(Subject {
+            case,
+            counted,
+            number,
+        }),
     }
 }

@@ -1,8 +1,9 @@
 //! What is recorded of a case beside its deadlines, its motions and their hearings.
 
 ghost use Rattle.std.specs.Prelude.{◌≡◌};
-ghost use Rattle.docket_rows.specs.Facts.{closed_then, closing_in, closing_word, ended_in, ended_then, ending_in, ending_word, fact_naming};
+ghost use Rattle.docket_rows.specs.Facts.{closed_then, closing_in, closing_word, ended_in, ended_then, ending_in, ending_word, fact_naming, is_kept};
 
+use crate::command::Counted;
 use court_clock::Day;
 
 /// Why a deadline is due no more.
@@ -79,6 +80,15 @@ pub enum Fact {
         /// The day of the order or the paper that says so.
         dated: Day,
     },
+    /// The case has a title. The text is kept outside of the docket, with the row that says it.
+    Titled,
+    /// A deadline or a motion has a label. The text is kept outside of the docket, with the row that says it.
+    Labelled {
+        /// Which of the two it is.
+        counted: Counted,
+        /// Its number in the case.
+        number: u32,
+    },
 }
 
 impl Ending {
@@ -114,7 +124,21 @@ impl Closing {
 }
 
 impl Fact {
-    // The same fact of the deadline of that number. One of no deadline stays as it is.
+    /// Whether its case keeps it. What a case or a thing in it is called is decided, and changes nothing of the docket.
+    pub fn is_kept(&self) -> bool
+        ensures { result ≡ is_kept self.now }
+    {
+        match *self {
+            Fact::Ended { .. } => true,
+            Fact::Resumed { .. } => true,
+            Fact::Closed { .. } => true,
+            Fact::Reopened { .. } => true,
+            Fact::Titled => false,
+            Fact::Labelled { .. } => false,
+        }
+    }
+
+    // The same fact of the deadline or the motion of that number. One of neither stays as it is.
     pub(crate) fn naming(&self, number: u32) -> Fact
         ensures { result ≡ fact_naming self.now number }
     {
@@ -129,6 +153,8 @@ impl Fact {
                 dated,
             },
             Fact::Closed { .. } | Fact::Reopened { .. } => *self,
+            Fact::Titled => *self,
+            Fact::Labelled { counted, .. } => Fact::Labelled { counted, number },
         }
     }
 }
@@ -153,6 +179,8 @@ fn closed_then(before: Option<Closure>, fact: Fact) -> Option<Closure>
         Fact::Closed { why, dated } => Some(Closure { why, dated }),
         Fact::Reopened { .. } => None,
         Fact::Ended { .. } | Fact::Resumed { .. } => before,
+        Fact::Titled => before,
+        Fact::Labelled { .. } => before,
     }
 }
 
@@ -193,5 +221,7 @@ fn ended_then(number: u32, before: Option<Ending>, fact: Fact) -> Option<Ending>
         }
         Fact::Resumed { deadline, .. } => { if deadline == number { None } else { before } }
         Fact::Closed { .. } | Fact::Reopened { .. } => before,
+        Fact::Titled => before,
+        Fact::Labelled { .. } => before,
     }
 }

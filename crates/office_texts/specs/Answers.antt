@@ -3,7 +3,7 @@ use Rattle.std.specs.Prelude.{List, ℕ, true, false, ◌++◌, codes}
 use Rattle.std.specs.Fmt.{decimal}
 use Rattle.court_clock.specs.Words.{ClockView}
 use Rattle.docket_rows.specs.declared.answer.Answer.{Answer}
-use Rattle.docket_rows.specs.declared.answer.Answer.TheVariants.{Opened, Started, Filed, Extended, Reset, MotionEntered, Booked, Moved, Cancelled, HolidayEntered, OutageEntered, Ended, Resumed, Closed, Reopened, Refused}
+use Rattle.docket_rows.specs.declared.answer.Answer.TheVariants.{Opened, Started, Filed, Extended, Reset, MotionEntered, Booked, Moved, Cancelled, HolidayEntered, OutageEntered, Ended, Resumed, Closed, Reopened, Titled, Labelled, Refused}
 use Rattle.office_texts.specs.Refusals.{refusal_text}
 use Rattle.office_texts.specs.Shown.{shown_text}
 
@@ -23,5 +23,7 @@ answer_text clock OutageEntered = codes "outage entered"
 answer_text clock Ended = codes "ended"
 answer_text clock Closed = codes "closed"
 answer_text clock Reopened = codes "reopened"
+answer_text clock Titled = codes "titled"
+answer_text clock Labelled = codes "labelled"
 answer_text clock (Resumed end) = codes "resumed " ++ shown_text clock end
 answer_text clock (Refused refusal) = codes "refused " ++ refusal_text refusal

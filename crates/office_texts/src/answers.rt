@@ -46,6 +46,8 @@ pub fn push_answer(text: &mut String, clock: &Clock, answer: &Answer) -> Result<
         Answer::Ended => text.push_str("ended"),
         Answer::Closed => text.push_str("closed"),
         Answer::Reopened => text.push_str("reopened"),
+        Answer::Titled => text.push_str("titled"),
+        Answer::Labelled => text.push_str("labelled"),
         Answer::Resumed(shown) => {
             text.push_str("resumed ")?;
             push_shown(text, clock, shown)

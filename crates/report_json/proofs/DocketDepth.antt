@@ -17,7 +17,7 @@ use Rattle.rule_periods.specs.declared.period.Entered.{Entered}
 use Rattle.rule_periods.specs.Words.{DeadlineRowView, EventView}
 use Rattle.hearing_slots.specs.declared.booking.Booking.{Booking}
 use Rattle.docket_rows.specs.declared.answer.Answer.{Answer}
-use Rattle.docket_rows.specs.declared.answer.Answer.TheVariants.{Opened, Started, Filed, Extended, Reset, MotionEntered, Booked, Moved, Cancelled, HolidayEntered, OutageEntered, Ended, Resumed, Closed, Reopened, Refused}
+use Rattle.docket_rows.specs.declared.answer.Answer.TheVariants.{Opened, Started, Filed, Extended, Reset, MotionEntered, Booked, Moved, Cancelled, HolidayEntered, OutageEntered, Ended, Resumed, Closed, Reopened, Titled, Labelled, Refused}
 use Rattle.docket_rows.specs.declared.fact.Closure.{Closure}
 use Rattle.docket_rows.specs.declared.fact.Ending.{Ending}
 use Rattle.docket_rows.specs.declared.refusal.Refusal.{Refusal}
@@ -234,6 +234,8 @@ answer_within zone named OutageEntered = (zero_five, tt)
 answer_within zone named Ended = (zero_five, tt)
 answer_within zone named Closed = (zero_five, tt)
 answer_within zone named Reopened = (zero_five, tt)
+answer_within zone named Titled = (zero_five, tt)
+answer_within zone named Labelled = (zero_five, tt)
 answer_within zone named (Resumed end) = (zero_five, shown_deep zone end)
 answer_within zone named (Refused refusal) = (zero_five, (refusal_deep named refusal, tt))
 

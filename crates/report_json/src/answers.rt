@@ -127,6 +127,8 @@ fn push_answer(
         Answer::Ended => push_kind(out, "ended"),
         Answer::Closed => push_kind(out, "closed"),
         Answer::Reopened => push_kind(out, "reopened"),
+        Answer::Titled => push_kind(out, "titled"),
+        Answer::Labelled => push_kind(out, "labelled"),
         Answer::Resumed(shown) => {
             push_kind(out, "resumed")?;
             shown.write_fields(out, court, labels)

@@ -6,13 +6,13 @@ ghost use Rattle.stored_steps.specs.Commands.{AreAsked, AreCommands};
 use anyhow::{Result, bail};
 use court_clock::Day;
 use court_days::Court;
-use docket_rows::{Closing, Command, Ending, Fact};
+use docket_rows::{Closing, Command, Counted, Ending, Fact};
 use row_forms::{Row, RowError, Work, read_rows};
 use rule_periods::{Grant, Request};
 use std::alloc::Global;
 
 // The checker finds these types only where they have names, so a function that puts commands into a list names them.
-type CommandTypes = Option<(Option<Day>, Grant, Request, Fact, Ending, Closing)>;
+type CommandTypes = Option<(Option<Day>, Grant, Request, Fact, Ending, Closing, Counted)>;
 
 /// The commands of these rows, in their order. An error says which row can't be read or is no command, or that memory ran
 /// out.

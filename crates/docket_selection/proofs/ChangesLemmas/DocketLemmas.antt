@@ -14,7 +14,7 @@ use Rattle.rule_periods.specs.Words.{is_order}
 use Rattle.docket_rows.specs.declared.answer.Answer.TheVariants as answer
 use Rattle.docket_rows.specs.declared.command.Command.{Command}
 use Rattle.docket_rows.specs.declared.command.Command.TheVariants.{OpenCase, Start, FileAct, Extend, Motion, Book, MoveHearing, Cancel, Holiday, Inaccessible, Fact}
-use Rattle.docket_rows.specs.declared.fact.Fact.TheVariants.{Ended, Resumed, Closed, Reopened}
+use Rattle.docket_rows.specs.declared.fact.Fact.TheVariants.{Ended, Resumed, Closed, Reopened, Titled, Labelled}
 use Rattle.docket_rows.specs.declared.hearing.Hearing.{Hearing}
 use Rattle.docket_rows.specs.declared.hearing.Setting.{Setting}
 use Rattle.docket_rows.specs.declared.refusal.Refusal.{Refusal}
@@ -157,6 +157,8 @@ module _ (judge : Option ℕ) (case motion : ℕ) where
   made_ends setup rows row before sound ends (Fact of (Resumed deadline dated)) free = ends
   made_ends setup rows row before sound ends (Fact of (Closed why dated)) free = ends
   made_ends setup rows row before sound ends (Fact of (Reopened dated)) free = ends
+  made_ends setup rows row before sound ends (Fact of Titled) free = ends
+  made_ends setup rows row before sound ends (Fact of (Labelled counted number)) free = ends
 
   step_ends : (setup : CourtSetup) (rows : Rows) (row : ℕ) (before : Option HearingHistory) → AreSound setup rows → last_hearing before ≡ hearing_before judge (hearing_of rows case motion) → (command : Command)
       → last_hearing (fold next_history before (option_to_list (change_made row command (step setup rows command).1))) ≡ hearing_before judge (hearing_of (step setup rows command).0 case motion)
