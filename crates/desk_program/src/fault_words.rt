@@ -70,6 +70,9 @@ fn expected(column: Column) -> &'static str
         Column::Why => "moot, vacated, stayed, suspended or withdrawn",
         Column::Closing => "dismissed, judgment, settled, transferred, remanded or otherwise",
         Column::ResumeDay => "nothing, since the deadline has its days as before",
+        Column::Title | Column::Label => "a text of 1 to 200 bytes without control characters",
+        Column::Counted => "deadline or motion",
+        Column::Number => "a number, as 7",
         Column::Clerk | Column::Command | Column::Room => "what FORMATS.md has under Rows",
     }
 }

@@ -9,10 +9,10 @@ use std::alloc::{AllocError, Global};
 use strsim::osa_distance;
 
 /// The headings of columns.
-const HEADINGS: [&str; 26] = [
+const HEADINGS: [&str; 30] = [
     "clerk", "command", "case", "deadline", "motion", "period", "date", "time", "second", "kind",
     "means", "grant", "cause", "neglect", "need", "list", "from", "to", "judge", "room", "slots",
-    "notice", "act", "why", "dated", "note",
+    "notice", "act", "why", "dated", "title", "of", "number", "label", "note",
 ];
 
 /// The word from which a text that is folded differs by no more than a slip: a letter that is added, lost or another, or two
@@ -121,6 +121,7 @@ fn nearest_in(
                 "otherwise",
             ],
         ),
+        Column::Counted => nearest_of(alloc, word, &["deadline", "motion"]),
         Column::Why => nearest_of(
             alloc,
             word,

@@ -36,6 +36,10 @@ fn held(column: Column) -> &'static str {
         Column::Why => "moot, vacated, stayed, suspended or withdrawn",
         Column::Closing => "dismissed, judgment, settled, transferred, remanded or otherwise",
         Column::ResumeDay => "nothing, since the deadline has its days as before",
+        Column::Title => "what the case is called, 1 to 200 bytes without control characters",
+        Column::Counted => "deadline or motion",
+        Column::Number => "the number of a deadline or a motion, as 1",
+        Column::Label => "what it is called, 1 to 200 bytes without control characters",
     }
 }
 
@@ -47,7 +51,7 @@ pub(crate) fn expected(flaw: Flaw) -> &'static str {
         Flaw::Excess => "nothing, since the row has no column for it",
         Flaw::NoCommand => commands_listed(),
         Flaw::NoHeading => {
-            "a heading: clerk, command, case, deadline, motion, period, date, time, second, kind, means, grant, cause, neglect, need, list, from, to, judge, room, slots, notice, act, why, dated or note"
+            "a heading: clerk, command, case, deadline, motion, period, date, time, second, kind, means, grant, cause, neglect, need, list, from, to, judge, room, slots, notice, act, why, dated, title, of, number, label or note"
         }
         Flaw::TwiceNamed => "another heading, since a column before it has this one",
     }

@@ -8,9 +8,9 @@ use Rattle.row_forms.specs.Words.{CourtNames, is_number}
 use Rattle.row_fields.specs.declared.said.Said.{Said}
 use Rattle.row_fields.specs.declared.said.Said.TheVariants.{Unknown, Clear}
 use Rattle.row_fields.specs.declared.dates.DateOrder.{DateOrder}
-use Rattle.row_fields.specs.Words.{act_said, answer_said, bare, closing_said, date_said, folded, list_said, means_said, rule_said, said_map, section_said, service_said, time_said, why_said}
+use Rattle.row_fields.specs.Words.{act_said, answer_said, bare, closing_said, counted_said, date_said, folded, list_said, means_said, rule_said, said_map, section_said, service_said, time_said, why_said}
 use Rattle.row_forms.specs.declared.headings.columns.Column.{Column}
-use Rattle.row_forms.specs.declared.headings.columns.Column.TheVariants.{Clerk, Command, Case, Deadline, Motion, Period, Date, Time, Start, TimeOrNone, SecondOrNone, ServiceOrNone, Means, Grant, ByMotion, Cause, Neglect, Need, Holidays, From, To, Judge, Judges, Room, Slots, Notice, Act, Why, Closing, ResumeDay, Dated}
+use Rattle.row_forms.specs.declared.headings.columns.Column.TheVariants.{Clerk, Command, Case, Deadline, Motion, Period, Date, Time, Start, TimeOrNone, SecondOrNone, ServiceOrNone, Means, Grant, ByMotion, Cause, Neglect, Need, Holidays, From, To, Judge, Judges, Room, Slots, Notice, Act, Why, Closing, ResumeDay, Dated, Title, Counted, Number, Label}
 use Rattle.row_written.specs.Names.{name_said, panel_said}
 
 -- this, where it is so, and else nothing that is known
@@ -66,6 +66,7 @@ word_in ServiceOrNone word = service_said word
 word_in Act word = act_said word
 word_in Why word = why_said word
 word_in Closing word = closing_said word
+word_in Counted word = counted_said word
 word_in _ word = section_said word
 
 abbrev pub word_said : Column → List ℕ → Said (List ℕ)
@@ -126,6 +127,11 @@ filled_said names order Why text = word_said Why text
 filled_said names order Closing text = word_said Closing text
 -- a deadline that is resumed has its days as before
 filled_said names order ResumeDay text = Unknown
+filled_said names order Counted text = word_said Counted text
+filled_said names order Number text = number_said text
+-- what something is called is the field as it is
+filled_said names order Title text = Clear text
+filled_said names order Label text = Clear text
 
 -- what a field of a column says, as a plain row writes it
 unfoldable pub field_said : CourtNames → Option DateOrder → Column → List ℕ → Said (List ℕ)

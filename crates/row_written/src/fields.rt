@@ -6,6 +6,7 @@ ghost use Rattle.std.specs.List.{list_all};
 ghost use Rattle.jiff_fmt.specs.Text.{pad2};
 ghost use Rattle.court_clock.specs.Words.{day_text};
 ghost use Rattle.row_forms.specs.Words.{is_number, names_of};
+ghost use Rattle.row_fields.specs.declared.said.Said.TheVariants.{Clear};
 ghost use Rattle.row_fields.specs.Words.{date_said, said_map, time_said};
 ghost use Rattle.row_written.specs.Fields.{case_said, deadline_said, ending_said, field_said, filled_said, grant_said, is_quarters, may_be_empty, motion_said, need_said, number_said, period_said, slots_said, time_if, word_said};
 
@@ -14,8 +15,8 @@ use case_numbers::case_read;
 use court_clock::Day;
 use court_days::Court;
 use row_fields::{
-    DateOrder, Said, act_said, answer_said, bare, closing_said, date_said, folded, list_said,
-    means_said, rule_said, section_said, service_said, time_said, why_said,
+    DateOrder, Said, act_said, answer_said, bare, closing_said, counted_said, date_said, folded,
+    list_said, means_said, rule_said, section_said, service_said, time_said, why_said,
 };
 use row_forms::Column;
 use std::alloc::{AllocError, Global};
@@ -48,6 +49,13 @@ fn number_said(alloc: Global, text: &str) -> Result<Said<String>, AllocError>
     } else {
         Ok(Said::Unknown)
     }
+}
+
+// A text by which something is called: the field as it is.
+fn text_said(alloc: Global, text: &str) -> Result<Said<String>, AllocError>
+    ensures { IfOk result (λ said. said_map string_bytes said ≡ Clear text.now) }
+{
+    Ok(Said::Clear(String::from_str(alloc, text)?))
 }
 
 // A case: its number, or its case number as the court writes it.
@@ -184,6 +192,7 @@ fn word_said(alloc: Global, column: Column, text: &str) -> Result<Said<String>, 
         Column::Act => act_said(word.as_str()),
         Column::Why => why_said(word.as_str()),
         Column::Closing => closing_said(word.as_str()),
+        Column::Counted => counted_said(word.as_str()),
         _ => section_said(word.as_str()),
     };
     owned(alloc, said)
@@ -270,7 +279,8 @@ fn filled_said(
         | Column::Holidays
         | Column::Act
         | Column::Why
-        | Column::Closing => word_said(alloc, column, text),
+        | Column::Closing
+        | Column::Counted => word_said(alloc, column, text),
         Column::Grant => grant_said(alloc, order, text),
         Column::Need => need_said(alloc, text),
         Column::Judge => name_said(alloc, court, Named::Judges, text),
@@ -279,6 +289,8 @@ fn filled_said(
         Column::Slots => slots_said(alloc, text),
         // A deadline that is resumed has its days as before.
         Column::ResumeDay => Ok(Said::Unknown),
+        Column::Number => number_said(alloc, text),
+        Column::Title | Column::Label => text_said(alloc, text),
     }
 }
 

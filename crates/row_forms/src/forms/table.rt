@@ -5,9 +5,10 @@ ghost use Rattle.std.specs.Prelude.{◌≡◌, find, map, option_map};
 ghost use Rattle.row_forms.specs.Forms.Table.{columns_of, columns_of_form, command_word, commands_listed, form_of, forms, is_word_of, office_form_of};
 
 use crate::headings::Column::{
-    self, Act, ByMotion, Case, Cause, Clerk, Closing, Command, Date, Dated, Deadline, From, Grant,
-    Holidays, Judge, Judges, Means, Motion, Need, Neglect, Notice, Period, ResumeDay, Room,
-    SecondOrNone, ServiceOrNone, Slots, Start, Time, TimeOrNone, To, Why,
+    self, Act, ByMotion, Case, Cause, Clerk, Closing, Command, Counted, Date, Dated, Deadline,
+    From, Grant, Holidays, Judge, Judges, Label, Means, Motion, Need, Neglect, Notice, Number,
+    Period, ResumeDay, Room, SecondOrNone, ServiceOrNone, Slots, Start, Time, TimeOrNone, Title,
+    To, Why,
 };
 
 /// The form of a row: which command or query it asks for.
@@ -51,6 +52,10 @@ pub enum Form {
     Close,
     /// Reopens a case that was closed. It is of the desk alone.
     Reopen,
+    /// Gives a case a title. It is of the desk alone.
+    Title,
+    /// Gives a deadline or a motion a label. It is of the desk alone.
+    Label,
 }
 
 /// The forms of the rows of clerk_office.
@@ -71,7 +76,7 @@ pub const OFFICE_FORMS: [Form; 13] = [
 ];
 
 /// The forms of the rows of the desk.
-pub const FORMS: [Form; 19] = [
+pub const FORMS: [Form; 21] = [
     Form::Open,
     Form::Start,
     Form::File,
@@ -91,10 +96,12 @@ pub const FORMS: [Form; 19] = [
     Form::Resume,
     Form::Close,
     Form::Reopen,
+    Form::Title,
+    Form::Label,
 ];
 
 /// The command words, in the order of the forms.
-pub const COMMANDS: [&str; 19] = [
+pub const COMMANDS: [&str; 21] = [
     "open",
     "start",
     "file",
@@ -114,6 +121,8 @@ pub const COMMANDS: [&str; 19] = [
     "resume",
     "close",
     "reopen",
+    "title",
+    "label",
 ];
 
 /// The columns of a form's rows, from the first on.
@@ -160,6 +169,8 @@ pub fn columns_of_form(form: Form) -> &'static [Column]
         Form::Resume => &[Clerk, Command, Case, Deadline, ResumeDay, Dated],
         Form::Close => &[Clerk, Command, Case, Closing, Dated],
         Form::Reopen => &[Clerk, Command, Case, Dated],
+        Form::Title => &[Clerk, Command, Case, Title],
+        Form::Label => &[Clerk, Command, Case, Counted, Number, Label],
     }
 }
 
@@ -182,7 +193,7 @@ pub fn commands() -> &'static [&'static str]
 pub fn commands_listed() -> &'static str
     ensures { result.now ≡ commands_listed }
 {
-    "open, start, file, extend, motion, book, move, cancel, holiday, inaccessible, compute, sheet, calendar, set, reset, end, resume, close or reopen"
+    "open, start, file, extend, motion, book, move, cancel, holiday, inaccessible, compute, sheet, calendar, set, reset, end, resume, close, reopen, title or label"
 }
 
 // Whether the word is this form's.

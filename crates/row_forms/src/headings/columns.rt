@@ -68,6 +68,14 @@ pub enum Column {
     Closing,
     /// The day on which a deadline that is resumed begins anew, which is empty.
     ResumeDay,
+    /// What a case is called.
+    Title,
+    /// Whether a deadline or a motion is meant.
+    Counted,
+    /// The number of a deadline or of a motion.
+    Number,
+    /// What a deadline or a motion is called.
+    Label,
 }
 
 /// The column of that number, counted from 0.
@@ -107,6 +115,10 @@ pub fn name_of(column: Column) -> &'static str
         Column::Act => "act",
         Column::Dated => "dated",
         Column::Why | Column::Closing => "why",
+        Column::Title => "title",
+        Column::Counted => "of",
+        Column::Number => "number",
+        Column::Label => "label",
     }
 }
 
@@ -145,6 +157,10 @@ pub fn mark_of(word: &str, column: Column) -> &str
         Column::Dated => "DATED",
         Column::Why | Column::Closing => "WHY",
         Column::ResumeDay => "[DAY]",
+        Column::Title => "TITLE",
+        Column::Counted => "deadline|motion",
+        Column::Number => "NUMBER",
+        Column::Label => "LABEL",
     }
 }
 
