@@ -7,7 +7,7 @@ use Rattle.std.proofs.lemmas.List.Sums.{fold-append}
 use Rattle.docket_rows.specs.declared.command.Counted.{Counted}
 use Rattle.docket_rows.specs.declared.command.Counted.TheVariants.{Deadline, Motion}
 use Rattle.docket_rows.specs.Words.{are_alike}
-use Rattle.desk_numbers.specs.Called.{CalledView, TextsView, TheLastTextCounts, lengthened, same_subject, text_among, text_of, text_then, with_called}
+use Rattle.desk_numbers.specs.Called.{CalledView, TextsView, TheLastTextCounts, lengthened, same_subject, text_among, text_then, with_called}
 
 -- an empty list more, while one is wanted
 one_more : (texts : TextsView) (n : ℕ) → 0 < n → (texts ++ [] ∷ []) ++ replicate (n - 1) [] ≡ texts ++ replicate n []
