@@ -25,7 +25,7 @@ pub use numbers::push_number;
 pub use run::{Closing, Reply, push_closing, push_numbers, push_reply, reply_to, run_text};
 pub use sheets::{
     push_and_closed, push_and_ended, push_case, push_deadline, push_deadlines, push_ended,
-    push_hearing, push_motions, push_sheet,
+    push_hearing, push_motion, push_motions, push_sheet,
 };
 pub use shown::push_shown;
 pub use views::push_view;

@@ -11,8 +11,7 @@ use court_clock::Clock;
 use court_days::Court;
 pub use deadlines::{push_and_ended, push_deadline, push_ended};
 use docket_rows::{Closure, Sheet, SheetDeadline, SheetMotion};
-pub use motions::push_hearing;
-use motions::push_motion;
+pub use motions::{push_hearing, push_motion};
 use std::alloc::AllocError;
 use std::fmt::Write;
 
