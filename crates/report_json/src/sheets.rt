@@ -1,47 +1,31 @@
 //! The sheets of cases.
 
 ghost use Rattle.std.specs.Prelude.{OnOk};
-ghost use Rattle.report_json.specs.Sheets.{closed_fields, lists_docketed, sheet_docketed, sheet_with};
+ghost use Rattle.report_json.specs.Deadlines.{deadline_value};
+ghost use Rattle.report_json.specs.Motions.{motion_value};
+ghost use Rattle.report_json.specs.Sheets.{closed_fields, lists_docketed, sheet_docketed};
 ghost use Rattle.report_json.specs.Values.{AddsFields};
 
 use crate::to_json::{ToFields, ToJson};
 use crate::writer::JsonWriter;
 use court_clock::Day;
 use court_days::Court;
-use docket_rows::{Closure, Sheet, SheetMotion};
+use docket_rows::{Closure, Sheet, SheetDeadline, SheetMotion};
 use report_texts::Labels;
 use std::alloc::AllocError;
 
-/// Writes a case, with its deadlines and its motions.
-#[tactic(auto, using(crate::proofs::TokenLemmas::more_fields))]
-pub(crate) fn push_sheet<D: ToJson>(
-    out: &mut JsonWriter,
-    court: &Court,
-    labels: &Labels<'_>,
-    case: u32,
-    filed: Day,
-    closed: Option<Closure>,
-    deadlines: &[D],
-    motions: &[SheetMotion],
-) -> Result<(), AllocError>
-    ensures { OnOk result (AddsFields out.old out.new (sheet_with (D.value court.now labels.now.cases) court.now labels.now.cases case filed closed deadlines.now motions.now)) }
-{
-    out.case_fields(court, labels, case)?;
-    push_docketed(out, court, labels, filed, closed, deadlines, motions)
-}
-
 /// Writes when a case was filed, how it was closed, its deadlines and its motions.
 #[tactic(auto, unfolding(crate::specs::Sheets::sheet_docketed), using(crate::proofs::TokenLemmas::more_fields))]
-fn push_docketed<D: ToJson>(
+fn push_docketed(
     out: &mut JsonWriter,
     court: &Court,
     labels: &Labels<'_>,
     filed: Day,
     closed: Option<Closure>,
-    deadlines: &[D],
+    deadlines: &[SheetDeadline],
     motions: &[SheetMotion],
 ) -> Result<(), AllocError>
-    ensures { OnOk result (AddsFields out.old out.new (sheet_docketed (D.value court.now labels.now.cases) court.now filed closed deadlines.now motions.now)) }
+    ensures { OnOk result (AddsFields out.old out.new (sheet_docketed (deadline_value court.now.clock.zone) (motion_value court.now) filed closed deadlines.now motions.now)) }
 {
     out.field(court, labels, "filed", &filed)?;
     push_closed(out, court, labels, closed)?;
@@ -49,7 +33,7 @@ fn push_docketed<D: ToJson>(
 }
 
 /// Writes since when a case is closed, and how, if it is.
-fn push_closed(
+pub(crate) fn push_closed(
     out: &mut JsonWriter,
     court: &Court,
     labels: &Labels<'_>,
@@ -68,14 +52,14 @@ fn push_closed(
 
 /// Writes the deadlines of a case and its motions.
 #[tactic(auto, unfolding(crate::specs::Sheets::lists_docketed))]
-fn push_lists<D: ToJson>(
+fn push_lists(
     out: &mut JsonWriter,
     court: &Court,
     labels: &Labels<'_>,
-    deadlines: &[D],
+    deadlines: &[SheetDeadline],
     motions: &[SheetMotion],
 ) -> Result<(), AllocError>
-    ensures { OnOk result (AddsFields out.old out.new (lists_docketed (D.value court.now labels.now.cases) court.now deadlines.now motions.now)) }
+    ensures { OnOk result (AddsFields out.old out.new (lists_docketed (deadline_value court.now.clock.zone) (motion_value court.now) deadlines.now motions.now)) }
 {
     out.list_field(court, labels, "deadlines", deadlines)?;
     out.list_field(court, labels, "motions", motions)
@@ -86,17 +70,18 @@ impl ToFields for Sheet {
 
     ghost fields = { sheet_fields };
 
+    #[tactic(auto, using(crate::proofs::TokenLemmas::more_fields))]
     fn write_fields(
         &self,
         out: &mut JsonWriter,
         court: &Court,
         labels: &Labels<'_>,
     ) -> Result<(), AllocError> {
-        push_sheet(
+        out.case_fields(court, labels, self.case)?;
+        push_docketed(
             out,
             court,
             labels,
-            self.case,
             self.filed,
             self.closed,
             self.deadlines.as_slice(),

@@ -1,4 +1,5 @@
 pub mod Answers
+pub mod Called
 pub mod Deadlines
 pub mod Hearings
 pub mod Literals

@@ -4,7 +4,7 @@ ghost use Rattle.std.specs.Prelude.{◌≡◌, ◌++◌, IfOk, OnOk};
 ghost use Rattle.report_sql.specs.Script.{script_text, transaction_end, transaction_front};
 
 use crate::answers::push_answers;
-use crate::schema::{have_facts, push_tables};
+use crate::schema::{have_facts, have_texts, push_tables};
 use crate::script::Script;
 use crate::sheets::push_docketed;
 use court_days::Court;
@@ -14,9 +14,10 @@ use row_forms::NumberedRow;
 use std::alloc::{AllocError, Global};
 
 /// One transaction of SQL: it makes the tables, and puts into them what each row was answered, by its number, and what is docketed after
-/// the last. Where rows record facts of cases there are tables of the cases that are closed and of the deadlines that are ended. Answers
-/// have the names of cases in place of numbers, and the table of cases has a column for them where there are any. Deadlines and motions
-/// have their numbers, while rows name them by their places. `Err` says that memory ran out.
+/// the last. Where rows record facts of cases there are tables of the cases that are closed and of the deadlines that are ended, and
+/// where rows call cases, deadlines and motions something, tables of that. Answers have the names of cases in place of numbers, and
+/// the table of cases has a column for them where there are any. Deadlines and motions have their numbers, while rows name them by
+/// their places. `Err` says that memory ran out.
 #[tactic(auto, unfolding(crate::specs::Script::script_text))]
 pub fn sql_text(
     alloc: Global,
@@ -29,7 +30,7 @@ pub fn sql_text(
     let mut out = Script::new(alloc);
     let mut docket = Docket::new(alloc, court)?;
     push_front(&mut out)?;
-    push_tables(&mut out, labels, have_facts(rows))?;
+    push_tables(&mut out, labels, have_facts(rows), have_texts(rows))?;
     push_answers(alloc, &mut out, court, labels, &mut docket, rows)?;
     push_docketed(alloc, &mut out, court, labels, &docket)?;
     push_end(&mut out)?;

@@ -1,8 +1,9 @@
-//! A docket as SQL: one transaction that makes tables of cases, deadlines, extensions, motions, hearings, outages and answers,
-//! and puts a row into them for each.
+//! A docket as SQL: one transaction that makes tables of cases, deadlines, extensions, motions, hearings, outages and answers, and of
+//! what rows call cases, deadlines and motions, and puts a row into them for each.
 #![tactic(auto)]
 
 mod answers;
+mod called;
 mod deadlines;
 mod document;
 mod hearings;

@@ -1,7 +1,7 @@
 //! The tables.
 
 ghost use Rattle.std.specs.Prelude.{◌≡◌, ◌++◌, OnOk};
-ghost use Rattle.report_sql.specs.Schema.{answers_table, cases_table, closings_table, endings_table, have_facts, is_fact, tables};
+ghost use Rattle.report_sql.specs.Schema.{answers_table, cases_table, closings_table, endings_table, have_facts, have_texts, is_calling, is_fact, tables, texts_tables};
 
 use crate::script::Script;
 use docket_rows::Command;
@@ -139,6 +139,28 @@ const ENDINGS: &str = "CREATE TABLE endings (
 );
 ";
 
+// What rows call cases.
+const TITLES: &str = "CREATE TABLE titles (
+  case_number INTEGER NOT NULL PRIMARY KEY REFERENCES cases (number),
+  title VARCHAR(200) NOT NULL
+);
+";
+
+// What rows call deadlines and motions: each row is of one of the two.
+const LABELS: &str = "CREATE TABLE labels (
+  case_number INTEGER NOT NULL REFERENCES cases (number),
+  deadline_number INTEGER,
+  motion_number INTEGER,
+  label VARCHAR(200) NOT NULL,
+  UNIQUE (case_number, deadline_number),
+  UNIQUE (case_number, motion_number),
+  FOREIGN KEY (case_number, deadline_number) REFERENCES deadlines (case_number, number),
+  FOREIGN KEY (case_number, motion_number) REFERENCES motions (case_number, number),
+  CHECK (deadline_number IS NULL OR motion_number IS NULL),
+  CHECK (deadline_number IS NOT NULL OR motion_number IS NOT NULL)
+);
+";
+
 // What each row was answered, by its number; NULL refusal: it isn't refused.
 const ANSWERS: &str = "CREATE TABLE answers (
   number INTEGER NOT NULL PRIMARY KEY,
@@ -162,7 +184,7 @@ fn is_fact(work: &Work) -> bool
     ensures { result ≡ is_fact work.now }
 {
     match work {
-        Work::Command(Command::Fact { .. }) => true,
+        Work::Command(Command::Fact { fact, .. }) => fact.is_kept(),
         _ => false,
     }
 }
@@ -174,14 +196,33 @@ pub(crate) fn have_facts(rows: &[NumberedRow]) -> bool
     rows.iter().any(|row| is_fact(&row.row.work))
 }
 
-/// Adds the statements that make the tables: `facts` says whether rows record facts of cases. `Err` says that memory ran out.
+// Whether a row says what something is called.
+fn is_calling(work: &Work) -> bool
+    ensures { result ≡ is_calling work.now }
+{
+    match work {
+        Work::Command(Command::Fact { fact, .. }) => !fact.is_kept(),
+        _ => false,
+    }
+}
+
+// Whether some of these rows do.
+pub(crate) fn have_texts(rows: &[NumberedRow]) -> bool
+    ensures { result ≡ have_texts rows.now }
+{
+    rows.iter().any(|row| is_calling(&row.row.work))
+}
+
+/// Adds the statements that make the tables: `facts` says whether rows record facts of cases, and `texts` whether rows say what cases,
+/// deadlines and motions are called. `Err` says that memory ran out.
 #[tactic(auto, unfolding(crate::specs::Schema::tables))]
 pub(crate) fn push_tables(
     out: &mut Script,
     labels: &Labels<'_>,
     facts: bool,
+    texts: bool,
 ) -> Result<(), AllocError>
-    ensures { OnOk result (out.new ≡ out.old ++ tables labels.now.cases facts) }
+    ensures { OnOk result (out.new ≡ out.old ++ tables labels.now.cases facts texts) }
 {
     push_cases(out, labels)?;
     out.statement(DEADLINES)?;
@@ -193,7 +234,8 @@ pub(crate) fn push_tables(
     out.statement(OUTAGES)?;
     push_closings(out, facts)?;
     push_endings(out, facts)?;
-    push_answers(out, facts)
+    push_texts(out, texts)?;
+    push_answers(out, facts || texts)
 }
 
 // Adds the table of the cases that are closed, where rows record facts of cases.
@@ -218,11 +260,23 @@ fn push_endings(out: &mut Script, facts: bool) -> Result<(), AllocError>
     }
 }
 
-// Adds the table of answers.
-fn push_answers(out: &mut Script, facts: bool) -> Result<(), AllocError>
-    ensures { OnOk result (out.new ≡ out.old ++ answers_table facts) }
+// Adds the tables of what cases, deadlines and motions are called, where rows say it.
+fn push_texts(out: &mut Script, texts: bool) -> Result<(), AllocError>
+    ensures { OnOk result (out.new ≡ out.old ++ texts_tables texts) }
 {
-    if facts {
+    if texts {
+        out.statement(TITLES)?;
+        out.statement(LABELS)
+    } else {
+        Ok(())
+    }
+}
+
+// Adds the table of answers: `own` says whether rows of the desk's own are answered.
+fn push_answers(out: &mut Script, own: bool) -> Result<(), AllocError>
+    ensures { OnOk result (out.new ≡ out.old ++ answers_table own) }
+{
+    if own {
         out.statement(DESK_ANSWERS)
     } else {
         out.statement(ANSWERS)
