@@ -36,10 +36,12 @@ fn held(column: Column) -> &'static str {
         Column::Why => "moot, vacated, stayed, suspended or withdrawn",
         Column::Closing => "dismissed, judgment, settled, transferred, remanded or otherwise",
         Column::ResumeDay => "nothing, since the deadline has its days as before",
-        Column::Title => "what the case is called, 1 to 200 bytes without control characters",
+        Column::Title =>
+            "what the case is called, in ASCII and without ?; a plain row takes other letters",
         Column::Counted => "deadline or motion",
         Column::Number => "the number of a deadline or a motion, as 1",
-        Column::Label => "what it is called, 1 to 200 bytes without control characters",
+        Column::Label =>
+            "what it is called, in ASCII and without ?; a plain row takes other letters",
     }
 }
 

@@ -21,6 +21,13 @@ clear_if so text = if so then Clear text else Unknown
 abbrev pub number_said : List ℕ → Said (List ℕ)
 number_said text = clear_if (is_number text) text
 
+-- What something is called: the field as it is. It has no question mark, which may stand for a letter that plain keys don't type.
+abbrev pub has_mark : List ℕ → Bool
+has_mark text = list_any (λ b. b == 63) text
+
+abbrev pub text_said : List ℕ → Said (List ℕ)
+text_said text = if has_mark text then Unknown else Clear text
+
 -- a deadline: its number, or a Rule's number
 abbrev pub deadline_said : List ℕ → Said (List ℕ)
 deadline_said text = if is_number text then Clear text else rule_said (folded text)
@@ -130,8 +137,8 @@ filled_said names order ResumeDay text = Unknown
 filled_said names order Counted text = word_said Counted text
 filled_said names order Number text = number_said text
 -- what something is called is the field as it is
-filled_said names order Title text = Clear text
-filled_said names order Label text = Clear text
+filled_said names order Title text = text_said text
+filled_said names order Label text = text_said text
 
 -- what a field of a column says, as a plain row writes it
 unfoldable pub field_said : CourtNames → Option DateOrder → Column → List ℕ → Said (List ℕ)

@@ -6,9 +6,8 @@ ghost use Rattle.std.specs.List.{list_all};
 ghost use Rattle.jiff_fmt.specs.Text.{pad2};
 ghost use Rattle.court_clock.specs.Words.{day_text};
 ghost use Rattle.row_forms.specs.Words.{is_number, names_of};
-ghost use Rattle.row_fields.specs.declared.said.Said.TheVariants.{Clear};
 ghost use Rattle.row_fields.specs.Words.{date_said, said_map, time_said};
-ghost use Rattle.row_written.specs.Fields.{case_said, deadline_said, ending_said, field_said, filled_said, grant_said, is_quarters, may_be_empty, motion_said, need_said, number_said, period_said, slots_said, time_if, word_said};
+ghost use Rattle.row_written.specs.Fields.{case_said, deadline_said, ending_said, field_said, filled_said, grant_said, has_mark, is_quarters, may_be_empty, motion_said, need_said, number_said, period_said, slots_said, text_said, time_if, word_said};
 
 use crate::names::{Named, name_said, owned, panel_said};
 use case_numbers::case_read;
@@ -51,11 +50,22 @@ fn number_said(alloc: Global, text: &str) -> Result<Said<String>, AllocError>
     }
 }
 
-// A text by which something is called: the field as it is.
-fn text_said(alloc: Global, text: &str) -> Result<Said<String>, AllocError>
-    ensures { IfOk result (λ said. said_map string_bytes said ≡ Clear text.now) }
+// Whether a text has a question mark, which may stand for a letter that plain keys don't type.
+fn has_mark(text: &[u8]) -> bool
+    ensures { result ≡ has_mark text.now }
 {
-    Ok(Said::Clear(String::from_str(alloc, text)?))
+    text.iter().any(|byte| *byte == b'?')
+}
+
+// What something is called: the field as it is.
+fn text_said(alloc: Global, text: &str) -> Result<Said<String>, AllocError>
+    ensures { IfOk result (λ said. said_map string_bytes said ≡ text_said text.now) }
+{
+    if has_mark(text.as_bytes()) {
+        Ok(Said::Unknown)
+    } else {
+        Ok(Said::Clear(String::from_str(alloc, text)?))
+    }
 }
 
 // A case: its number, or its case number as the court writes it.
