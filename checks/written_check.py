@@ -48,7 +48,10 @@ WORDS = {"electronic": ["electronic", "ECF", "Electronically"], "paper": ["paper
          "moot": ["moot", "Moot", "mooted"], "vacated": ["vacated", "Vacated", "vacate"], "stayed": ["stayed", "STAYED", "stay"],
          "suspended": ["suspended", "Suspended", "suspend"], "withdrawn": ["withdrawn", "Withdrawn", "withdrew"],
          "dismissed": ["dismissed", "Dismissed", "dismissal"], "judgment": ["judgment", "Judgement"], "settled": ["settled", "Settlement"],
+         "deadline": ["deadline", "Deadline", "deadlines"], "motion": ["motion", "MOTION", "Motions"],
          "transferred": ["transferred", "Transfer"], "remanded": ["remanded", "REMAND"], "otherwise": ["otherwise", "Other"]}
+# What cases, deadlines and motions are called, which is taken as it is written.
+CALLED = ["Doe v. Acme", "answer of Acme", "In re Acme & Co.", "<script>", "=cmd|x", "a 2nd reply (Doe)"]
 # The columns of each command, by what they hold.
 FORMS = {
     "open": "clerk command case date",
@@ -70,6 +73,8 @@ FORMS = {
     "resume": "clerk command case deadline date! dated",
     "close": "clerk command case why. dated",
     "reopen": "clerk command case dated",
+    "title": "clerk command case title",
+    "label": "clerk command case of number label",
 }
 NAMES = sorted({column.strip("?!.") for form in FORMS.values() for column in form.split()})
 
@@ -109,6 +114,8 @@ def drawn(draw, column, clear):
         "list": lambda: draw.choice(["federal", "state"]), "act": lambda: draw.choice(["filing", "service"]),
         "date!": lambda: "",
         "why": lambda: draw.choice(["moot", "vacated", "stayed", "suspended", "withdrawn"]),
+        "title": lambda: draw.choice(CALLED), "label": lambda: draw.choice(CALLED), "of": lambda: draw.choice(["deadline", "motion"]),
+        "number": lambda: str(draw.randint(1, 99)),
         "why.": lambda: draw.choice(["dismissed", "judgment", "settled", "transferred", "remanded", "otherwise"]),
     }[column]()
 

@@ -83,6 +83,11 @@ class Parts:
             return here | count, self.set_of((word, case)) | made | changed
         if word in ("close", "reopen"):
             return here | self.set_of(("facts", case), "court", "hearings"), here | changed
+        if word == "title":
+            return here | self.set_of(("facts", case), "court"), 0
+        if word == "label":
+            named = self.set_of(("start" if work[2] == "deadline" else "motion", case, work[3]))
+            return here | named | self.set_of(("facts", case), "court"), 0
         if word in ("end", "resume"):
             deadline, facts = self.set_of(("start", case, work[2])), self.set_of(("facts", case))
             return here | deadline | facts | self.set_of("court"), facts | changed

@@ -88,6 +88,13 @@ def spoiled():
         way(name + " as how a case is closed", put(close, "settled", why))
     way("how a case is closed left out", put(close, "settled,", ""))
     way("a deadline in a row that reopens a case", "1,reopen,12,2,2025-11-03")
+    # what cases, deadlines and motions are called
+    label = "1,label,12,deadline,2,answer of Acme"
+    for name, of in [("another word", "case"), ("a misspelt word", "dedline"), ("nothing", "")]:
+        way(name + " as what is called something", put(label, "deadline", of))
+    way("nothing as what a case is called", "1,title,12,")
+    way("an accent in what a case is called", "1, title, 12, Marie-\u00c8ve")
+    way("the number of a deadline in words", put(label, ",2,", ",two,"))
     # numbers
     for name, case in [("a real case number", "1:25-cv-01234-ABC"), ("a leading zero", "012"), ("a hash before it", "#12"), ("a word before it", "case 12"),
                        ("a number as spreadsheets write it", "7.0"), ("a blank in it", "1 2"), ("a dot in it", "1.2"), ("a dot before it", ".5"), ("a dot after it", "7."),

@@ -144,6 +144,11 @@ def one_of(*words):
     return lambda text, court: text if text in words else None
 
 
+def called(text, court):
+    """What something is called: 1 to 200 bytes without control characters."""
+    return None if not 1 <= len(text.encode()) <= TEXT_BYTES or CONTROL.search(text) else text
+
+
 def period(text, court):
     return period_of_text(text)
 
@@ -212,6 +217,9 @@ COLUMNS = {
     "sheet": [number],
     "calendar": [judge, date],
 }
+TEXT_BYTES = 200
+# A control character, of ASCII or after it.
+CONTROL = re.compile("[\x00-\x1f\x7f-\x9f]")
 WHY = one_of("moot", "vacated", "stayed", "suspended", "withdrawn")
 # The forms that the desk alone takes.
 DESK_COLUMNS = {
@@ -222,6 +230,8 @@ DESK_COLUMNS = {
     "resume": [number, number, no_day, date],
     "close": [number, one_of("dismissed", "judgment", "settled", "transferred", "remanded", "otherwise"), date],
     "reopen": [number, date],
+    "title": [number, called],
+    "label": [number, one_of("deadline", "motion"), number, called],
 }
 WORKS = {
     "open": lambda case, filed: ("open", case, filed),
@@ -243,6 +253,8 @@ WORKS = {
     "resume": lambda case, deadline, day, dated: ("resume", case, deadline, dated),
     "close": lambda case, why, dated: ("close", case, why, dated),
     "reopen": lambda case, dated: ("reopen", case, dated),
+    "title": lambda case, text: ("title", case),
+    "label": lambda case, of, of_number, text: ("label", case, of, of_number),
 }
 
 
