@@ -32,7 +32,7 @@ DIFFERS = 7
 # The status with which a call ends whose input can't be read, and how many bytes are kept together at most.
 UNREAD, LONGEST_INPUT = 4, 16_777_216
 # What is expected where a row's command isn't known.
-COMMANDS = b"open, start, file, extend, motion, book, move, cancel, holiday, inaccessible, compute, sheet, calendar, set, reset, end, resume, close, reopen, rule or assign\n"
+COMMANDS = b"open, start, file, extend, motion, book, move, cancel, holiday, inaccessible, compute, sheet, calendar, set, reset, end, resume, close, reopen, rule, assign, title or label\n"
 # Another judge, and a holiday on the last day of a period that was asked for.
 OTHER_COURT = SHORT_COURT.replace(b'"Brandt"]', b'"Brandt", "Cole"]').replace(b'"2025-03-28"', b'"2025-03-28", "2025-09-02"')
 

@@ -7,11 +7,11 @@ COUNT inputs (5,000 without it) are made from SEED, as office_compare.py makes t
 must be refused by both. The rows are entered in one session or two. A row that can't be read is answered with its fault,
 and the others must be answered as clerk_office answers them alone: the answers must be those in the journal, the rows in
 it with the court's file an input for which clerk_office begins with the same answers, and what `rows` writes that input.
-In some inputs orders set deadlines, or other ends for them, deadlines are ended and resumed, motions are ruled on, and cases assigned
-and closed, by rows that the desk alone takes: there the answers must be those of the second program in Python, and clerk_office must
-refuse the rows for the first of these, whose command word it doesn't know. In some the court's file says to when electronic filing
-runs, by a key that the desk alone reads: there too the answers are compared with Python's, clerk_office must answer as without the key,
-and the desk must refuse a value that is no time.
+In some inputs orders set deadlines, or other ends for them, deadlines are ended and resumed, motions are ruled on, cases closed and
+assigned, and cases, deadlines and motions called something, by rows that the desk alone takes: there the answers must be those of the
+second program in Python, and clerk_office must refuse the rows for the first of these, whose command word it doesn't know. In some the
+court's file says to when electronic filing runs, by a key that the desk alone reads: there too the answers are compared with Python's,
+clerk_office must answer as without the key, and the desk must refuse a value that is no time.
 The desk takes rows of 64 clerks, and clerk_office by itself those of clerk 1: it is given all of them as that clerk's. It
 needs Python 3.8 or later.
 """
@@ -21,7 +21,7 @@ import sys
 import tempfile
 from collections import Counter
 
-from lib.desk import Desk, FAULT_LINE, ROW_OF_DESK, desk_rows, divided
+from lib.desk import Desk, FAULT_LINE, ROW_OF_DESK, called_rows, desk_rows, divided
 from lib.journal import rows_of
 from lib.made_inputs import INPUTS, made_input
 from lib.programs import programs_of, run, seed_and_count
@@ -133,7 +133,7 @@ def check_input(programs, data, draw):
     court, rows = divided(data)
     rows = [row if row.endswith(b"\n") else row + b"\n" for row in rows]
     if draw.random() < 0.3:
-        rows = desk_rows(draw, rows, [1, 2, 3])
+        rows = called_rows(draw, desk_rows(draw, rows, [1, 2, 3]), [1, 2, 3])
     with tempfile.TemporaryDirectory() as parent:
         if is_refused(programs, parent, court):
             return REFUSED_COURT

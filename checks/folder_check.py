@@ -10,6 +10,8 @@ which no input says; and the journal must be as it was. Where the desk alone tak
 folder into which they are entered at once.
 As of the last row that there was then, each report must at the end be what it was then, byte by byte, and so must the rows, the
 cases, the rows that are struck and the answers to questions; also once a row is struck.
+What rows call cases, deadlines and motions is in each report, whole and as text alone, also where it has markup, a formula, quotes or
+characters from right to left; the last text counts, and texts with control characters are refused.
 It needs Python 3.8 or later.
 """
 import random
@@ -17,6 +19,7 @@ import re
 import sys
 import tempfile
 
+from lib.called_texts import check_called
 from lib.desk import Desk, SHORT_COURT, report_of
 from lib.journal import rows_of
 from lib.memo_head import without_made
@@ -114,6 +117,7 @@ def main(words):
     programs, (seed, count) = programs_of(words[:1]), seed_and_count(words[1:], 30)
     draw = random.Random(seed)
     rows = sum(check_docket(programs, draw) for _ in range(count))
+    print("{} texts: what rows call cases, deadlines and motions is in each report as it is".format(check_called(programs)))
     print("{} folders with {} rows: each report is that of the rows, also beside a session".format(count, rows))
 
 

@@ -24,7 +24,7 @@ import sqlite3
 import sys
 import tempfile
 
-from lib.desk import Desk, REFUSED, SHORT_COURT, has_rows_of_desk, report_of
+from lib.desk import Desk, REFUSED, SHORT_COURT, TEXTS, has_rows_of_desk, report_of
 from lib.journal import CORRECTIONS, Said, corrections_in, packed, rows_of as rows_kept, said_in, struck_in, with_said
 from lib.json_text import office_text
 from lib.kept_numbers import GIVES, Numbers, said_wanted, to_say
@@ -46,6 +46,8 @@ JUDGES = ["Ames", "Brandt"]
 # What a row names by its number.
 NAMED = {"file": "deadline", "extend": "deadline", "reset": "deadline", "end": "deadline", "resume": "deadline", "book": "motion",
          "move": "motion", "cancel": "motion", "rule": "motion"}
+# What things are called, as a line may have it that is read as people write lines.
+CALLED = [text for text in TEXTS if text.isascii()]
 # What of an event says when it was written, and which it is.
 STAMPS = ("DTSTAMP", "LAST-MODIFIED", "SEQUENCE", "UID")
 
@@ -68,6 +70,8 @@ def drawn_row(draw):
         "1,resume,{},{},,{}".format(case, number, day),
         draw.choice(["1,close,{},settled,{}", "1,reopen,{},{}", "1,reopen,{},{}"]).format(case, day),
         "1,assign,{},{},{},{}".format(case, draw.choice(JUDGES), draw.choice(["", "", *JUDGES]), day),
+        draw.choice(["1,title,{case},{text}", "1,label,{case},{of},{number},{text}"]).format(
+            case=case, of=draw.choice(["deadline", "motion"]), number=number, text=draw.choice(CALLED)),
         "1,motion,{},{},{}".format(case, day, draw.choice(["14", "7", "exparte"])),
         "1,motion,{},{},{}".format(case, day, draw.choice(["14", "7", "exparte"])),
         "1,{},{},{},Ames,R1,{},{:02}:00,1,{}".format(draw.choice(["book", "move"]), case, number, day, draw.randint(8, 16), "2025-03-03"),
@@ -420,8 +424,9 @@ def rows_written(desk, replay):
         fields = row.decode().rstrip("\n").split(",")
         if number in replay.struck:
             continue
-        if fields[1] in NAMED:
-            of_kind, case, named = moved[NAMED[fields[1]]], int(fields[2]), int(fields[3])
+        if fields[1] in NAMED or fields[1] == "label":
+            kind, said = (fields[3], fields[4]) if fields[1] == "label" else (NAMED[fields[1]], fields[3])
+            of_kind, case, named = moved[kind], int(fields[2]), int(said)
             if (case, named) in of_kind and named not in [kept for (of, _), kept in of_kind.items() if of == case]:
                 continue
         found.append(number)

@@ -48,9 +48,12 @@ WORDS = {"electronic": ["electronic", "ECF", "Electronically"], "paper": ["paper
          "moot": ["moot", "Moot", "mooted"], "vacated": ["vacated", "Vacated", "vacate"], "stayed": ["stayed", "STAYED", "stay"],
          "suspended": ["suspended", "Suspended", "suspend"], "withdrawn": ["withdrawn", "Withdrawn", "withdrew"],
          "dismissed": ["dismissed", "Dismissed", "dismissal"], "judgment": ["judgment", "Judgement"], "settled": ["settled", "Settlement"],
+         "deadline": ["deadline", "Deadline", "deadlines"], "motion": ["motion", "MOTION", "Motions"],
          "transferred": ["transferred", "Transfer"], "remanded": ["remanded", "REMAND"], "otherwise": ["otherwise", "Other"],
          "granted": ["granted", "Granted", "grant"], "denied": ["denied", "Denied", "deny"], "in part": ["in part", "In Part", "granted in part"],
          "reserved": ["reserved", "Reserved", "under advisement"]}
+# What cases, deadlines and motions are called, which is taken as it is written.
+CALLED = ["Doe v. Acme", "answer of Acme", "In re Acme & Co.", "<script>", "=cmd|x", "a 2nd reply (Doe)"]
 # The columns of each command, by what they hold.
 FORMS = {
     "open": "clerk command case date",
@@ -74,6 +77,8 @@ FORMS = {
     "reopen": "clerk command case dated",
     "rule": "clerk command case motion ruling dated",
     "assign": "clerk command case judge. referred? dated",
+    "title": "clerk command case title",
+    "label": "clerk command case of number label",
 }
 NAMES = sorted({column.strip("?!.") for form in FORMS.values() for column in form.split()})
 
@@ -114,6 +119,8 @@ def drawn(draw, column, clear):
         "date!": lambda: "",
         "why": lambda: draw.choice(["moot", "vacated", "stayed", "suspended", "withdrawn"]),
         "ruling": lambda: draw.choice(["granted", "denied", "in part", "moot", "withdrawn", "reserved"]),
+        "title": lambda: draw.choice(CALLED), "label": lambda: draw.choice(CALLED), "of": lambda: draw.choice(["deadline", "motion"]),
+        "number": lambda: str(draw.randint(1, 99)),
         "why.": lambda: draw.choice(["dismissed", "judgment", "settled", "transferred", "remanded", "otherwise"]),
     }[column]()
 

@@ -16,7 +16,7 @@ TOGETHER, KEEP_REFUSED, FAULTS = "--all-or-nothing", "--keep-refused", 3
 # that has a fault.
 FAULTY, FAULT_LINE = 8, re.compile(rb"\d+ (?:\d+|-) fault ")
 # A row that the desk takes, and clerk_office doesn't.
-ROW_OF_DESK = re.compile(rb'(?m)^"?[0-9]+"?,"?(?:set|reset|end|resume|close|reopen|rule|assign)"?,')
+ROW_OF_DESK = re.compile(rb'(?m)^"?[0-9]+"?,"?(?:set|reset|end|resume|close|reopen|rule|assign|title|label)"?,')
 # The judges of a row that sets a hearing.
 PANEL = re.compile(rb"(?m)^[0-9]+,(?:book|move),[^,\r\n]*,[^,\r\n]*,([^,\r\n]+),")
 # What a session says first of each that was cut off before it.
@@ -203,6 +203,26 @@ def assign_rows(draw, rows, cases, faulty=True):
         named = judges + [b"Nobody"] * (draw.random() < 0.2)
         to, referred, dated = draw.choice(named), draw.choice(named + [b""] * len(named)), draw.choice(days + [b"9/2/25"] * faulty)
         row = b"1,assign,%d,%s,%s,%s\n" % (draw.choice(cases), to, referred, dated)
+        rows.insert(draw.randint(min(len(rows), 4), len(rows)), row)
+    return rows
+
+
+# What cases, deadlines and motions are called in made rows: texts that mean something in HTML, in a spreadsheet, in SQL or to a shell,
+# and some that are right to left, or go from one to the other. None has a comma, a quote or the end of a line.
+TEXTS = ["Doe v. Acme", "answer of Acme", "In re: Marie-Ève", "<script>alert(1)</script>", "=cmd|' /C calc'!A0", "a; DROP TABLE cases", "&amp;", "--",
+         "$(id)", "\u202eemca", "\u200f\u05d0\u05d1", "\U0001f6e1 seal"]
+# And texts that no row may have.
+NO_TEXTS = ["", "a\tb", "a\x7f", "a\x85b", "x" * 201, "\u00e9" * 101]
+
+
+def called_rows(draw, rows, cases, faulty=True):
+    """The rows with some put among them that say what a case, or one of its first deadlines or motions, is called. Some have a fault,
+    unless none is to have one."""
+    rows = list(rows)
+    for _ in range(draw.randint(1, 8)):
+        text = draw.choice(TEXTS + NO_TEXTS * faulty).encode()
+        of = draw.choice([b"deadline", b"motion"] * 4 + [b"case"] * faulty)
+        row = draw.choice([b"1,title,%d,%s\n" % (draw.choice(cases), text), b"1,label,%d,%s,%d,%s\n" % (draw.choice(cases), of, draw.randint(1, 4), text)])
         rows.insert(draw.randint(min(len(rows), 4), len(rows)), row)
     return rows
 

@@ -19,7 +19,7 @@ from office_reference import ended as ended_by_reference
 
 # A row at the end that is answered by one line: what follows it are the sheets and the calendars.
 LAST_ROW = b"1,compute,59e,2025-08-04,,,\n"
-OF_CASE = re.compile(rb"^(\d+,(?:open|start|file|extend|motion|book|move|cancel|sheet|set|reset|end|resume|close|reopen|rule|assign),)(\d+)(?=,|\r?\n)")
+OF_CASE = re.compile(rb"^(\d+,(?:open|start|file|extend|motion|book|move|cancel|sheet|set|reset|end|resume|close|reopen|rule|assign|title|label),)(\d+)(?=,|\r?\n)")
 CLERK = re.compile(rb'(?m)^"?([0-9]+)"?,')
 
 

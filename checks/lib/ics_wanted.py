@@ -205,7 +205,7 @@ def revisions_of(rows, answers):
         if not answers.get(number, "refused").startswith("refused"):
             if fields[1] in ("holiday", "inaccessible"):
                 last[0] = number
-            elif fields[1] in ("start", "set", "file", "extend", "reset", "end", "resume", "close", "reopen", "rule", "assign", "book", "move", "cancel"):
+            elif fields[1] in ("start", "set", "file", "extend", "reset", "end", "resume", "close", "reopen", "rule", "assign", "title", "label", "book", "move", "cancel"):
                 last[int(fields[2])] = number
     return last
 

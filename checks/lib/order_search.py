@@ -86,6 +86,11 @@ class Parts:
         if word == "assign":
             facts = self.set_of(("facts", case))
             return here | facts | self.set_of("court"), facts | changed
+        if word == "title":
+            return here | self.set_of(("facts", case), "court"), 0
+        if word == "label":
+            named = self.set_of(("start" if work[2] == "deadline" else "motion", case, work[3]))
+            return here | named | self.set_of(("facts", case), "court"), 0
         if word in ("end", "resume"):
             deadline, facts = self.set_of(("start", case, work[2])), self.set_of(("facts", case))
             return here | deadline | facts | self.set_of("court"), facts | changed

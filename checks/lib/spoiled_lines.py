@@ -102,6 +102,13 @@ def spoiled():
     way("the judge to whom a case is referred left out with the comma", put(assign, "Brandt,", ""))
     way("the same judge twice where a case is assigned", put(assign, "Brandt", "Ames"))
     way("the judge to whom a case is referred under a heading", "clerk,command,case,judge,referred to,dated", put(assign, "Brandt", "brandt"))
+    # what cases, deadlines and motions are called
+    label = "1,label,12,deadline,2,answer of Acme"
+    for name, of in [("another word", "case"), ("a misspelt word", "dedline"), ("nothing", "")]:
+        way(name + " as what is called something", put(label, "deadline", of))
+    way("nothing as what a case is called", "1,title,12,")
+    way("an accent in what a case is called", "1, title, 12, Marie-\u00c8ve")
+    way("the number of a deadline in words", put(label, ",2,", ",two,"))
     # numbers
     for name, case in [("a real case number", "1:25-cv-01234-ABC"), ("a leading zero", "012"), ("a hash before it", "#12"), ("a word before it", "case 12"),
                        ("a number as spreadsheets write it", "7.0"), ("a blank in it", "1 2"), ("a dot in it", "1.2"), ("a dot before it", ".5"), ("a dot after it", "7."),

@@ -15,7 +15,7 @@ Hand = namedtuple("Hand", "command reads")
 Read = namedtuple("Read", "part length rows")
 
 ABOUT_CASE = {"open": False, "motion": False, "start": True, "file": True, "extend": True, "end": True, "resume": True, "close": True,
-              "reopen": True, "rule": True, "assign": True}
+              "reopen": True, "rule": True, "assign": True, "title": True, "label": True}
 
 
 def opening_world(court, clerks):

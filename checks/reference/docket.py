@@ -244,6 +244,19 @@ def assign(court, rows, case, judge, referred, dated):
     return with_fact(rows, Assignment(case, judge, referred, dated)), ("assigned",)
 
 
+def title(court, rows, case):
+    """What a case is called is no part of the docket; it is decided alone whether it may be said."""
+    refuse_shut(rows, case)
+    return rows, ("titled",)
+
+
+def label(court, rows, case, of, number):
+    refuse_shut(rows, case)
+    refuse(of == "deadline" and deadline_of(rows, case, number) is None, 3)
+    refuse(of == "motion" and motion_of(rows, case, number) is None, 4)
+    return rows, ("labelled",)
+
+
 def with_fact(rows, fact):
     refuse(sum(other.case == fact.case for other in rows.facts) >= FACTS, 25)
     return rows._replace(facts=rows.facts + [fact])
@@ -373,6 +386,6 @@ def calendar_of(rows, judge):
 
 
 STEPS = {"open": open_case, "start": start, "file": file_act, "extend": extend, "end": end, "resume": resume, "close": close,
-         "reopen": reopen, "rule": rule, "assign": assign, "motion": motion, "book": book, "move": move, "cancel": cancel,
+         "reopen": reopen, "rule": rule, "assign": assign, "title": title, "label": label, "motion": motion, "book": book, "move": move, "cancel": cancel,
          "holiday": holiday, "inaccessible": inaccessible}
 VIEWS = {"sheet": sheet, "calendar": calendar, "compute": compute}

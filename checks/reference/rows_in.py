@@ -144,6 +144,11 @@ def one_of(*words):
     return lambda text, court: text if text in words else None
 
 
+def called(text, court):
+    """What something is called: 1 to 200 bytes without control characters."""
+    return None if not 1 <= len(text.encode()) <= TEXT_BYTES or CONTROL.search(text) else text
+
+
 def period(text, court):
     return period_of_text(text)
 
@@ -216,6 +221,9 @@ COLUMNS = {
     "sheet": [number],
     "calendar": [judge, date],
 }
+TEXT_BYTES = 200
+# A control character, of ASCII or after it.
+CONTROL = re.compile("[\x00-\x1f\x7f-\x9f]")
 WHY = one_of("moot", "vacated", "stayed", "suspended", "withdrawn")
 # The forms that the desk alone takes.
 DESK_COLUMNS = {
@@ -228,6 +236,8 @@ DESK_COLUMNS = {
     "reopen": [number, date],
     "rule": [number, number, one_of("granted", "denied", "in part", "moot", "withdrawn", "reserved"), date],
     "assign": [number, judge, judge_or_none, date],
+    "title": [number, called],
+    "label": [number, one_of("deadline", "motion"), number, called],
 }
 WORKS = {
     "open": lambda case, filed: ("open", case, filed),
@@ -251,6 +261,8 @@ WORKS = {
     "reopen": lambda case, dated: ("reopen", case, dated),
     "rule": lambda case, motion, ruling, dated: ("rule", case, motion, ruling, dated),
     "assign": lambda case, to_judge, referred, dated: ("assign", case, to_judge, only(referred), dated),
+    "title": lambda case, text: ("title", case),
+    "label": lambda case, of, of_number, text: ("label", case, of, of_number),
 }
 
 

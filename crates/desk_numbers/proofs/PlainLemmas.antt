@@ -6,7 +6,7 @@ use Rattle.docket_rows.specs.declared.answer.Answer.{Answer}
 use Rattle.docket_rows.specs.declared.answer.Answer.TheVariants as answer
 use Rattle.docket_rows.specs.declared.command.Command.{Command}
 use Rattle.docket_rows.specs.declared.command.Command.TheVariants as command
-use Rattle.docket_rows.specs.declared.fact.Fact.TheVariants.{Ended, Resumed, Closed, Reopened, Ruled, Assigned}
+use Rattle.docket_rows.specs.declared.fact.Fact.TheVariants.{Ended, Resumed, Closed, Reopened, Ruled, Assigned, Titled, Labelled}
 use Rattle.docket_rows.specs.declared.refusal.Refusal.{Refusal}
 use Rattle.docket_rows.specs.declared.refusal.Refusal.TheVariants.{JudgeBusy, RoomBusy, HearingThatDay, NoticeLost, HearingAhead}
 use Rattle.docket_rows.specs.declared.sheet.Sheet.{Sheet}
@@ -45,6 +45,8 @@ same_command (command.Fact case (Closed why dated)) = refl
 same_command (command.Fact case (Reopened dated)) = refl
 same_command (command.Fact case (Ruled motion how dated)) = ap (λ n. command.Fact case (Ruled n how dated)) (same_place case Motion motion)
 same_command (command.Fact case (Assigned judge referred dated)) = refl
+same_command (command.Fact case Titled) = refl
+same_command (command.Fact case (Labelled counted number)) = ap (λ n. command.Fact case (Labelled counted n)) (same_place case counted number)
 same_command other = refl
 
 same_work : (asked : Work) → placed [] asked ≡ asked

@@ -72,6 +72,9 @@ fn expected(column: Column) -> &'static str
         Column::ResumeDay => "nothing, since the deadline has its days as before",
         Column::Ruling => "granted, denied, in part, moot, withdrawn or reserved",
         Column::JudgeOrNone => "a judge, or nothing",
+        Column::Title | Column::Label => "a text of 1 to 200 bytes without control characters",
+        Column::Counted => "deadline or motion",
+        Column::Number => "a number, as 7",
         Column::Clerk | Column::Command | Column::Room => "what FORMATS.md has under Rows",
     }
 }

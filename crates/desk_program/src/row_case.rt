@@ -11,7 +11,7 @@ use court_days::Court;
 use csv::StringRecord;
 use desk_entries::{MOST_CLERKS, is_row};
 use docket_decisions::case_of_command;
-use docket_rows::{Closing, Command, Ending, Fact, Query, Ruling};
+use docket_rows::{Closing, Command, Counted, Ending, Fact, Query, Ruling};
 use row_forms::{Line, Row, Work, read_line};
 use rule_periods::{Grant, Request};
 use std::alloc::{AllocError, Global};
@@ -26,7 +26,7 @@ type RowTypes = Option<
         Option<Day>,
         Grant,
         Request,
-        (Fact, Ending, Closing, Ruling, Option<u8>),
+        (Fact, Ending, Closing, Ruling, Option<u8>, Counted),
     ),
 >;
 

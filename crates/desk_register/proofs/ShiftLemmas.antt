@@ -14,7 +14,7 @@ use Rattle.docket_rows.specs.declared.command.Command.TheVariants.{OpenCase, Sta
 use Rattle.docket_rows.specs.declared.command.Counted.{Counted}
 use Rattle.docket_rows.specs.declared.command.Counted.TheVariants.{Deadline, Motion as CountedMotion}
 use Rattle.docket_rows.specs.declared.fact.Fact.{Fact as FactOf}
-use Rattle.docket_rows.specs.declared.fact.Fact.TheVariants.{Ended, Resumed, Closed, Reopened, Ruled, Assigned}
+use Rattle.docket_rows.specs.declared.fact.Fact.TheVariants.{Ended, Resumed, Closed, Reopened, Ruled, Assigned, Titled, Labelled}
 use Rattle.docket_rows.specs.declared.query.Query.TheVariants as query
 use Rattle.docket_rows.specs.declared.refusal.Refusal.{Refusal as RefusalOf}
 use Rattle.docket_rows.specs.declared.refusal.Refusal.TheVariants.{NoSuchCase}
@@ -141,6 +141,8 @@ made_taken setup parts (Fact case (Closed why dated)) = refl
 made_taken setup parts (Fact case (Reopened dated)) = refl
 made_taken setup parts (Fact case (Ruled motion how dated)) = refl
 made_taken setup parts (Fact case (Assigned judge referred dated)) = refl
+made_taken setup parts (Fact case Titled) = refl
+made_taken setup parts (Fact case (Labelled counted number)) = refl
 
 refused_leaves : (setup : CourtSetup) (docketed : Rows) (command : CommandOf) → came_of (step setup docketed command).1 ≡ Refused → (step setup docketed command).0 ≡ docketed
 unfolding step answered

@@ -162,6 +162,8 @@ came_of answer.Closed = Taken
 came_of answer.Reopened = Taken
 came_of (answer.Ruled day) = Taken
 came_of answer.Assigned = Taken
+came_of answer.Titled = Taken
+came_of answer.Labelled = Taken
 came_of (answer.Resumed shown) = Taken
 came_of (answer.Refused refusal) = Refused
 

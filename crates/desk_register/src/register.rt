@@ -25,7 +25,7 @@ use csv::StringRecord;
 use desk_numbers::{Corrections, RowNumbers, Said, given_by};
 use desk_session::{Outcome, Register};
 use docket_core::Docket;
-use docket_rows::{Closing, Command, Ending, Fact, Query, Ruling};
+use docket_rows::{Closing, Command, Counted, Ending, Fact, Query, Ruling};
 use office_texts::{Reply, reply_to};
 use row_forms::{Line, Row, RowCause, Work};
 use rule_periods::{Grant, Request};
@@ -62,7 +62,7 @@ pub type RowTypes = Option<
         Option<Day>,
         Grant,
         Request,
-        (Fact, Ending, Closing, Ruling, Option<u8>),
+        (Fact, Ending, Closing, Ruling, Option<u8>, Counted),
     ),
 >;
 

@@ -2,7 +2,7 @@
 use Rattle.std.specs.Prelude.{◌≡◌, ℕ, List, ⊤, Option, Some, None, Result, Ok, Err, String, drop}
 use Rattle.std.specs.declared.alloc.Global.{Global}
 use Rattle.desk_register.specs.declared.standing.Standing.{Standing}
-use Rattle.desk_entries.specs.Words.{StandsAfter, cases_of, changes_by, corrections_in, rows_refused, rows_standing, rows_struck, run_by, standing_file}
+use Rattle.desk_entries.specs.Words.{StandsAfter, called_standing, cases_of, changes_by, corrections_in, rows_refused, rows_standing, rows_struck, run_by, standing_file}
 use Rattle.std.specs.Io.KnownBytes.{Appends}
 use Rattle.desk_program.specs.Words.{cases_text, written_rows}
 use Rattle.program_runs.specs.declared.fault.OfficeFault.{OfficeFault}
@@ -32,7 +32,7 @@ past_of under entries = record {
 
 -- what cases, deadlines and motions are called in the folder, and holidays in the court's file that stands
 abbrev pub folder_labels : Standing → (entries : List (List ℕ)) → LabelsView
-folder_labels under entries = labels_of (standing_file entries) (cases_of under entries).named (run_by under entries).numbers.moved
+folder_labels under entries = labels_of (standing_file entries) (cases_of under entries).named (run_by under entries).numbers.moved (called_standing under entries)
 
 -- a report's text, and the line that says what isn't there, by the rows that stand
 abbrev pub IsReport : ReportAsked → (entries : List (List ℕ)) → (text : List ℕ) → Type 0

@@ -116,6 +116,7 @@ fn report_on(
         court,
         register.cases(),
         moved,
+        &reported.called,
         &past,
         &reported.rows,
     )
@@ -176,7 +177,7 @@ fn memo_on(
     requires few { length entries.now ≤ most_entries }
     ensures { IsDocketed docketed.now (batch_of entries.now) → IfOk result (IsFinding (λ text. text.items) (IsMemo asked.now (batch_of entries.now)) (IsNoMemo asked.now (batch_of entries.now))) }
 {
-    let rows = standing_rows(alloc, &docketed.standing, entries)?.rows;
+    let reported = standing_rows(alloc, &docketed.standing, entries)?;
     let register = &docketed.register;
     let moved = register.numbers().moved();
     let court = &docketed.standing.court;
@@ -190,7 +191,8 @@ fn memo_on(
         court,
         register.cases(),
         moved,
-        &rows,
+        &reported.called,
+        &reported.rows,
     )
 }
 

@@ -5,7 +5,7 @@ use Rattle.hearing_slots.specs.declared.booking.Booking.{Booking}
 use Rattle.hearing_slots.specs.Words.{IsWithinDay, IsFree}
 use Rattle.docket_rows.specs.declared.command.Command.{Command}
 use Rattle.docket_rows.specs.declared.command.Command.TheVariants.{Book, MoveHearing, Cancel, Fact}
-use Rattle.docket_rows.specs.declared.fact.Fact.TheVariants.{Ended, Resumed, Closed, Reopened, Ruled, Assigned}
+use Rattle.docket_rows.specs.declared.fact.Fact.TheVariants.{Ended, Resumed, Closed, Reopened, Ruled, Assigned, Titled, Labelled}
 use Rattle.docket_rows.specs.declared.hearing.Hearing.{Hearing}
 use Rattle.docket_rows.specs.declared.hearing.Setting.{Setting}
 use Rattle.docket_rows.specs.declared.rebooking.CalendarChange.{CalendarChange}
@@ -25,6 +25,8 @@ can_rebook setup parts (Fact case (Closed why dated)) made = tt
 can_rebook setup parts (Fact case (Reopened dated)) made = tt
 can_rebook setup parts (Fact case (Ruled motion how dated)) made = tt
 can_rebook setup parts (Fact case (Assigned judge referred dated)) made = tt
+can_rebook setup parts (Fact case Titled) made = tt
+can_rebook setup parts (Fact case (Labelled counted number)) made = tt
 can_rebook setup parts _ made = tt
 
 -- its booking lies within its day, and its slots are free in the calendar of its room

@@ -1,12 +1,13 @@
 //! Recording a fact of a case.
 
-ghost use Rattle.std.specs.Prelude.{◌≡◌, ◌<◌, ◌≤◌, ◌+◌, int_lt, is_ok, length, option_map, if◌then◌else◌};
+ghost use Rattle.std.specs.Prelude.{◌≡◌, ◌<◌, ◌≤◌, ◌+◌, true, int_lt, is_ok, length, option_map, if◌then◌else◌};
 ghost use Rattle.std.specs.Option.{option_map_or};
 ghost use Rattle.rule6.specs.declared.timeliness.Shown.TheVariants.{Beyond};
 ghost use Rattle.docket_rows.specs.declared.command.Command.TheVariants as command;
 ghost use Rattle.docket_rows.specs.declared.hearing.Hearing.{Hearing};
-ghost use Rattle.docket_rows.specs.Words.{add_fact, answer_if_made, are_judges, assign_refusal, changed_by_fact, close_refusal, deadline_in, end_refusal, ending_in, facts_in, first_ahead, has_one, hearing_ahead, hearing_set, is_named_twice, most_facts, motions_in, numbered_motions, refusal, reopen_refusal, resume_refusal, rule_refusal, shown_now, without_ahead};
+ghost use Rattle.docket_rows.specs.Words.{add_fact, answer_if_made, are_judges, assign_refusal, changed_by_fact, close_refusal, deadline_in, end_refusal, ending_in, facts_in, first_ahead, has_one, hearing_ahead, hearing_set, is_kept, is_named_twice, most_facts, motions_in, numbered_motions, refusal, reopen_refusal, resume_refusal, rule_refusal, shown_now, without_ahead};
 
+use crate::called::{label_refusal, title_refusal};
 use crate::rules::DocketRules;
 use crate::seen::{
     deadline_in, has_case, hearing_in, if_ahead, is_beyond, is_closed, motion_in, shown_now,
@@ -100,6 +101,8 @@ pub(crate) fn fact_refusal<S: Sight>(
             referred,
             dated,
         } => assign_refusal(rules, sight, case, judge, referred, dated),
+        Fact::Titled => title_refusal(sight, case),
+        Fact::Labelled { counted, number } => label_refusal(sight, case, counted, number),
     }
 }
 
@@ -312,6 +315,8 @@ pub(crate) fn answer_to_fact<S: Sight>(
             Answer::Ruled(day_taken_off(sight, case, motion, dated))
         }
         Fact::Assigned { .. } => Answer::Assigned,
+        Fact::Titled => Answer::Titled,
+        Fact::Labelled { .. } => Answer::Labelled,
     }
 }
 
@@ -364,12 +369,14 @@ fn change_by_fact(case: &mut CaseRecord, fact: &Fact)
         Fact::Closed { .. } | Fact::Reopened { .. } => {}
         Fact::Ruled { motion, dated, .. } => take_out_ahead(case, motion, dated),
         Fact::Assigned { .. } => {}
+        Fact::Titled => {}
+        Fact::Labelled { .. } => {}
     }
 }
 
-/// Records a fact of an open case. An error leaves the case as it was.
+/// Records a fact of an open case, if it is one that is kept. An error leaves the case as it was.
 pub(crate) fn record_fact(case: &mut CaseRecord, fact: &Fact) -> Result<(), AllocError>
-    requires { length case.old.facts < most_facts }
+    requires { is_kept fact.now ≡ true → length case.old.facts < most_facts }
     ensures { case.new ≡ (if is_ok result then changed_by_fact fact.now (add_fact fact.now case.old) else case.old) }
 {
     case.add_fact(*fact)?;

@@ -2,6 +2,7 @@
 #![tactic(auto)]
 
 mod answers;
+mod called;
 mod cases;
 mod commands;
 mod deadlines;

@@ -223,6 +223,8 @@ pub(crate) fn next_of_fact(
         Fact::Closed { .. } | Fact::Reopened { .. } => next_of_deadline(reads, case),
         Fact::Ruled { motion, .. } => next_of_ruling(rules, reads, case, motion),
         Fact::Assigned { .. } => next_of_deadline(reads, case),
+        Fact::Titled => next_of_deadline(reads, case),
+        Fact::Labelled { .. } => next_of_deadline(reads, case),
     }
 }
 

@@ -17,7 +17,7 @@ use Rattle.docket_rows.specs.declared.answer.Answer.TheVariants as answer
 use Rattle.docket_rows.specs.declared.command.Command.{Command}
 use Rattle.docket_rows.specs.declared.command.Command.TheVariants.{Start, FileAct, Extend, Book, MoveHearing, Holiday, Fact}
 use Rattle.docket_rows.specs.declared.fact.Fact.{Fact as FactOf}
-use Rattle.docket_rows.specs.declared.fact.Fact.TheVariants.{Ended, Resumed, Closed, Reopened, Ruled, Assigned}
+use Rattle.docket_rows.specs.declared.fact.Fact.TheVariants.{Ended, Resumed, Closed, Reopened, Ruled, Assigned, Titled, Labelled}
 use Rattle.docket_rows.specs.declared.hearing.Setting.{Setting}
 use Rattle.docket_rows.specs.declared.query.Query.{Query}
 use Rattle.docket_rows.specs.declared.query.Query.TheVariants.{Sheet, JudgeDay, Compute}
@@ -106,6 +106,8 @@ module _ (a b : CourtSetup) (same : IsSameSetup a b) where
   refusal_alike parts (Fact case (Reopened dated)) = refl
   refusal_alike parts (Fact case (Ruled motion ruling dated)) = refl
   refusal_alike parts (Fact case (Assigned judge referred dated)) = assign_alike parts case judge referred dated
+  refusal_alike parts (Fact case Titled) = refl
+  refusal_alike parts (Fact case (Labelled kind number)) = refl
   refusal_alike parts _ = refl
 
   -- answers
@@ -119,6 +121,8 @@ module _ (a b : CourtSetup) (same : IsSameSetup a b) where
   made_alike parts (Fact case (Reopened dated)) = refl
   made_alike parts (Fact case (Ruled motion ruling dated)) = refl
   made_alike parts (Fact case (Assigned judge referred dated)) = refl
+  made_alike parts (Fact case Titled) = refl
+  made_alike parts (Fact case (Labelled kind number)) = refl
   made_alike parts _ = refl
 
   pub answered_alike : (parts : Parts) (command : Command) → answered a parts command ≡ answered b parts command

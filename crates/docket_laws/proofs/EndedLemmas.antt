@@ -1,13 +1,16 @@
--- Without facts nothing is closed, ended, ruled on or assigned, and a closed case ends its deadlines.
-use Rattle.std.proofs.Common.{◌≡◌, ℕ, true, false, not, is_some, List, [], ◌∷◌, find, Option, Some, None, option_map, refl, subst}
+-- Without facts nothing is closed, ended, ruled on or assigned, a closed case ends its deadlines, and what something is called changes
+-- nothing.
+use Rattle.std.proofs.Common.{◌≡◌, ℕ, true, false, not, is_some, List, [], ◌∷◌, find, Option, Some, None, option_map, refl, sym, ap, subst, append-nil}
 use Rattle.std.specs.List.{list_all}
 use Rattle.std.specs.Option.{option_map_or}
 use Rattle.std.proofs.lemmas.Bool.{and_parts, false≢true}
 use Rattle.docket_rows.specs.declared.command.Command.{Command}
 use Rattle.docket_rows.specs.declared.command.Command.TheVariants.{OpenCase, Start, FileAct, Extend, Motion, Book, MoveHearing, Cancel, Holiday, Inaccessible, Fact}
 use Rattle.docket_rows.specs.declared.fact.Ending.TheVariants.{CaseClosed}
+use Rattle.docket_rows.specs.declared.fact.Fact.{Fact as FactOf}
+use Rattle.docket_rows.specs.declared.fact.Fact.TheVariants.{Ended, Resumed, Closed, Reopened, Ruled, Assigned, Titled, Labelled}
 use Rattle.docket_rows.specs.declared.refusal.Refusal.{Refusal}
-use Rattle.docket_rows.specs.Words.{CourtSetup, Rows, CaseRecordView, DocketedCase, DocketedDeadline, assigned_in, case_shown, closing_in, ending_in, facts_of, is_case, is_closed, opening_rows, parts_of, refusal, rows_after, rows_from, ruling_in, step}
+use Rattle.docket_rows.specs.Words.{CourtSetup, Rows, CaseRecordView, DocketedCase, DocketedDeadline, DocketedFact, assigned_in, case_shown, closing_in, ending_in, facts_of, is_case, is_closed, is_kept, opening_rows, parts_of, refusal, rows_after, rows_from, ruling_in, step}
 use Rattle.docket_laws.specs.Facts.{records_fact}
 use Rattle.docket_laws.specs.Lawful.{deadline_on_sheet, docket_after}
 use Rattle.docket_laws.proofs.LawfulLemmas.ListLemmas.{found_stands}
@@ -82,3 +85,22 @@ closed_by_facts rows case closed = found_closed rows case (find (is_case case) r
 pub closed_ends : (setup : CourtSetup) (rows : Rows) (d : DocketedDeadline) → is_closed (parts_of rows) d.case ≡ true → (deadline_on_sheet setup rows d).ended ≡ Some CaseClosed
 unfolding ending_in
 closed_ends setup rows d closed = rw (closed_by_facts rows d.case closed) refl
+
+-- a fact that isn't kept leaves the rows as they are
+unkept_leaves : (rows : Rows) (case : ℕ) (fact : FactOf) → is_kept fact ≡ false → rows_after rows (Fact case fact) ≡ rows
+unkept_leaves rows case (Ended deadline why dated) unkept = absurd (false≢true (sym unkept))
+unkept_leaves rows case (Resumed deadline dated) unkept = absurd (false≢true (sym unkept))
+unkept_leaves rows case (Closed why dated) unkept = absurd (false≢true (sym unkept))
+unkept_leaves rows case (Reopened dated) unkept = absurd (false≢true (sym unkept))
+unkept_leaves rows case (Ruled motion how dated) unkept = absurd (false≢true (sym unkept))
+unkept_leaves rows case (Assigned judge referred dated) unkept = absurd (false≢true (sym unkept))
+unkept_leaves rows case Titled unkept = ap (λ (fs : List DocketedFact). record rows { facts = fs }) (append-nil rows.facts)
+unkept_leaves rows case (Labelled counted number) unkept = ap (λ (fs : List DocketedFact). record rows { facts = fs }) (append-nil rows.facts)
+
+left_either_way : (rows after : Rows) (o : Option Refusal) → after ≡ rows → option_map_or (λ r. rows) o after ≡ rows
+left_either_way rows after None same = same
+left_either_way rows after (Some r) same = refl
+
+pub called_leaves : (setup : CourtSetup) (rows : Rows) (case : ℕ) (fact : FactOf) → is_kept fact ≡ false → (step setup rows (Fact case fact)).0 ≡ rows
+unfolding step
+called_leaves setup rows case fact unkept = left_either_way rows (rows_after rows (Fact case fact)) (refusal setup (parts_of rows) (Fact case fact)) (unkept_leaves rows case fact unkept)

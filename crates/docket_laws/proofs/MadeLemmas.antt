@@ -17,12 +17,12 @@ use Rattle.hearing_slots.specs.Words.{first_conflict, conflicts, IsFree, IsConfl
 use Rattle.hearing_slots.proofs.CallerLemmas.{find-None, test_from_SharesSlot}
 use Rattle.docket_rows.specs.declared.command.Command.TheVariants as command
 use Rattle.docket_rows.specs.declared.fact.Fact.{Fact}
-use Rattle.docket_rows.specs.declared.fact.Fact.TheVariants.{Ended, Resumed, Closed, Reopened, Ruled, Assigned}
+use Rattle.docket_rows.specs.declared.fact.Fact.TheVariants.{Ended, Resumed, Closed, Reopened, Ruled, Assigned, Titled, Labelled}
 use Rattle.docket_rows.specs.declared.hearing.Setting.{Setting}
 use Rattle.docket_rows.specs.declared.refusal.Refusal.{Refusal}
 use Rattle.docket_rows.specs.declared.refusal.Refusal.TheVariants.{NoSuchDeadline}
 use Rattle.docket_laws.specs.Inside.CanSet.{CanSet}
-use Rattle.docket_rows.specs.Words.{CourtSetup, Parts, CaseRecordView, NumberedDeadline, most_deadlines, most_motions, most_facts, refusal, refusal_of, deadlines_in, deadline_in, motions_in, hearing_in, facts_in, fits_day, sits, start_deadline_refusal, start_deadline_checks, extend_refusal, extend_checks, end_refusal, end_checks, resume_refusal, resume_checks, close_refusal, close_checks, reopen_refusal, reopen_checks, rule_refusal, rule_checks, assign_refusal, assign_checks, motion_refusal, motion_checks, hearing_checks, book_checks, book_refusal, move_refusal, outage_refusal, outage_checks}
+use Rattle.docket_rows.specs.Words.{CourtSetup, Parts, CaseRecordView, NumberedDeadline, most_deadlines, most_motions, most_facts, is_kept, refusal, refusal_of, deadlines_in, deadline_in, motions_in, hearing_in, facts_in, fits_day, sits, start_deadline_refusal, start_deadline_checks, extend_refusal, extend_checks, end_refusal, end_checks, resume_refusal, resume_checks, close_refusal, close_checks, reopen_refusal, reopen_checks, rule_refusal, rule_checks, assign_refusal, assign_checks, motion_refusal, motion_checks, hearing_checks, book_checks, book_refusal, move_refusal, outage_refusal, outage_checks}
 
 -- no line of the list applies
 abbrev pub NoneOf : {R : Type 0} → List (Option R) → Type 0
@@ -89,33 +89,35 @@ can_enter parts case served need h =
     let full = when-None _ _ n.1.1.1.1.0 in
     grind (arith, nat_tests)
 
--- there is room for a fact that is recorded
-pub can_record : (setup : CourtSetup) (parts : Parts) (case : ℕ) (fact : Fact) → refusal setup parts (command.Fact case fact) ≡ None → length (facts_in parts case) < most_facts
+-- there is room for a fact that is kept
+pub can_record : (setup : CourtSetup) (parts : Parts) (case : ℕ) (fact : Fact) → refusal setup parts (command.Fact case fact) ≡ None → is_kept fact ≡ true → length (facts_in parts case) < most_facts
 unfolding end_refusal resume_refusal close_refusal reopen_refusal rule_refusal assign_refusal
-can_record setup parts case (Ended deadline why dated) h =
+can_record setup parts case (Ended deadline why dated) h kept =
     let n = none_of (end_checks parts case deadline dated) h in
     let full = when-None _ _ n.1.1.1.1.1.1.0 in
     grind (arith, nat_tests)
-can_record setup parts case (Resumed deadline dated) h =
+can_record setup parts case (Resumed deadline dated) h kept =
     let n = none_of (resume_checks setup parts case deadline dated) h in
     let full = when-None _ _ n.1.1.1.1.1.1.1.0 in
     grind (arith, nat_tests)
-can_record setup parts case (Closed why dated) h =
+can_record setup parts case (Closed why dated) h kept =
     let n = none_of (close_checks parts case dated) h in
     let full = when-None _ _ n.1.1.1.1.0 in
     grind (arith, nat_tests)
-can_record setup parts case (Reopened dated) h =
+can_record setup parts case (Reopened dated) h kept =
     let n = none_of (reopen_checks parts case dated) h in
     let full = when-None _ _ n.1.1.1.0 in
     grind (arith, nat_tests)
-can_record setup parts case (Ruled motion how dated) h =
+can_record setup parts case (Ruled motion how dated) h kept =
     let n = none_of (rule_checks parts case motion dated) h in
     let full = when-None _ _ n.1.1.1.1.0 in
     grind (arith, nat_tests)
-can_record setup parts case (Assigned judge referred dated) h =
+can_record setup parts case (Assigned judge referred dated) h kept =
     let n = none_of (assign_checks setup parts case judge referred dated) h in
     let full = when-None _ _ n.1.1.1.1.1.0 in
     grind (arith, nat_tests)
+can_record setup parts case Titled h kept = absurd (false≢true kept)
+can_record setup parts case (Labelled counted number) h kept = absurd (false≢true kept)
 
 -- in the case that the parts show, where it is open
 pub can_start_in : (setup : CourtSetup) (parts : Parts) (case : ℕ) (period : Period) (event : EventView) (second : Option ℤ) (service : Option ServiceKind) (c : CaseRecordView) → start_deadline_refusal setup parts case period event second service ≡ None → parts.case case ≡ Some c → length c.deadlines < most_deadlines
@@ -126,8 +128,8 @@ can_start_in setup parts case period event second service c h found =
 pub can_enter_in : (parts : Parts) (case : ℕ) (served : ℤ) (need : Need) (c : CaseRecordView) → motion_refusal parts case served need ≡ None → parts.case case ≡ Some c → length c.motions < most_motions
 can_enter_in parts case served need c h found = rw found at (can_enter parts case served need h)
 
-pub can_record_in : (setup : CourtSetup) (parts : Parts) (case : ℕ) (fact : Fact) (c : CaseRecordView) → refusal setup parts (command.Fact case fact) ≡ None → parts.case case ≡ Some c → length c.facts < most_facts
-can_record_in setup parts case fact c h found = rw found at (can_record setup parts case fact h)
+pub can_record_in : (setup : CourtSetup) (parts : Parts) (case : ℕ) (fact : Fact) (c : CaseRecordView) → refusal setup parts (command.Fact case fact) ≡ None → parts.case case ≡ Some c → is_kept fact ≡ true → length c.facts < most_facts
+can_record_in setup parts case fact c h found kept = rw found at (can_record setup parts case fact h kept)
 
 -- an extension that may be granted has a length, and is of the period's kind
 pub record CanExtend (row : DeadlineRowView) (request : Request) : Type 0 where

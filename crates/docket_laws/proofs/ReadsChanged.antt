@@ -5,7 +5,7 @@ use Rattle.court_days.specs.Words.{DaysView}
 use Rattle.docket_rows.specs.declared.answer.Answer.TheVariants as answer
 use Rattle.docket_rows.specs.declared.command.Command.{Command}
 use Rattle.docket_rows.specs.declared.command.Command.TheVariants.{Start, FileAct, Extend, Motion, Book, MoveHearing, Cancel, Fact}
-use Rattle.docket_rows.specs.declared.fact.Fact.TheVariants.{Ended, Resumed, Closed, Reopened, Ruled, Assigned}
+use Rattle.docket_rows.specs.declared.fact.Fact.TheVariants.{Ended, Resumed, Closed, Reopened, Ruled, Assigned, Titled, Labelled}
 use Rattle.docket_rows.specs.declared.part.PartId.{PartId}
 use Rattle.docket_rows.specs.declared.part.PartId.TheVariants.{Court, Judge, Room, Case}
 use Rattle.docket_rows.specs.declared.part.PartValue.TheVariants as value
@@ -79,6 +79,8 @@ module _ (setup : CourtSetup) (p q : Parts) where
   made_rests (Fact case (Reopened dated)) n agree = refl
   made_rests (Fact case (Ruled motion how dated)) n agree = rw (case_read (Fact case (Ruled motion how dated)) n agree) refl
   made_rests (Fact case (Assigned judge referred dated)) n agree = refl
+  made_rests (Fact case Titled) n agree = refl
+  made_rests (Fact case (Labelled kind number)) n agree = refl
   made_rests _ n agree = refl
 
   pub answered_rests : (command : Command) → p.days.from ≡ q.days.from → p.days.to ≡ q.days.to → AgreeOn setup p q (wanted setup q command) → answered setup p command ≡ answered setup q command

@@ -1,13 +1,14 @@
--- What facts of cases come to: without them nothing is closed, ended, ruled on or assigned, a closed case ends its deadlines, and a
--- ruling leaves no later hearing.
+-- What facts of cases come to: without them nothing is closed, ended, ruled on or assigned, a closed case ends its deadlines, a ruling
+-- leaves no later hearing, and what something is called changes nothing.
 use Rattle.std.specs.Prelude.{◌≡◌, ℕ, ℤ, Bool, true, false, not, List, [], Some, None}
 use Rattle.std.specs.List.{list_all}
 use Rattle.docket_rows.specs.declared.command.Command.{Command}
 use Rattle.docket_rows.specs.declared.command.Command.TheVariants.{Fact}
 use Rattle.docket_rows.specs.declared.fact.Ending.TheVariants.{CaseClosed}
+use Rattle.docket_rows.specs.declared.fact.Fact.{Fact as FactOf}
 use Rattle.docket_rows.specs.declared.fact.Fact.TheVariants.{Ruled}
 use Rattle.docket_rows.specs.declared.fact.Ruling.{Ruling}
-use Rattle.docket_rows.specs.Words.{CourtSetup, Rows, DocketedDeadline, assigned_in, ending_in, facts_of, hearing_of, if_ahead, is_closed, parts_of, refusal, ruling_in, step}
+use Rattle.docket_rows.specs.Words.{CourtSetup, Rows, DocketedDeadline, assigned_in, ending_in, facts_of, hearing_of, if_ahead, is_closed, is_kept, parts_of, refusal, ruling_in, step}
 use Rattle.docket_laws.specs.Lawful.{deadline_on_sheet, docket_after}
 
 -- the command records a fact of a case
@@ -34,3 +35,7 @@ pub record RulingsLeaveNoLaterHearing : Type 0 where
   pub none_later : (setup : CourtSetup) (rows : Rows) (case motion : ℕ) (how : Ruling) (dated : ℤ) → refusal setup (parts_of rows) (Fact case (Ruled motion how dated)) ≡ None → if_ahead dated (hearing_of (step setup rows (Fact case (Ruled motion how dated))).0 case motion) ≡ None
   pub earlier_stays : (setup : CourtSetup) (rows : Rows) (case motion : ℕ) (how : Ruling) (dated : ℤ) → if_ahead dated (hearing_of rows case motion) ≡ None → (step setup rows (Fact case (Ruled motion how dated))).0.hearings ≡ rows.hearings
   pub others_stay : (setup : CourtSetup) (rows : Rows) (case motion : ℕ) (how : Ruling) (dated : ℤ) (n k : ℕ) → ((n ≡ case) × (k ≡ motion) → ⊥) → hearing_of (step setup rows (Fact case (Ruled motion how dated))).0 n k ≡ hearing_of rows n k
+
+-- What a case, a deadline or a motion is called changes nothing of the docket: no day, no hearing and no refusal depends on it.
+abbrev pub WhatIsCalledChangesNothing : Type 0
+WhatIsCalledChangesNothing = (setup : CourtSetup) (rows : Rows) (case : ℕ) (fact : FactOf) → is_kept fact ≡ false → (step setup rows (Fact case fact)).0 ≡ rows

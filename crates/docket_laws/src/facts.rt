@@ -1,6 +1,6 @@
 //! What facts of cases come to.
 
-ghost use Rattle.docket_laws.specs.Facts.{ClosedCasesEndTheirDeadlines, RulingsLeaveNoLaterHearing, WithoutFactsNothingIsEnded};
+ghost use Rattle.docket_laws.specs.Facts.{ClosedCasesEndTheirDeadlines, RulingsLeaveNoLaterHearing, WhatIsCalledChangesNothing, WithoutFactsNothingIsEnded};
 
 /// Commands that record no fact of a case leave none, and without facts no case is closed or assigned, no deadline is ended and no motion
 /// is ruled on. So a docket of the office's commands alone is as it was before there were facts.
@@ -17,4 +17,9 @@ pub fn closed_cases_end_their_deadlines()
 /// motions.
 pub fn rulings_leave_no_later_hearing()
     ensures { RulingsLeaveNoLaterHearing }
+{}
+
+/// What a case, a deadline or a motion is called changes nothing of the docket.
+pub fn what_is_called_changes_nothing()
+    ensures { WhatIsCalledChangesNothing }
 {}

@@ -1,5 +1,5 @@
 -- What the facts that are recorded of a case come to, and what each is about.
-use Rattle.std.specs.Prelude.{ℕ, ◌==◌, ℤ, int_lt, Bool, false, is_some, List, [], ◌∷◌, ◌++◌, codes, fold, Option, Some, None, if◌then◌else◌}
+use Rattle.std.specs.Prelude.{ℕ, ◌==◌, ℤ, int_lt, Bool, true, false, is_some, List, [], ◌∷◌, ◌++◌, codes, fold, Option, Some, None, if◌then◌else◌}
 use Rattle.std.specs.Option.{option_map_or}
 use Rattle.docket_rows.specs.declared.command.Counted.TheVariants.{Deadline, Motion}
 use Rattle.docket_rows.specs.declared.command.Subject.{Subject}
@@ -11,14 +11,29 @@ use Rattle.docket_rows.specs.declared.fact.DatedRuling.{DatedRuling}
 use Rattle.docket_rows.specs.declared.fact.Ending.{Ending}
 use Rattle.docket_rows.specs.declared.fact.Ending.TheVariants.{Moot, Vacated, Stayed, Suspended, Withdrawn, CaseClosed}
 use Rattle.docket_rows.specs.declared.fact.Fact.{Fact}
-use Rattle.docket_rows.specs.declared.fact.Fact.TheVariants.{Ended, Resumed, Closed, Reopened, Ruled, Assigned}
+use Rattle.docket_rows.specs.declared.fact.Fact.TheVariants.{Ended, Resumed, Closed, Reopened, Ruled, Assigned, Titled, Labelled}
 use Rattle.docket_rows.specs.declared.fact.Ruling.{Ruling}
 use Rattle.docket_rows.specs.declared.fact.Ruling.TheVariants as ruling
 use Rattle.docket_rows.specs.Cases.{CaseRecordView}
 
--- the case with one fact more
+-- A fact that its case keeps. What a case, a deadline or a motion is called is decided, and changes nothing of the docket: the text is
+-- kept outside of it, with the row that says it.
+abbrev pub is_kept : Fact → Bool
+is_kept (Ended deadline why dated) = true
+is_kept (Resumed deadline dated) = true
+is_kept (Closed why dated) = true
+is_kept (Reopened dated) = true
+is_kept (Ruled motion how dated) = true
+is_kept (Assigned judge referred dated) = true
+is_kept Titled = false
+is_kept (Labelled counted number) = false
+
+-- the case with one fact more, and the same if that is one that is kept
+abbrev pub keep_fact : Fact → CaseRecordView → CaseRecordView
+keep_fact fact c = record c { facts = c.facts ++ fact ∷ [] }
+
 abbrev pub add_fact : Fact → CaseRecordView → CaseRecordView
-add_fact fact c = record c { facts = c.facts ++ fact ∷ [] }
+add_fact fact c = if is_kept fact then keep_fact fact c else c
 
 -- how the case was closed and not reopened, after one fact more
 abbrev pub closed_then : Option Closure → Fact → Option Closure
@@ -28,6 +43,8 @@ closed_then before (Closed why dated) = Some (record { why = why; dated = dated 
 closed_then before (Reopened dated) = None
 closed_then before (Ruled motion how dated) = before
 closed_then before (Assigned judge referred dated) = before
+closed_then before Titled = before
+closed_then before (Labelled counted number) = before
 
 -- how the case was closed, if it was and wasn't reopened
 unfoldable pub closing_in : List Fact → Option Closure
@@ -41,6 +58,8 @@ ended_then number before (Closed why dated) = before
 ended_then number before (Reopened dated) = before
 ended_then number before (Ruled motion how dated) = before
 ended_then number before (Assigned judge referred dated) = before
+ended_then number before Titled = before
+ended_then number before (Labelled counted other) = before
 
 -- why the deadline of that number was ended, if it was and wasn't resumed
 abbrev pub ended_in : List Fact → (number : ℕ) → Option Ending
@@ -58,6 +77,8 @@ ruled_then number before (Closed why dated) = before
 ruled_then number before (Reopened dated) = before
 ruled_then number before (Ruled motion how dated) = if motion == number then Some (record { ruling = how; dated = dated }) else before
 ruled_then number before (Assigned judge referred dated) = before
+ruled_then number before Titled = before
+ruled_then number before (Labelled counted other) = before
 
 -- how the motion of that number was ruled on, if it was: the last ruling counts
 unfoldable pub ruling_in : List Fact → (number : ℕ) → Option DatedRuling
@@ -76,6 +97,8 @@ assigned_then before (Reopened dated) = before
 assigned_then before (Ruled motion how dated) = before
 assigned_then before (Assigned judge referred dated) =
     if is_assigned_after dated before then before else Some (record { judge = judge; referred = referred; dated = dated })
+assigned_then before Titled = before
+assigned_then before (Labelled counted number) = before
 
 -- who has the case, if it was assigned
 unfoldable pub assigned_in : List Fact → Option Assignment
@@ -116,6 +139,8 @@ fact_subject case (Closed why dated) = None
 fact_subject case (Reopened dated) = None
 fact_subject case (Ruled motion how dated) = Some (record { case = case; counted = Motion; number = motion })
 fact_subject case (Assigned judge referred dated) = None
+fact_subject case Titled = None
+fact_subject case (Labelled counted number) = Some (record { case = case; counted = counted; number = number })
 
 -- the same fact of the deadline or the motion of that number; one of neither stays as it is
 abbrev pub fact_naming : Fact → (number : ℕ) → Fact
@@ -125,3 +150,5 @@ fact_naming (Closed why dated) number = Closed why dated
 fact_naming (Reopened dated) number = Reopened dated
 fact_naming (Ruled motion how dated) number = Ruled number how dated
 fact_naming (Assigned judge referred dated) number = Assigned judge referred dated
+fact_naming Titled number = Titled
+fact_naming (Labelled counted other) number = Labelled counted number

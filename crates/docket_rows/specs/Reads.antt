@@ -5,7 +5,7 @@ use Rattle.std.specs.Option.{option_map_or}
 use Rattle.docket_rows.specs.declared.command.Command.{Command}
 use Rattle.docket_rows.specs.declared.command.Command.TheVariants.{OpenCase, Start, FileAct, Extend, Motion, Book, MoveHearing, Cancel, Holiday, Inaccessible, Fact}
 use Rattle.docket_rows.specs.declared.fact.Fact.{Fact as FactOf}
-use Rattle.docket_rows.specs.declared.fact.Fact.TheVariants.{Ended, Resumed, Closed, Reopened, Ruled, Assigned}
+use Rattle.docket_rows.specs.declared.fact.Fact.TheVariants.{Ended, Resumed, Closed, Reopened, Ruled, Assigned, Titled, Labelled}
 use Rattle.docket_rows.specs.declared.hearing.Hearing.{Hearing}
 use Rattle.docket_rows.specs.declared.part.PartId.{PartId}
 use Rattle.docket_rows.specs.declared.part.PartId.TheVariants.{Court, Judge, Room, Case}
@@ -32,6 +32,8 @@ calendars_taken setup parts case (Closed why dated) = []
 calendars_taken setup parts case (Reopened dated) = []
 calendars_taken setup parts case (Ruled motion how dated) = calendars_now setup parts case motion
 calendars_taken setup parts case (Assigned judge referred dated) = []
+calendars_taken setup parts case Titled = []
+calendars_taken setup parts case (Labelled counted number) = []
 
 -- the parts of a command about a case; none where there can be no such case
 abbrev pub about_case : (case : ℕ) → List PartId → List PartId

@@ -16,7 +16,9 @@ use Rattle.hearing_slots.specs.declared.need.Need.{Need}
 use Rattle.hearing_slots.specs.Words.{is_on}
 use Rattle.docket_rows.specs.declared.command.Command.{Command}
 use Rattle.docket_rows.specs.declared.command.Command.TheVariants.{OpenCase, Start, FileAct, Extend, Motion, Book, MoveHearing, Cancel, Holiday, Inaccessible, Fact}
-use Rattle.docket_rows.specs.declared.fact.Fact.TheVariants.{Ended, Resumed, Closed, Reopened, Ruled, Assigned}
+use Rattle.docket_rows.specs.declared.command.Counted.{Counted}
+use Rattle.docket_rows.specs.declared.command.Counted.TheVariants as counted
+use Rattle.docket_rows.specs.declared.fact.Fact.TheVariants.{Ended, Resumed, Closed, Reopened, Ruled, Assigned, Titled, Labelled}
 use Rattle.docket_rows.specs.declared.hearing.Setting.{Setting}
 use Rattle.docket_rows.specs.declared.query.Query.{Query}
 use Rattle.docket_rows.specs.declared.query.Query.TheVariants.{Sheet, JudgeDay, Compute}
@@ -150,6 +152,26 @@ assign_checks setup parts case judge referred dated =
     ∷ when (nat_le most_facts (length (facts_in parts case))) Full
     ∷ [])
 
+-- What cases, deadlines and motions are called: a text takes no room in the docket
+
+abbrev pub title_checks : Parts → (case : ℕ) → List (Option Refusal)
+title_checks parts case =
+    (when (not (has_case parts case)) NoSuchCase
+    ∷ when (is_closed parts case) CaseIsClosed
+    ∷ [])
+
+-- the case has no deadline, or no motion, of that number
+abbrev pub not_counted : Parts → (case : ℕ) → Counted → (number : ℕ) → Option Refusal
+not_counted parts case counted.Deadline number = when (is_none (deadline_in parts case number)) NoSuchDeadline
+not_counted parts case counted.Motion number = when (is_none (motion_in parts case number)) NoSuchMotion
+
+abbrev pub label_checks : Parts → (case : ℕ) → Counted → (number : ℕ) → List (Option Refusal)
+label_checks parts case kind number =
+    (when (not (has_case parts case)) NoSuchCase
+    ∷ when (is_closed parts case) CaseIsClosed
+    ∷ not_counted parts case kind number
+    ∷ [])
+
 -- Motions
 
 abbrev pub motion_checks : Parts → (case : ℕ) → (served : ℤ) → Need → List (Option Refusal)
@@ -259,6 +281,12 @@ rule_refusal parts case motion dated = first_of (rule_checks parts case motion d
 unfoldable pub assign_refusal : CourtSetup → Parts → (case judge : ℕ) → (referred : Option ℕ) → (dated : ℤ) → Option Refusal
 assign_refusal setup parts case judge referred dated = first_of (assign_checks setup parts case judge referred dated)
 
+unfoldable pub title_refusal : Parts → (case : ℕ) → Option Refusal
+title_refusal parts case = first_of (title_checks parts case)
+
+unfoldable pub label_refusal : Parts → (case : ℕ) → Counted → (number : ℕ) → Option Refusal
+label_refusal parts case kind number = first_of (label_checks parts case kind number)
+
 unfoldable pub motion_refusal : Parts → (case : ℕ) → (served : ℤ) → Need → Option Refusal
 motion_refusal parts case served need = first_of (motion_checks parts case served need)
 
@@ -294,6 +322,8 @@ refusal setup parts (Fact case (Closed why dated)) = close_refusal parts case da
 refusal setup parts (Fact case (Reopened dated)) = reopen_refusal parts case dated
 refusal setup parts (Fact case (Ruled motion how dated)) = rule_refusal parts case motion dated
 refusal setup parts (Fact case (Assigned judge referred dated)) = assign_refusal setup parts case judge referred dated
+refusal setup parts (Fact case Titled) = title_refusal parts case
+refusal setup parts (Fact case (Labelled kind number)) = label_refusal parts case kind number
 
 -- Queries
 

@@ -11,14 +11,15 @@ use Rattle.docket_rows.specs.declared.answer.Answer.TheVariants as answer
 use Rattle.docket_rows.specs.declared.command.Command.{Command}
 use Rattle.docket_rows.specs.declared.command.Command.TheVariants.{OpenCase, Start, FileAct, Extend, Motion, Book, MoveHearing, Cancel, Holiday, Inaccessible, Fact}
 use Rattle.docket_rows.specs.declared.fact.Fact.{Fact as FactOf}
-use Rattle.docket_rows.specs.declared.fact.Fact.TheVariants.{Ended, Resumed, Closed, Reopened, Ruled, Assigned}
+use Rattle.docket_rows.specs.declared.fact.Fact.TheVariants.{Ended, Resumed, Closed, Reopened, Ruled, Assigned, Titled, Labelled}
 use Rattle.docket_rows.specs.declared.hearing.Hearing.{Hearing}
 use Rattle.docket_rows.specs.declared.hearing.Setting.{Setting}
 use Rattle.docket_rows.specs.CourtSetup.{CourtSetup}
+use Rattle.docket_rows.specs.Facts.{is_kept}
 use Rattle.docket_rows.specs.Hearings.{hearing_asked}
 use Rattle.docket_rows.specs.Parts.{Parts, hearing_of, parts_of}
 use Rattle.docket_rows.specs.Refusals.{refusal}
-use Rattle.docket_rows.specs.Rows.{Rows, DocketedDeadline, DocketedHearing, is_deadline, is_hearing}
+use Rattle.docket_rows.specs.Rows.{Rows, DocketedDeadline, DocketedHearing, DocketedFact, is_deadline, is_hearing}
 use Rattle.docket_rows.specs.Seen.{has_one, deadline_in, hearing_ahead, if_ahead, next_deadline, next_motion, started, shown_now}
 
 -- the row with a change, if it is that deadline's
@@ -35,9 +36,13 @@ with_hearing s rows = record rows { hearings = rows.hearings ++ record { case = 
 abbrev pub without_hearing : (case motion : ℕ) → Rows → Rows
 without_hearing case motion rows = record rows { hearings = filter (λ h. not (is_hearing case motion h)) rows.hearings }
 
--- the rows with one more fact of a case
+-- the row of a fact of the case, if it is one that is kept
+abbrev pub fact_kept : (case : ℕ) → FactOf → List DocketedFact
+fact_kept case fact = if is_kept fact then record { case = case; fact = fact } ∷ [] else []
+
+-- the rows with one more fact of a case, if it is one that is kept
 abbrev pub with_fact : (case : ℕ) → FactOf → Rows → Rows
-with_fact case fact rows = record rows { facts = rows.facts ++ record { case = case; fact = fact } ∷ [] }
+with_fact case fact rows = record rows { facts = rows.facts ++ fact_kept case fact }
 
 -- the hearings without that of the motion, where it is after the day; one of that day or before stays
 abbrev pub hearings_until : (case motion : ℕ) → (day : ℤ) → Rows → List DocketedHearing
@@ -52,6 +57,8 @@ rows_by_fact case (Closed why dated) rows = rows
 rows_by_fact case (Reopened dated) rows = rows
 rows_by_fact case (Ruled motion how dated) rows = record rows { hearings = hearings_until case motion dated rows }
 rows_by_fact case (Assigned judge referred dated) rows = rows
+rows_by_fact case Titled rows = rows
+rows_by_fact case (Labelled counted number) rows = rows
 
 -- the rows after a command that isn't refused
 abbrev pub rows_after : Rows → Command → Rows
@@ -98,6 +105,8 @@ answer_if_made setup parts (Fact case (Reopened dated)) = answer.Reopened
 answer_if_made setup parts (Fact case (Ruled motion how dated)) =
     answer.Ruled (option_map (λ (h : Hearing). h.day) (hearing_ahead parts case motion dated))
 answer_if_made setup parts (Fact case (Assigned judge referred dated)) = answer.Assigned
+answer_if_made setup parts (Fact case Titled) = answer.Titled
+answer_if_made setup parts (Fact case (Labelled counted number)) = answer.Labelled
 
 -- what a command is answered where the parts are these
 unfoldable pub answered : CourtSetup → Parts → Command → Answer

@@ -7,7 +7,7 @@ use Rattle.docket_rows.specs.declared.command.Counted.TheVariants.{Deadline, Mot
 use Rattle.docket_rows.specs.declared.command.HearingOrder.{HearingOrder}
 use Rattle.docket_rows.specs.declared.command.Subject.{Subject}
 use Rattle.docket_rows.specs.declared.fact.Fact.{Fact as FactOf}
-use Rattle.docket_rows.specs.declared.fact.Fact.TheVariants.{Ended, Resumed, Closed, Reopened, Ruled, Assigned}
+use Rattle.docket_rows.specs.declared.fact.Fact.TheVariants.{Ended, Resumed, Closed, Reopened, Ruled, Assigned, Titled, Labelled}
 use Rattle.docket_rows.specs.Facts.{fact_naming, fact_subject}
 
 -- both are deadlines, or both are motions
@@ -45,6 +45,8 @@ fact_order case (Closed why dated) = None
 fact_order case (Reopened dated) = None
 fact_order case (Ruled motion how dated) = Some (record { case = case; motion = motion; setting = None; later_than = Some dated })
 fact_order case (Assigned judge referred dated) = None
+fact_order case Titled = None
+fact_order case (Labelled counted number) = None
 
 -- what a command does to the hearing of a motion: with a setting it sets the hearing so, and without one it takes the
 -- hearing off the calendar; none where the command is about no hearing

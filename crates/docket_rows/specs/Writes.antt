@@ -8,7 +8,7 @@ use Rattle.hearing_slots.specs.declared.booking.Booking.{Booking}
 use Rattle.docket_rows.specs.declared.command.Command.{Command}
 use Rattle.docket_rows.specs.declared.command.Command.TheVariants.{OpenCase, Start, FileAct, Extend, Motion, Book, MoveHearing, Cancel, Holiday, Inaccessible, Fact}
 use Rattle.docket_rows.specs.declared.fact.Fact.{Fact as FactOf}
-use Rattle.docket_rows.specs.declared.fact.Fact.TheVariants.{Ended, Resumed, Closed, Reopened, Ruled, Assigned}
+use Rattle.docket_rows.specs.declared.fact.Fact.TheVariants.{Ended, Resumed, Closed, Reopened, Ruled, Assigned, Titled, Labelled}
 use Rattle.docket_rows.specs.declared.hearing.Hearing.{Hearing}
 use Rattle.docket_rows.specs.declared.part.PartId.{PartId}
 use Rattle.docket_rows.specs.declared.part.PartId.TheVariants.{Court, Judge, Room, Case}
@@ -57,6 +57,8 @@ changed_by_fact (Closed why dated) c = c
 changed_by_fact (Reopened dated) c = c
 changed_by_fact (Ruled motion how dated) c = without_ahead motion dated c
 changed_by_fact (Assigned judge referred dated) c = c
+changed_by_fact Titled c = c
+changed_by_fact (Labelled counted number) c = c
 
 -- the days, where the command changes them
 abbrev pub days_written : DaysView → Command → Option DaysView

@@ -44,6 +44,10 @@ pub enum Answer {
     Ruled(Option<Day>),
     /// The case is assigned.
     Assigned,
+    /// The case has that title.
+    Titled,
+    /// The deadline or the motion has that label.
+    Labelled,
     /// The command is refused, and changes nothing.
     Refused(Refusal),
 }

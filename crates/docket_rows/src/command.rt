@@ -252,6 +252,12 @@ fn fact_subject(case: u32, fact: Fact) -> Option<Subject>
             number: motion,
         }),
         Fact::Assigned { .. } => None,
+        Fact::Titled => None,
+        Fact::Labelled { counted, number } => Some(Subject {
+            case,
+            counted,
+            number,
+        }),
     }
 }
 
@@ -269,5 +275,7 @@ fn fact_order(case: u32, fact: Fact) -> Option<HearingOrder>
             later_than: Some(dated),
         }),
         Fact::Assigned { .. } => None,
+        Fact::Titled => None,
+        Fact::Labelled { .. } => None,
     }
 }

@@ -1,8 +1,9 @@
 //! What is recorded of a case beside its deadlines, its motions and their hearings.
 
 ghost use Rattle.std.specs.Prelude.{◌≡◌};
-ghost use Rattle.docket_rows.specs.Facts.{assigned_in, assigned_then, closed_then, closing_in, closing_word, ended_in, ended_then, ending_in, ending_word, fact_naming, is_assigned_after, ruled_then, ruling_in, ruling_word};
+ghost use Rattle.docket_rows.specs.Facts.{assigned_in, assigned_then, closed_then, closing_in, closing_word, ended_in, ended_then, ending_in, ending_word, fact_naming, is_assigned_after, is_kept, ruled_then, ruling_in, ruling_word};
 
+use crate::command::Counted;
 use court_clock::Day;
 
 /// Why a deadline is due no more.
@@ -134,6 +135,15 @@ pub enum Fact {
         /// The day of the order or the paper that says so.
         dated: Day,
     },
+    /// The case has a title. The text is kept outside of the docket, with the row that says it.
+    Titled,
+    /// A deadline or a motion has a label. The text is kept outside of the docket, with the row that says it.
+    Labelled {
+        /// Which of the two it is.
+        counted: Counted,
+        /// Its number in the case.
+        number: u32,
+    },
 }
 
 impl Ending {
@@ -185,6 +195,22 @@ impl Ruling {
 }
 
 impl Fact {
+    /// Whether its case keeps it. What a case or a thing in it is called is decided, and changes nothing of the docket.
+    pub fn is_kept(&self) -> bool
+        ensures { result ≡ is_kept self.now }
+    {
+        match *self {
+            Fact::Ended { .. } => true,
+            Fact::Resumed { .. } => true,
+            Fact::Closed { .. } => true,
+            Fact::Reopened { .. } => true,
+            Fact::Ruled { .. } => true,
+            Fact::Assigned { .. } => true,
+            Fact::Titled => false,
+            Fact::Labelled { .. } => false,
+        }
+    }
+
     // The same fact of the deadline or the motion of that number. One of neither stays as it is.
     pub(crate) fn naming(&self, number: u32) -> Fact
         ensures { result ≡ fact_naming self.now number }
@@ -206,6 +232,8 @@ impl Fact {
                 dated,
             },
             Fact::Assigned { .. } => *self,
+            Fact::Titled => *self,
+            Fact::Labelled { counted, .. } => Fact::Labelled { counted, number },
         }
     }
 }
@@ -232,6 +260,8 @@ fn closed_then(before: Option<Closure>, fact: Fact) -> Option<Closure>
         Fact::Ended { .. } | Fact::Resumed { .. } => before,
         Fact::Ruled { .. } => before,
         Fact::Assigned { .. } => before,
+        Fact::Titled => before,
+        Fact::Labelled { .. } => before,
     }
 }
 
@@ -274,6 +304,8 @@ fn ended_then(number: u32, before: Option<Ending>, fact: Fact) -> Option<Ending>
         Fact::Closed { .. } | Fact::Reopened { .. } => before,
         Fact::Ruled { .. } => before,
         Fact::Assigned { .. } => before,
+        Fact::Titled => before,
+        Fact::Labelled { .. } => before,
     }
 }
 
@@ -309,6 +341,8 @@ fn ruled_then(number: u32, before: Option<DatedRuling>, fact: Fact) -> Option<Da
         Fact::Ended { .. } | Fact::Resumed { .. } => before,
         Fact::Closed { .. } | Fact::Reopened { .. } => before,
         Fact::Assigned { .. } => before,
+        Fact::Titled => before,
+        Fact::Labelled { .. } => before,
     }
 }
 
@@ -348,6 +382,8 @@ fn assigned_then(before: Option<Assignment>, fact: Fact) -> Option<Assignment>
         Fact::Ended { .. } | Fact::Resumed { .. } => before,
         Fact::Closed { .. } | Fact::Reopened { .. } => before,
         Fact::Ruled { .. } => before,
+        Fact::Titled => before,
+        Fact::Labelled { .. } => before,
     }
 }
 

@@ -3,7 +3,7 @@ use Rattle.std.specs.Prelude.{List, [], ℕ, ℤ, true, false, ◌++◌, codes, 
 use Rattle.std.specs.Fmt.{decimal}
 use Rattle.court_clock.specs.Words.{ClockView, day_text}
 use Rattle.docket_rows.specs.declared.answer.Answer.{Answer}
-use Rattle.docket_rows.specs.declared.answer.Answer.TheVariants.{Opened, Started, Filed, Extended, Reset, MotionEntered, Booked, Moved, Cancelled, HolidayEntered, OutageEntered, Ended, Resumed, Closed, Reopened, Ruled, Assigned, Refused}
+use Rattle.docket_rows.specs.declared.answer.Answer.TheVariants.{Opened, Started, Filed, Extended, Reset, MotionEntered, Booked, Moved, Cancelled, HolidayEntered, OutageEntered, Ended, Resumed, Closed, Reopened, Ruled, Assigned, Titled, Labelled, Refused}
 use Rattle.office_texts.specs.Refusals.{refusal_text}
 use Rattle.office_texts.specs.Shown.{shown_text}
 
@@ -30,5 +30,7 @@ answer_text clock Closed = codes "closed"
 answer_text clock Reopened = codes "reopened"
 answer_text clock (Ruled day) = codes "ruled" ++ off_text day
 answer_text clock Assigned = codes "assigned"
+answer_text clock Titled = codes "titled"
+answer_text clock Labelled = codes "labelled"
 answer_text clock (Resumed end) = codes "resumed " ++ shown_text clock end
 answer_text clock (Refused refusal) = codes "refused " ++ refusal_text refusal

@@ -52,6 +52,8 @@ pub fn push_answer(text: &mut String, clock: &Clock, answer: &Answer) -> Result<
             push_off(text, *day)
         }
         Answer::Assigned => text.push_str("assigned"),
+        Answer::Titled => text.push_str("titled"),
+        Answer::Labelled => text.push_str("labelled"),
         Answer::Resumed(shown) => {
             text.push_str("resumed ")?;
             push_shown(text, clock, shown)

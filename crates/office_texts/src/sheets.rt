@@ -12,8 +12,7 @@ use court_clock::Clock;
 use court_days::Court;
 pub use deadlines::{push_and_ended, push_deadline, push_ended};
 use docket_rows::{Assignment, Closure, Sheet, SheetDeadline, SheetMotion};
-use motions::push_motion;
-pub use motions::{push_and_ruled, push_hearing, push_ruled};
+pub use motions::{push_and_ruled, push_hearing, push_motion, push_ruled};
 use std::alloc::AllocError;
 use std::fmt::Write;
 

@@ -12,7 +12,7 @@ use Rattle.std.proofs.lemmas.Option.{slice_get-get_or}
 use Rattle.hearing_slots.proofs.CallerLemmas.{find-Some}
 use Rattle.docket_rows.specs.declared.command.Command.{Command}
 use Rattle.docket_rows.specs.declared.command.Command.TheVariants.{OpenCase, Start, FileAct, Extend, Motion, Book, MoveHearing, Cancel, Holiday, Inaccessible, Fact}
-use Rattle.docket_rows.specs.declared.fact.Fact.TheVariants.{Ended, Resumed, Closed, Reopened, Ruled, Assigned}
+use Rattle.docket_rows.specs.declared.fact.Fact.TheVariants.{Ended, Resumed, Closed, Reopened, Ruled, Assigned, Titled, Labelled}
 use Rattle.docket_rows.specs.declared.hearing.Hearing.{Hearing}
 use Rattle.docket_rows.specs.declared.part.PartId.{PartId}
 use Rattle.docket_rows.specs.declared.part.PartId.TheVariants.{Court, Judge, Room, Case}
@@ -129,6 +129,8 @@ module _ (setup : CourtSetup) (small : IsSmall setup) where
       let now = calendars_now setup parts case motion in
       about_has case (Court ∷ now) (court_and now (now_have parts case motion))
   wanted_have parts (Fact case (Assigned judge referred dated)) = about_has case (Court ∷ []) (court_and [] (All-nil HasCell))
+  wanted_have parts (Fact case Titled) = about_has case (Court ∷ []) (court_and [] (All-nil HasCell))
+  wanted_have parts (Fact case (Labelled counted number)) = about_has case (Court ∷ []) (court_and [] (All-nil HasCell))
 
   next_has : (command : Command) (reads : List (PartId × PartValue)) (part : PartId) → next_part setup command reads ≡ Some part → HasCell part
   unfolding next_part

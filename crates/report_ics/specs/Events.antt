@@ -2,7 +2,6 @@
 use Rattle.std.specs.Prelude.{ℕ, ◌+◌, ℤ, pos, ◌+ℤ◌, Bool, true, false, List, [], ◌∷◌, ◌++◌, Option, Some, None, codes}
 use Rattle.std.specs.Fmt.{decimal}
 use Rattle.case_numbers.specs.Words.{case_text}
-use Rattle.case_numbers.specs.declared.names.NamedCase.{NamedCase}
 use Rattle.court_clock.specs.Words.{ClockView, day_text}
 use Rattle.court_days.specs.Words.{CourtView}
 use Rattle.rule6.specs.declared.timeliness.Act.TheVariants.{Filing, Service}
@@ -27,7 +26,7 @@ use Rattle.content_lines.specs.Words.{date_digits, property, utc_text}
 use Rattle.office_texts.specs.Words.{and_ended_text, name_of}
 use Rattle.reason_texts.specs.Periods.Words.{event_words, rule_section, rule_words}
 use Rattle.reason_texts.specs.Words.{minute_time, second_time}
-use Rattle.report_texts.specs.Words.{given_words, matter_words, period_words}
+use Rattle.report_texts.specs.Words.{LabelsView, called_after, counted_in, given_words, matter_words, period_words}
 use Rattle.report_ics.specs.declared.appointment.Appointment.{Appointment}
 use Rattle.report_ics.specs.Times.{slot_begins, utc_if_any}
 
@@ -120,9 +119,12 @@ abbrev pub name_words : CourtView → (number : ℕ) → Matter → List ℕ
 name_words court number (Deadline d) = deadline_name number d
 name_words court number (Hearing h) = matter_words court number (Hearing h)
 
--- `Case 1 motion 1: hearing before Ames+Brandt, room R1`; a case that has a name is called by it
-unfoldable pub summary : CourtView → List NamedCase → Appointment → List ℕ
-summary court named a = off_words a.cancelled a.item.matter ++ codes "Case " ++ case_text named a.item.case ++ name_words court a.item.number a.item.matter
+-- `Case 1 motion 1: hearing before Ames+Brandt, room R1 (Doe v. Acme)`; a case that has a name is called by it, and what rows call the
+-- case and the deadline or the motion comes last
+unfoldable pub summary : CourtView → LabelsView → Appointment → List ℕ
+summary court labels a =
+    off_words a.cancelled a.item.matter ++ codes "Case " ++ case_text labels.cases a.item.case ++ name_words court a.item.number a.item.matter
+    ++ called_after labels a.item.case (counted_in a.item.matter) a.item.number
 
 -- the room of a hearing
 abbrev pub place_lines : CourtView → Matter → List (List ℕ)
@@ -207,18 +209,18 @@ abbrev pub description : ClockView → (second : ℕ) → Matter → List ℕ
 description clock second (Deadline d) = deadline_words clock second d
 description clock second (Hearing h) = hearing_words h
 
-unfoldable pub word_lines : CourtView → List NamedCase → Appointment → List (List ℕ)
-word_lines court named a =
-    property (codes "SUMMARY") (summary court named a)
+unfoldable pub word_lines : CourtView → LabelsView → Appointment → List (List ℕ)
+word_lines court labels a =
+    property (codes "SUMMARY") (summary court labels a)
     ∷ place_lines court a.item.matter
     ++ property (codes "DESCRIPTION") (description court.clock a.item.second a.item.matter) ∷ []
 
 -- the lines of an event
-unfoldable pub event_lines : CourtView → List NamedCase → (stamp : ℤ) → Appointment → List (List ℕ)
-event_lines court named stamp a =
+unfoldable pub event_lines : CourtView → LabelsView → (stamp : ℤ) → Appointment → List (List ℕ)
+event_lines court labels stamp a =
     begin_lines stamp a.item
     ++ sequence_lines a.revision
     ++ status_lines a.cancelled
     ++ time_lines court.clock a.item.day a.item.matter
-    ++ word_lines court named a
+    ++ word_lines court labels a
     ++ property (codes "END") (codes "VEVENT") ∷ []

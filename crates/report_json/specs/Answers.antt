@@ -9,7 +9,7 @@ use Rattle.court_days.specs.Words.{CourtView}
 use Rattle.rule6.specs.declared.timeliness.Shown.{Shown}
 use Rattle.hearing_slots.specs.declared.booking.Booking.{Booking}
 use Rattle.docket_rows.specs.declared.answer.Answer.{Answer}
-use Rattle.docket_rows.specs.declared.answer.Answer.TheVariants.{Opened, Started, Filed, Extended, Reset, MotionEntered, Booked, Moved, Cancelled, HolidayEntered, OutageEntered, Ended, Resumed, Closed, Reopened, Ruled, Assigned, Refused}
+use Rattle.docket_rows.specs.declared.answer.Answer.TheVariants.{Opened, Started, Filed, Extended, Reset, MotionEntered, Booked, Moved, Cancelled, HolidayEntered, OutageEntered, Ended, Resumed, Closed, Reopened, Ruled, Assigned, Titled, Labelled, Refused}
 use Rattle.docket_rows.specs.declared.refusal.Refusal.{Refusal}
 use Rattle.docket_rows.specs.declared.refusal.Refusal.TheVariants.{ShortNotice, JudgeBusy, RoomBusy, HearingThatDay, NoticeLost, HearingAhead}
 use Rattle.docket_rows.specs.declared.view.View.{View}
@@ -95,6 +95,8 @@ answer_fields zone named Closed = kind (codes "closed") ∷ []
 answer_fields zone named Reopened = kind (codes "reopened") ∷ []
 answer_fields zone named (Ruled off) = kind (codes "ruled") ∷ field (codes "hearing_cancelled") (or_null day_value off) ∷ []
 answer_fields zone named Assigned = kind (codes "assigned") ∷ []
+answer_fields zone named Titled = kind (codes "titled") ∷ []
+answer_fields zone named Labelled = kind (codes "labelled") ∷ []
 answer_fields zone named (Resumed end) = kind (codes "resumed") ∷ shown_fields zone end
 answer_fields zone named (Refused refusal) = refused_fields named refusal
 

@@ -4,10 +4,14 @@ use Rattle.json.specs.Json.{Json, string}
 use Rattle.court_days.specs.Words.{CourtView}
 use Rattle.hearing_slots.specs.declared.need.Need.{Need}
 use Rattle.hearing_slots.specs.declared.need.Need.TheVariants as need
+use Rattle.docket_rows.specs.declared.command.Counted.TheVariants.{Motion}
 use Rattle.docket_rows.specs.declared.fact.DatedRuling.{DatedRuling}
 use Rattle.docket_rows.specs.declared.sheet.SheetHearing.{SheetHearing}
 use Rattle.docket_rows.specs.declared.sheet.SheetMotion.{SheetMotion}
 use Rattle.docket_rows.specs.Words.{ruling_word}
+use Rattle.desk_numbers.specs.Words.{label_of}
+use Rattle.report_texts.specs.Words.{LabelsView}
+use Rattle.report_json.specs.Cases.{label_fields}
 use Rattle.report_json.specs.Names.{name_value}
 use Rattle.report_json.specs.Times.{day_value, span_fields}
 use Rattle.report_json.specs.Values.{Field, array_of, amount, field, object_of, or_null}
@@ -49,3 +53,10 @@ motion_fields court m = heard_fields court m ++ ruling_fields m.ruling
 
 unfoldable pub motion_value : CourtView → SheetMotion → Json
 motion_value court m = object_of (motion_fields court m)
+
+-- a motion of a case, and what rows call it
+abbrev pub labelled_motion_fields : CourtView → LabelsView → (case : ℕ) → SheetMotion → List Field
+labelled_motion_fields court labels case m = motion_fields court m ++ label_fields (label_of labels.called case Motion m.number)
+
+unfoldable pub labelled_motion : CourtView → LabelsView → (case : ℕ) → SheetMotion → Json
+labelled_motion court labels case m = object_of (labelled_motion_fields court labels case m)

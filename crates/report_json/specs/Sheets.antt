@@ -1,12 +1,11 @@
 -- The sheets of cases.
-use Rattle.std.specs.Prelude.{ℕ, ℤ, List, [], ◌∷◌, ◌++◌, Option, Some, None, map, codes}
+use Rattle.std.specs.Prelude.{ℤ, List, [], ◌∷◌, ◌++◌, Option, Some, None, map, codes}
 use Rattle.json.specs.Json.{Json, string}
 use Rattle.case_numbers.specs.declared.names.NamedCase.{NamedCase}
 use Rattle.court_days.specs.Words.{CourtView}
 use Rattle.docket_rows.specs.declared.fact.Assignment.{Assignment}
 use Rattle.docket_rows.specs.declared.fact.Closure.{Closure}
 use Rattle.docket_rows.specs.declared.sheet.Sheet.{Sheet}
-use Rattle.docket_rows.specs.declared.sheet.SheetMotion.{SheetMotion}
 use Rattle.docket_rows.specs.Words.{closing_word}
 use Rattle.report_json.specs.Cases.{case_fields}
 use Rattle.report_json.specs.Deadlines.{deadline_value}
@@ -33,24 +32,21 @@ assigned_fields court None = []
 unfoldable pub standing_fields : CourtView → Option Closure → Option Assignment → List Field
 standing_fields court closed assigned = closed_fields closed ++ assigned_fields court assigned
 
--- each of its deadlines, which have these values, and each of its motions, in order
-unfoldable pub lists_docketed : {D : Type 0} → (D → Json) → CourtView → List D → List SheetMotion → List Field
-lists_docketed value court deadlines motions =
-    field (codes "deadlines") (array_of (map value deadlines))
-    ∷ field (codes "motions") (array_of (map (motion_value court) motions))
+-- each of its deadlines and each of its motions, in order, which have these values
+unfoldable pub lists_docketed : {D M : Type 0} → (D → Json) → (M → Json) → List D → List M → List Field
+lists_docketed deadline motion deadlines motions =
+    field (codes "deadlines") (array_of (map deadline deadlines))
+    ∷ field (codes "motions") (array_of (map motion motions))
     ∷ []
 
 -- when a case was filed, how it stands, its deadlines and its motions
-unfoldable pub sheet_docketed : {D : Type 0} → (D → Json) → CourtView → (filed : ℤ) → Option Closure → Option Assignment → List D → List SheetMotion → List Field
-sheet_docketed value court filed closed assigned deadlines motions =
-    field (codes "filed") (day_value filed) ∷ standing_fields court closed assigned ++ lists_docketed value court deadlines motions
+unfoldable pub sheet_docketed : {D M : Type 0} → (D → Json) → (M → Json) → CourtView → (filed : ℤ) → Option Closure → Option Assignment → List D → List M → List Field
+sheet_docketed deadline motion court filed closed assigned deadlines motions =
+    field (codes "filed") (day_value filed) ∷ standing_fields court closed assigned ++ lists_docketed deadline motion deadlines motions
 
 -- a case: its number, its name where it has one, and what is docketed in it
-abbrev pub sheet_with : {D : Type 0} → (D → Json) → CourtView → List NamedCase → (case : ℕ) → (filed : ℤ) → Option Closure → Option Assignment → List D → List SheetMotion → List Field
-sheet_with value court named case filed closed assigned deadlines motions = case_fields named case ++ sheet_docketed value court filed closed assigned deadlines motions
-
 abbrev pub sheet_fields : CourtView → List NamedCase → Sheet → List Field
-sheet_fields court named s = sheet_with (deadline_value court.clock.zone) court named s.case s.filed s.closed s.assigned s.deadlines s.motions
+sheet_fields court named s = case_fields named s.case ++ sheet_docketed (deadline_value court.clock.zone) (motion_value court) court s.filed s.closed s.assigned s.deadlines s.motions
 
 unfoldable pub sheet_value : CourtView → List NamedCase → Sheet → Json
 sheet_value court named s = object_of (sheet_fields court named s)

@@ -132,6 +132,8 @@ fn push_answer(
             out.field(court, labels, "hearing_cancelled", off)
         }
         Answer::Assigned => push_kind(out, "assigned"),
+        Answer::Titled => push_kind(out, "titled"),
+        Answer::Labelled => push_kind(out, "labelled"),
         Answer::Resumed(shown) => {
             push_kind(out, "resumed")?;
             shown.write_fields(out, court, labels)

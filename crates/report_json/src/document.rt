@@ -23,8 +23,9 @@ use row_forms::NumberedRow;
 use std::alloc::{AllocError, Global};
 
 /// One line of JSON: an object with the court, what each row was answered, by its number, the sheets of the chosen cases with the reasons
-/// of each deadline, and the calendars of the chosen judges after the last row. The name of a case is beside its number. Deadlines and
-/// motions have their numbers, while rows name them by their places. `Err` says that memory ran out.
+/// of each deadline, and the calendars of the chosen judges after the last row. The name of a case is beside its number, and in sheets
+/// and calendars so is what rows call it, its deadlines and its motions. Deadlines and motions have their numbers, while rows name
+/// them by their places. `Err` says that memory ran out.
 pub fn json_text(
     alloc: Global,
     court: &Court,
@@ -74,7 +75,7 @@ fn push_document_fields(
     push_court(out, court, labels)?;
     push_answers(alloc, out, court, labels, &mut docket, rows)?;
     let sheets = explained_selection(alloc, court, &docket, labels, choice)?;
-    out.list_field(court, labels, "cases", &sheets)?;
+    out.called_field(court, labels, 0, "cases", &sheets)?;
     push_calendars(alloc, out, court, labels, &docket, choice)?;
     Ok(sheets)
 }
@@ -196,5 +197,5 @@ fn push_calendars(
     ensures { (docketed : Rows) → StandsFor docket.now docketed → OnOk result (AddsFields out.old out.new (calendars_field court.now labels.now choice.now docketed ∷ [])) }
 {
     let calendars = numbered_calendars(alloc, court, docket, labels, choice)?;
-    out.list_field(court, labels, "calendars", &calendars)
+    out.called_field(court, labels, 0, "calendars", &calendars)
 }

@@ -1,15 +1,16 @@
 //! Motions, with their hearings.
 
 ghost use Rattle.std.specs.Prelude.{[], ◌∷◌, OnOk, codes};
-ghost use Rattle.report_json.specs.Motions.{heard_fields, hearing_value, notice_days_of, ruling_fields};
+ghost use Rattle.report_json.specs.Motions.{heard_fields, hearing_value, labelled_motion_fields, notice_days_of, ruling_fields};
 ghost use Rattle.report_json.specs.Values.{AddsFields, amount, field, or_null};
 
+use crate::called::ToCalled;
 use crate::names::push_panel;
 use crate::spans::push_span;
 use crate::to_json::{ToFields, ToJson};
 use crate::writer::JsonWriter;
 use court_days::Court;
-use docket_rows::{DatedRuling, SheetHearing, SheetMotion};
+use docket_rows::{Counted, DatedRuling, SheetHearing, SheetMotion};
 use hearing_slots::Need;
 use report_texts::Labels;
 use std::alloc::AllocError;
@@ -95,6 +96,40 @@ impl ToJson for SheetMotion {
         labels: &Labels<'_>,
     ) -> Result<(), AllocError> {
         out.object(court, labels, self)
+    }
+}
+
+/// Writes a motion of a case, and what rows call it.
+#[tactic(auto, using(crate::proofs::TokenLemmas::more_fields))]
+fn push_labelled(
+    out: &mut JsonWriter,
+    court: &Court,
+    labels: &Labels<'_>,
+    case: u32,
+    motion: &SheetMotion,
+) -> Result<(), AllocError>
+    ensures { OnOk result (AddsFields out.old out.new (labelled_motion_fields court.now labels.now case motion.now)) }
+{
+    motion.write_fields(out, court, labels)?;
+    out.label_if_any(labels.called.label_of(case, Counted::Motion, motion.number))
+}
+
+impl ToCalled for SheetMotion {
+    ghost use Rattle.report_json.specs.Motions.{labelled_motion};
+
+    ghost value = { λ court labels case motion. labelled_motion court labels case motion };
+
+    #[tactic(auto, unfolding(crate::specs::Motions::labelled_motion), using(crate::proofs::TokenLemmas::object_is))]
+    fn write_called(
+        &self,
+        out: &mut JsonWriter,
+        court: &Court,
+        labels: &Labels<'_>,
+        case: u32,
+    ) -> Result<(), AllocError> {
+        out.begin_object()?;
+        push_labelled(out, court, labels, case, self)?;
+        out.end_object()
     }
 }
 

@@ -1,8 +1,10 @@
 //! The sheets of cases.
 
 ghost use Rattle.std.specs.Prelude.{[], ◌∷◌, OnOk, codes};
+ghost use Rattle.report_json.specs.Deadlines.{deadline_value};
+ghost use Rattle.report_json.specs.Motions.{motion_value};
 ghost use Rattle.report_json.specs.Names.{name_value};
-ghost use Rattle.report_json.specs.Sheets.{assigned_fields, closed_fields, lists_docketed, sheet_docketed, sheet_with, standing_fields};
+ghost use Rattle.report_json.specs.Sheets.{assigned_fields, closed_fields, lists_docketed, sheet_docketed, standing_fields};
 ghost use Rattle.report_json.specs.Values.{AddsFields, field, or_null};
 
 use crate::names::push_name;
@@ -10,44 +12,23 @@ use crate::to_json::{ToFields, ToJson};
 use crate::writer::JsonWriter;
 use court_clock::Day;
 use court_days::Court;
-use docket_rows::{Assignment, Closure, Sheet, SheetMotion};
+use docket_rows::{Assignment, Closure, Sheet, SheetDeadline, SheetMotion};
 use report_texts::Labels;
 use std::alloc::AllocError;
 
-/// Writes a case, with its deadlines and its motions.
-#[tactic(auto, using(crate::proofs::TokenLemmas::more_fields))]
-pub(crate) fn push_sheet<D: ToJson>(
-    out: &mut JsonWriter,
-    court: &Court,
-    labels: &Labels<'_>,
-    case: u32,
-    filed: Day,
-    closed: Option<Closure>,
-    assigned: Option<Assignment>,
-    deadlines: &[D],
-    motions: &[SheetMotion],
-) -> Result<(), AllocError>
-    ensures { OnOk result (AddsFields out.old out.new (sheet_with (D.value court.now labels.now.cases) court.now labels.now.cases case filed closed assigned deadlines.now motions.now)) }
-{
-    out.case_fields(court, labels, case)?;
-    push_docketed(
-        out, court, labels, filed, closed, assigned, deadlines, motions,
-    )
-}
-
 /// Writes when a case was filed, how it stands, its deadlines and its motions.
 #[tactic(auto, unfolding(crate::specs::Sheets::sheet_docketed), using(crate::proofs::TokenLemmas::more_fields))]
-fn push_docketed<D: ToJson>(
+fn push_docketed(
     out: &mut JsonWriter,
     court: &Court,
     labels: &Labels<'_>,
     filed: Day,
     closed: Option<Closure>,
     assigned: Option<Assignment>,
-    deadlines: &[D],
+    deadlines: &[SheetDeadline],
     motions: &[SheetMotion],
 ) -> Result<(), AllocError>
-    ensures { OnOk result (AddsFields out.old out.new (sheet_docketed (D.value court.now labels.now.cases) court.now filed closed assigned deadlines.now motions.now)) }
+    ensures { OnOk result (AddsFields out.old out.new (sheet_docketed (deadline_value court.now.clock.zone) (motion_value court.now) court.now filed closed assigned deadlines.now motions.now)) }
 {
     out.field(court, labels, "filed", &filed)?;
     push_standing(out, court, labels, closed, assigned)?;
@@ -56,7 +37,7 @@ fn push_docketed<D: ToJson>(
 
 /// Writes how a case stands: how it was closed, and who has it.
 #[tactic(auto, unfolding(crate::specs::Sheets::standing_fields), using(crate::proofs::TokenLemmas::more_fields))]
-fn push_standing(
+pub(crate) fn push_standing(
     out: &mut JsonWriter,
     court: &Court,
     labels: &Labels<'_>,
@@ -124,14 +105,14 @@ fn push_referred(
 
 /// Writes the deadlines of a case and its motions.
 #[tactic(auto, unfolding(crate::specs::Sheets::lists_docketed))]
-fn push_lists<D: ToJson>(
+fn push_lists(
     out: &mut JsonWriter,
     court: &Court,
     labels: &Labels<'_>,
-    deadlines: &[D],
+    deadlines: &[SheetDeadline],
     motions: &[SheetMotion],
 ) -> Result<(), AllocError>
-    ensures { OnOk result (AddsFields out.old out.new (lists_docketed (D.value court.now labels.now.cases) court.now deadlines.now motions.now)) }
+    ensures { OnOk result (AddsFields out.old out.new (lists_docketed (deadline_value court.now.clock.zone) (motion_value court.now) deadlines.now motions.now)) }
 {
     out.list_field(court, labels, "deadlines", deadlines)?;
     out.list_field(court, labels, "motions", motions)
@@ -142,17 +123,18 @@ impl ToFields for Sheet {
 
     ghost fields = { sheet_fields };
 
+    #[tactic(auto, using(crate::proofs::TokenLemmas::more_fields))]
     fn write_fields(
         &self,
         out: &mut JsonWriter,
         court: &Court,
         labels: &Labels<'_>,
     ) -> Result<(), AllocError> {
-        push_sheet(
+        out.case_fields(court, labels, self.case)?;
+        push_docketed(
             out,
             court,
             labels,
-            self.case,
             self.filed,
             self.closed,
             self.assigned,

@@ -39,6 +39,8 @@ made_same setup docketed (command.Fact case (fact.Closed why dated)) None is non
 made_same setup docketed (command.Fact case (fact.Reopened dated)) None is none = rw is refl
 made_same setup docketed (command.Fact case (fact.Ruled motion how dated)) None is none = rw is refl
 made_same setup docketed (command.Fact case (fact.Assigned judge referred dated)) None is none = rw is refl
+made_same setup docketed (command.Fact case fact.Titled) None is none = rw is refl
+made_same setup docketed (command.Fact case (fact.Labelled counted number)) None is none = rw is refl
 
 same_days : (setup : CourtSetup) (docketed : Rows) (work : Work) → changes_days (reply_to setup docketed work) ≡ false → (docketed_then setup docketed work).days ≡ docketed.days
 unfolding step

@@ -21,7 +21,7 @@ use Rattle.reason_notes.specs.Margins.Words.{ahead_line, recorded_lines}
 use Rattle.reason_notes.specs.Warnings.Words.{deadline_notes, hearing_notes}
 use Rattle.report_memo.specs.declared.detail.Detail.{Detail}
 use Rattle.report_memo.specs.declared.detail.Detail.TheVariants.{Reasons, Whole}
-use Rattle.report_texts.specs.Words.{LabelsView}
+use Rattle.report_texts.specs.Words.{LabelsView, case_lines, labelled_deadline, labelled_motion}
 use Rattle.report_memo.specs.Reasons.{AreReasons}
 use Rattle.report_memo.specs.Sources.{source_lines}
 use Rattle.report_memo.specs.Texts.{Each, Is, Then}
@@ -31,13 +31,20 @@ abbrev pub ahead_if_pending : ClockView → (today : Option ℤ) → State → O
 ahead_if_pending clock (Some today) Pending None shown = ahead_line clock today shown
 ahead_if_pending clock today state ended shown = []
 
--- what comes before the reasons of a deadline: its line, and on the whole sheet of a case the rows that made it what it is
-abbrev pub source_lines_if : Detail → (number : ℕ) → List ℕ
-source_lines_if Reasons number = []
-source_lines_if (Whole today sources) number = source_lines number sources
+-- the line of a case, and that of who has it
+unfoldable pub standing_lines : CourtView → List NamedCase → Sheet → List ℕ
+standing_lines court named sheet = named_case_line named sheet ++ assigned_line court.judges sheet.assigned
 
-abbrev pub first_lines : ClockView → Detail → SheetDeadline → List ℕ
-first_lines clock detail d = deadline_line clock d ++ source_lines_if detail d.number
+-- these, and on the whole sheet of the case that of its title between them
+abbrev pub lines_of_case : CourtView → LabelsView → Detail → Sheet → List ℕ
+lines_of_case court labels Reasons sheet = standing_lines court labels.cases sheet
+lines_of_case court labels (Whole today sources) sheet = case_lines court labels sheet
+
+-- what comes before the reasons of a deadline: its line, and on the whole sheet of a case that of its label and the rows that made it
+-- what it is
+abbrev pub first_lines : ClockView → LabelsView → (case : ℕ) → Detail → SheetDeadline → List ℕ
+first_lines clock labels case Reasons d = deadline_line clock d
+first_lines clock labels case (Whole today sources) d = labelled_deadline clock labels case d ++ source_lines d.number sources
 
 -- what comes after them on that of a case that was filed on that day: the act that is recorded and by how much it was in time
 -- or late, how far the end lies from a day, and what a reader is warned of
@@ -50,9 +57,9 @@ more_lines court days filed Reasons d = []
 more_lines court days filed (Whole today sources) d = whole_lines court days filed today d
 
 -- the line of a deadline, its reasons, and what comes before and after them
-abbrev pub IsDeadline : CourtView → LabelsView → DaysByReadingView → (filed : ℤ) → Detail → SheetDeadline → List ℕ → Type 0
-IsDeadline court labels days filed detail d =
-    Then (Is (first_lines court.clock detail d)) (Then (AreReasons court labels days d.row) (Is (more_lines court days.here filed detail d)))
+abbrev pub IsDeadline : CourtView → LabelsView → DaysByReadingView → (case : ℕ) → (filed : ℤ) → Detail → SheetDeadline → List ℕ → Type 0
+IsDeadline court labels days case filed detail d =
+    Then (Is (first_lines court.clock labels case detail d)) (Then (AreReasons court labels days d.row) (Is (more_lines court days.here filed detail d)))
 
 -- what a reader is warned of a hearing, where one is set
 abbrev pub notes_if_set : DaysView → Option SheetHearing → List ℕ
@@ -60,21 +67,17 @@ notes_if_set days (Some h) = hearing_notes days h.hearing.day
 notes_if_set days None = []
 
 -- a motion on the whole sheet of a case
-abbrev pub whole_motion : CourtView → DaysView → SheetMotion → List ℕ
-whole_motion court days m = motion_lines court m ++ notes_if_set days m.hearing
+abbrev pub whole_motion : CourtView → LabelsView → (case : ℕ) → DaysView → SheetMotion → List ℕ
+whole_motion court labels case days m = labelled_motion court labels case m ++ notes_if_set days m.hearing
 
-abbrev pub motions_text : CourtView → DaysView → Detail → List SheetMotion → List ℕ
-motions_text court days Reasons motions = flat_map (motion_lines court) motions
-motions_text court days (Whole today sources) motions = flat_map (whole_motion court days) motions
-
--- the line of the case, and then that of who has it
-unfoldable pub case_lines : CourtView → List NamedCase → Sheet → List ℕ
-case_lines court named sheet = named_case_line named sheet ++ assigned_line court.judges sheet.assigned
+abbrev pub motions_text : CourtView → LabelsView → (case : ℕ) → DaysView → Detail → List SheetMotion → List ℕ
+motions_text court labels case days Reasons motions = flat_map (motion_lines court) motions
+motions_text court labels case days (Whole today sources) motions = flat_map (whole_motion court labels case days) motions
 
 -- the lines of the case, then its deadlines, each with its reasons, then its motions
 abbrev pub IsSheet : CourtView → LabelsView → DaysByReadingView → Detail → Sheet → List ℕ → Type 0
 IsSheet court labels days detail sheet =
-    Then (Is (case_lines court labels.cases sheet)) (Then (Each (IsDeadline court labels days sheet.filed detail) sheet.deadlines) (Is (motions_text court days.here detail sheet.motions)))
+    Then (Is (lines_of_case court labels detail sheet)) (Then (Each (IsDeadline court labels days sheet.case sheet.filed detail) sheet.deadlines) (Is (motions_text court labels sheet.case days.here detail sheet.motions)))
 
 -- a case that isn't open shows none
 abbrev pub IsSheetShown : CourtView → LabelsView → DaysByReadingView → View → List ℕ → Type 0

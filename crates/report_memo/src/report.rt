@@ -17,7 +17,7 @@ use crate::page::page_of;
 use case_numbers::Cases;
 use court_clock::Day;
 use court_days::Court;
-use desk_numbers::MovedNumbers;
+use desk_numbers::{CalledTexts, MovedNumbers};
 use office_texts::{CaseCalled, number_called, push_called};
 use program_runs::{CheckedInput, Finding, Report};
 use report_texts::{Labels, holiday_names};
@@ -26,8 +26,8 @@ use std::alloc::{AllocError, Global};
 use std::sync::Wait;
 use std::thread::Threads;
 
-/// The memo of an input: no case has a name, what is counted in a case has its place as its number, and rows are numbered from 1.
-/// Nobody knows on which day it is made but the day that is asked for.
+/// The memo of an input: no case has a name, what is counted in a case has its place as its number, no row calls anything so, and
+/// rows are numbered from 1. Nobody knows on which day it is made but the day that is asked for.
 impl Report for Asked {
     ghost use Rattle.std.specs.Prelude.{[]};
     ghost use Rattle.report_memo.specs.Answer.{IsAnswerOf, IsMissingOf};
@@ -39,9 +39,9 @@ impl Report for Asked {
     // The rows are one history, whoever gave them.
     ghost clerk_count = { λ asked. 64 };
 
-    ghost is_text = { λ asked file. IsAnswerOf asked (head_of file [] asked.case asked.today) (labels_of file [] []) };
+    ghost is_text = { λ asked file. IsAnswerOf asked (head_of file [] asked.case asked.today) (labels_of file [] [] []) };
 
-    ghost is_missing = { λ asked file. IsMissingOf asked (labels_of file [] []) };
+    ghost is_missing = { λ asked file. IsMissingOf asked (labels_of file [] [] []) };
 
     fn clerks(&self) -> u8 {
         64
@@ -61,6 +61,7 @@ impl Report for Asked {
         let rows = numbered_rows(alloc, checked.rows.as_slice())?;
         let cases = Cases::new(alloc);
         let moved = MovedNumbers::new(alloc);
+        let called = CalledTexts::new(alloc);
         memo_of(
             alloc,
             self,
@@ -69,16 +70,17 @@ impl Report for Asked {
             &checked.court,
             &cases,
             &moved,
+            &called,
             rows.as_slice(),
         )
     }
 }
 
-/// What is asked for of these rows in a court whose file has these bytes, where cases have these names, and deadlines and motions
-/// whose numbers aren't their places these numbers: a head, with the day on which the memo is made where that is known; and the reply
-/// to each row with the reasons of each deadline that it shows, then the sheets of all open cases and the calendars of all judges; or
-/// the whole sheet of the case that is asked for, or the line that says that the case isn't there. It is a text or a page. The bytes
-/// are asked for the names of the court and of holidays alone. `Err` says that memory ran out.
+/// What is asked for of these rows in a court whose file has these bytes, where cases have these names, deadlines and motions whose
+/// numbers aren't their places these numbers, and rows call cases, deadlines and motions so: a head, with the day on which the memo is
+/// made where that is known; and the reply to each row with the reasons of each deadline that it shows, then the sheets of all open
+/// cases and the calendars of all judges; or the whole sheet of the case that is asked for, or the line that says that the case isn't
+/// there. It is a text or a page. The bytes are asked for the names of the court and of holidays alone. `Err` says that memory ran out.
 pub fn memo_of(
     alloc: Global,
     asked: &Asked,
@@ -87,11 +89,12 @@ pub fn memo_of(
     court: &Court,
     cases: &Cases,
     moved: &MovedNumbers,
+    called: &CalledTexts,
     rows: &[NumberedRow],
 ) -> Result<Finding<Vec<u8>>, AllocError>
-    ensures { IfOk result (IsFinding (λ text. text.items) (IsWritten (head_of file.now cases.now.named asked.now.case made) asked.now court.now (labels_of file.now cases.now.named moved.now) rows.now) (IsMissing asked.now court.now (labels_of file.now cases.now.named moved.now) rows.now)) }
+    ensures { IfOk result (IsFinding (λ text. text.items) (IsWritten (head_of file.now cases.now.named asked.now.case made) asked.now court.now (labels_of file.now cases.now.named moved.now called.now) rows.now) (IsMissing asked.now court.now (labels_of file.now cases.now.named moved.now called.now) rows.now)) }
 {
-    let found = body_of(alloc, asked, file, court, cases, moved, rows)?;
+    let found = body_of(alloc, asked, file, court, cases, moved, called, rows)?;
     match found {
         Finding::Text(body) => written(alloc, asked, file, made, cases, body.as_str()),
         Finding::Missing(line) => Ok(Finding::Missing(line)),
@@ -158,14 +161,16 @@ fn body_of(
     court: &Court,
     cases: &Cases,
     moved: &MovedNumbers,
+    called: &CalledTexts,
     rows: &[NumberedRow],
 ) -> Result<Finding<String>, AllocError>
-    ensures { IfOk result (IsFinding string_bytes (IsAnswer asked.now court.now (labels_of file.now cases.now.named moved.now) rows.now) (IsMissing asked.now court.now (labels_of file.now cases.now.named moved.now) rows.now)) }
+    ensures { IfOk result (IsFinding string_bytes (IsAnswer asked.now court.now (labels_of file.now cases.now.named moved.now called.now) rows.now) (IsMissing asked.now court.now (labels_of file.now cases.now.named moved.now called.now) rows.now)) }
 {
     let found = holiday_names(alloc, file)?;
     let labels = Labels {
         cases,
         moved,
+        called,
         holidays: found.names.as_slice(),
         doubtful: found.doubtful.as_slice(),
     };

@@ -15,7 +15,7 @@ use docket_selection::ExplainedSheet;
 use office_texts::push_assigned_text;
 use page_markup::{Page, Tag};
 use reason_notes::DaysByReading;
-use report_texts::{Labels, push_whole_day};
+use report_texts::{Labels, push_title_after, push_whole_day};
 use std::alloc::{AllocError, Global};
 
 /// Adds the sheets of the cases.
@@ -116,11 +116,12 @@ fn push_case(
 /// Makes the line the title of a case's part.
 #[tactic(auto, unfolding(crate::specs::Cases::case_title))]
 fn set_title(line: &mut String, labels: &Labels<'_>, case: u32) -> Result<(), AllocError>
-    ensures { OnOk result (string_bytes line.new ≡ case_title labels.now.cases case) }
+    ensures { OnOk result (string_bytes line.new ≡ case_title labels.now case) }
 {
     line.clear();
     line.push_str("Case ")?;
-    push_case_text(line, labels.cases, case)
+    push_case_text(line, labels.cases, case)?;
+    push_title_after(line, labels, case)
 }
 
 /// Makes the line when a case was filed, who has it, if it was assigned, and how it was closed, if it was.

@@ -12,9 +12,9 @@ use crate::tables::push_four_heads;
 use case_numbers::push_case_text;
 use court_clock::Day;
 use court_days::Court;
-use docket_rows::{DatedRuling, SheetHearing, SheetMotion};
+use docket_rows::{Counted, DatedRuling, SheetHearing, SheetMotion};
 use page_markup::{Page, Tag};
-use report_texts::Labels;
+use report_texts::{Labels, push_label_after};
 use std::alloc::AllocError;
 
 /// Adds the table of a case's motions, or that there are none.
@@ -27,7 +27,7 @@ pub(crate) fn push_motions(
     case: u32,
     motions: &[SheetMotion],
 ) -> Result<(), AllocError>
-    ensures { OnOk result (page.new ≡ page.old ++ motion_table court.now labels.now.cases case motions.now) }
+    ensures { OnOk result (page.new ≡ page.old ++ motion_table court.now labels.now case motions.now) }
 {
     if motions.is_empty() {
         return page.text_in(Tag::Paragraph, "No motion is entered.");
@@ -37,7 +37,7 @@ pub(crate) fn push_motions(
     page.text_in(Tag::Caption, line)?;
     push_heads(page)?;
     page.open(Tag::TableBody)?;
-    push_rows(page, line, court, motions)?;
+    push_rows(page, line, court, labels, case, motions)?;
     page.close(Tag::TableBody)?;
     page.close(Tag::Table)
 }
@@ -64,12 +64,14 @@ fn push_rows(
     page: &mut Page,
     line: &mut String,
     court: &Court,
+    labels: &Labels<'_>,
+    case: u32,
     motions: &[SheetMotion],
 ) -> Result<(), AllocError>
-    ensures { OnOk result (page.new ≡ page.old ++ flat_map (motion_row court.now) motions.now) }
+    ensures { OnOk result (page.new ≡ page.old ++ flat_map (motion_row court.now labels.now case) motions.now) }
 {
     for motion in motions {
-        push_row(page, line, court, motion)?;
+        push_row(page, line, court, labels, case, motion)?;
     }
     Ok(())
 }
@@ -80,12 +82,15 @@ fn push_row(
     page: &mut Page,
     line: &mut String,
     court: &Court,
+    labels: &Labels<'_>,
+    case: u32,
     motion: &SheetMotion,
 ) -> Result<(), AllocError>
-    ensures { OnOk result (page.new ≡ page.old ++ motion_row court.now motion.now) }
+    ensures { OnOk result (page.new ≡ page.old ++ motion_row court.now labels.now case motion.now) }
 {
     page.open(Tag::Row)?;
     set_number(line, motion.number)?;
+    push_label_after(line, labels, case, Counted::Motion, motion.number)?;
     page.text_in(Tag::RowHead, line)?;
     push_served(page, line, motion.served, motion.ruling)?;
     set_need(line, motion.need)?;

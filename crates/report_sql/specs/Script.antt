@@ -15,10 +15,11 @@ use Rattle.report_texts.specs.Words.{LabelsView}
 use Rattle.desk_numbers.specs.Words.{numbered_sheet}
 use Rattle.report_sql.specs.Answers.{answer_rows}
 use Rattle.report_sql.specs.Assignments.{assignment_row_if_any}
+use Rattle.report_sql.specs.Called.{called_rows}
 use Rattle.report_sql.specs.Deadlines.{deadline_rows}
 use Rattle.report_sql.specs.Hearings.{motion_rows}
 use Rattle.report_sql.specs.Rows.{SqlValue, numbered, or_null, row_of, text}
-use Rattle.report_sql.specs.Schema.{have_assignments, have_facts, have_rulings, tables}
+use Rattle.report_sql.specs.Schema.{have_assignments, have_facts, have_rulings, have_texts, tables}
 use Rattle.report_sql.specs.Times.{day_value, minute_value}
 
 -- the name of a case, where the court's file has names: NULL where the case has none
@@ -37,10 +38,10 @@ abbrev pub closing_row_if_any : (case : ℕ) → Option Closure → List ℕ
 closing_row_if_any case (Some c) = closing_row case c
 closing_row_if_any case None = []
 
-unfoldable pub sheet_rows : CourtView → List NamedCase → Sheet → List ℕ
-sheet_rows court named s =
-    case_row named s ++ closing_row_if_any s.case s.closed ++ assignment_row_if_any court s.case s.assigned
-    ++ flat_map (deadline_rows court.clock s.case) s.deadlines ++ flat_map (motion_rows court s.case) s.motions
+unfoldable pub sheet_rows : CourtView → LabelsView → Sheet → List ℕ
+sheet_rows court labels s =
+    case_row labels.cases s ++ closing_row_if_any s.case s.closed ++ assignment_row_if_any court s.case s.assigned
+    ++ flat_map (deadline_rows court.clock s.case) s.deadlines ++ flat_map (motion_rows court s.case) s.motions ++ called_rows labels s
 
 -- an outage, by its number, counted from 1 in the order in which they were entered
 unfoldable pub outage_row : (place : ℕ) → OutageView → List ℕ
@@ -49,7 +50,7 @@ outage_row place o = row_of (codes "outages") place (day_value o.day ∷ minute_
 -- what is docketed: each outage, and each open case by its number, with the numbers of its deadlines and motions
 abbrev pub docketed_text : CourtView → LabelsView → (docketed : Rows) → List ℕ
 docketed_text court labels docketed =
-    numbered outage_row 1 docketed.days.outages ++ flat_map (sheet_rows court labels.cases) (map (numbered_sheet labels.moved) (open_sheets (setup_of court) docketed))
+    numbered outage_row 1 docketed.days.outages ++ flat_map (sheet_rows court labels) (map (numbered_sheet labels.moved) (open_sheets (setup_of court) docketed))
 
 unfoldable pub transaction_front : List ℕ
 transaction_front = codes "BEGIN TRANSACTION;\n"
@@ -63,7 +64,7 @@ unfoldable pub script_text : CourtView → LabelsView → List NumberedRow → L
 script_text court labels rows =
     let opening = opening_rows (setup_of court) in
     transaction_front
-    ++ tables labels.cases (have_facts rows) (have_rulings rows) (have_assignments rows)
+    ++ tables labels.cases (have_facts rows) (have_rulings rows) (have_assignments rows) (have_texts rows)
     ++ answer_rows court labels opening rows
     ++ docketed_text court labels (docketed_after (setup_of court) opening (rows_of rows))
     ++ transaction_end

@@ -4,9 +4,10 @@ ghost use Rattle.std.specs.Prelude.{◌≡◌, ◌++◌, IfOk, OnOk};
 ghost use Rattle.report_sql.specs.Script.{script_text, transaction_end, transaction_front};
 
 use crate::answers::push_answers;
-use crate::schema::{have_assignments, have_facts, have_rulings, push_tables};
+use crate::schema::push_tables;
 use crate::script::Script;
 use crate::sheets::push_docketed;
+use crate::wanted::{have_assignments, have_facts, have_rulings, have_texts};
 use court_days::Court;
 use docket_core::Docket;
 use report_texts::Labels;
@@ -15,9 +16,10 @@ use std::alloc::{AllocError, Global};
 
 /// One transaction of SQL: it makes the tables, and puts into them what each row was answered, by its number, and what is docketed after
 /// the last. Where rows record facts of cases there are tables of the cases that are closed and of the deadlines that are ended; where
-/// rows rule on motions there is one of these, and where rows assign cases one of who has them. Answers have the names of cases in place
-/// of numbers, and the table of cases has a column for them where there are any. Deadlines and motions have their numbers, while rows
-/// name them by their places. `Err` says that memory ran out.
+/// rows rule on motions there is one of these, and where rows assign cases one of who has them; and where rows call cases, deadlines and
+/// motions something there are tables of that. Answers have the names of cases in place of numbers, and the table of cases has a column
+/// for them where there are any. Deadlines and motions have their numbers, while rows name them by their places. `Err` says that memory
+/// ran out.
 #[tactic(auto, unfolding(crate::specs::Script::script_text))]
 pub fn sql_text(
     alloc: Global,
@@ -36,6 +38,7 @@ pub fn sql_text(
         have_facts(rows),
         have_rulings(rows),
         have_assignments(rows),
+        have_texts(rows),
     )?;
     push_answers(alloc, &mut out, court, labels, &mut docket, rows)?;
     push_docketed(alloc, &mut out, court, labels, &docket)?;

@@ -1,12 +1,10 @@
 //! The tables.
 
 ghost use Rattle.std.specs.Prelude.{◌≡◌, ◌++◌, OnOk};
-ghost use Rattle.report_sql.specs.Schema.{answers_table, assignments_table, cases_table, closings_table, endings_table, have_assignments, have_facts, have_rulings, is_assignment, is_fact, is_of_ruling, is_ruling, rulings_table, tables};
+ghost use Rattle.report_sql.specs.Schema.{answers_table, assignments_table, cases_table, closings_table, endings_table, rulings_table, tables, texts_tables};
 
 use crate::script::Script;
-use docket_rows::{Command, Fact};
 use report_texts::Labels;
-use row_forms::{NumberedRow, Work};
 use std::alloc::AllocError;
 
 // The open cases, by their numbers.
@@ -159,6 +157,28 @@ const RULINGS: &str = "CREATE TABLE rulings (
 );
 ";
 
+// What rows call cases.
+const TITLES: &str = "CREATE TABLE titles (
+  case_number INTEGER NOT NULL PRIMARY KEY REFERENCES cases (number),
+  title VARCHAR(200) NOT NULL
+);
+";
+
+// What rows call deadlines and motions: each row is of one of the two.
+const LABELS: &str = "CREATE TABLE labels (
+  case_number INTEGER NOT NULL REFERENCES cases (number),
+  deadline_number INTEGER,
+  motion_number INTEGER,
+  label VARCHAR(200) NOT NULL,
+  UNIQUE (case_number, deadline_number),
+  UNIQUE (case_number, motion_number),
+  FOREIGN KEY (case_number, deadline_number) REFERENCES deadlines (case_number, number),
+  FOREIGN KEY (case_number, motion_number) REFERENCES motions (case_number, number),
+  CHECK (deadline_number IS NULL OR motion_number IS NULL),
+  CHECK (deadline_number IS NOT NULL OR motion_number IS NOT NULL)
+);
+";
+
 // What each row was answered, by its number; NULL refusal: it isn't refused.
 const ANSWERS: &str = "CREATE TABLE answers (
   number INTEGER NOT NULL PRIMARY KEY,
@@ -177,74 +197,9 @@ const DESK_ANSWERS: &str = "CREATE TABLE answers (
 );
 ";
 
-// Whether a row records a fact of a case.
-fn is_fact(work: &Work) -> bool
-    ensures { result ≡ is_fact work.now }
-{
-    match work {
-        Work::Command(Command::Fact { .. }) => true,
-        _ => false,
-    }
-}
-
-// Whether some of these rows do.
-pub(crate) fn have_facts(rows: &[NumberedRow]) -> bool
-    ensures { result ≡ have_facts rows.now }
-{
-    rows.iter().any(|row| is_fact(&row.row.work))
-}
-
-// Whether a fact is how a motion was ruled on.
-fn is_of_ruling(fact: Fact) -> bool
-    ensures { result ≡ is_of_ruling fact }
-{
-    match fact {
-        Fact::Ruled { .. } => true,
-        _ => false,
-    }
-}
-
-// Whether a row rules on a motion.
-fn is_ruling(work: &Work) -> bool
-    ensures { result ≡ is_ruling work.now }
-{
-    match work {
-        Work::Command(Command::Fact { fact, .. }) => is_of_ruling(*fact),
-        _ => false,
-    }
-}
-
-// Whether some of these rows do.
-pub(crate) fn have_rulings(rows: &[NumberedRow]) -> bool
-    ensures { result ≡ have_rulings rows.now }
-{
-    rows.iter().any(|row| is_ruling(&row.row.work))
-}
-
-// Whether a row assigns a case.
-fn is_assignment(work: &Work) -> bool
-    ensures { result ≡ is_assignment work.now }
-{
-    match work {
-        Work::Command(
-            Command::Fact {
-                fact: Fact::Assigned { .. },
-                ..
-            },
-        ) => true,
-        _ => false,
-    }
-}
-
-// Whether some of these rows do.
-pub(crate) fn have_assignments(rows: &[NumberedRow]) -> bool
-    ensures { result ≡ have_assignments rows.now }
-{
-    rows.iter().any(|row| is_assignment(&row.row.work))
-}
-
 /// Adds the statements that make the tables: `facts` says whether rows record facts of cases, `rulings` whether some of these rule on
-/// motions, and `assignments` whether some assign cases. `Err` says that memory ran out.
+/// motions, `assignments` whether some assign cases, and `texts` whether rows say what cases, deadlines and motions are called. `Err`
+/// says that memory ran out.
 #[tactic(auto, unfolding(crate::specs::Schema::tables))]
 pub(crate) fn push_tables(
     out: &mut Script,
@@ -252,8 +207,9 @@ pub(crate) fn push_tables(
     facts: bool,
     rulings: bool,
     assignments: bool,
+    texts: bool,
 ) -> Result<(), AllocError>
-    ensures { OnOk result (out.new ≡ out.old ++ tables labels.now.cases facts rulings assignments) }
+    ensures { OnOk result (out.new ≡ out.old ++ tables labels.now.cases facts rulings assignments texts) }
 {
     push_cases(out, labels)?;
     out.statement(DEADLINES)?;
@@ -267,7 +223,8 @@ pub(crate) fn push_tables(
     push_assignments(out, assignments)?;
     push_endings(out, facts)?;
     push_rulings(out, rulings)?;
-    push_answers(out, facts)
+    push_texts(out, texts)?;
+    push_answers(out, facts || texts)
 }
 
 // Adds the table of the cases that are closed, where rows record facts of cases.
@@ -314,11 +271,23 @@ fn push_rulings(out: &mut Script, rulings: bool) -> Result<(), AllocError>
     }
 }
 
-// Adds the table of answers.
-fn push_answers(out: &mut Script, facts: bool) -> Result<(), AllocError>
-    ensures { OnOk result (out.new ≡ out.old ++ answers_table facts) }
+// Adds the tables of what cases, deadlines and motions are called, where rows say it.
+fn push_texts(out: &mut Script, texts: bool) -> Result<(), AllocError>
+    ensures { OnOk result (out.new ≡ out.old ++ texts_tables texts) }
 {
-    if facts {
+    if texts {
+        out.statement(TITLES)?;
+        out.statement(LABELS)
+    } else {
+        Ok(())
+    }
+}
+
+// Adds the table of answers: `own` says whether rows of the desk's own are answered.
+fn push_answers(out: &mut Script, own: bool) -> Result<(), AllocError>
+    ensures { OnOk result (out.new ≡ out.old ++ answers_table own) }
+{
+    if own {
         out.statement(DESK_ANSWERS)
     } else {
         out.statement(ANSWERS)

@@ -12,6 +12,7 @@ ghost use Rattle.report_sql.specs.Rows.{AddsValues, numbered};
 ghost use Rattle.report_sql.specs.Script.{case_row, closing_row, closing_row_if_any, docketed_text, name_values, outage_row, sheet_rows};
 
 use crate::assignments::push_assignment_if_any;
+use crate::called::push_called;
 use crate::deadlines::push_deadline;
 use crate::hearings::push_motion;
 use crate::script::Script;
@@ -85,7 +86,7 @@ fn push_sheets(
     labels: &Labels<'_>,
     sheets: &[Sheet],
 ) -> Result<(), AllocError>
-    ensures { OnOk result (out.new ≡ out.old ++ flat_map (sheet_rows court.now labels.now.cases) sheets.now) }
+    ensures { OnOk result (out.new ≡ out.old ++ flat_map (sheet_rows court.now labels.now) sheets.now) }
 {
     for sheet in sheets {
         push_sheet(out, court, labels, sheet)?;
@@ -100,13 +101,14 @@ fn push_sheet(
     labels: &Labels<'_>,
     sheet: &Sheet,
 ) -> Result<(), AllocError>
-    ensures { OnOk result (out.new ≡ out.old ++ sheet_rows court.now labels.now.cases sheet.now) }
+    ensures { OnOk result (out.new ≡ out.old ++ sheet_rows court.now labels.now sheet.now) }
 {
     push_case(out, labels, sheet)?;
     push_closing_if_any(out, sheet.case, sheet.closed)?;
     push_assignment_if_any(out, court, sheet.case, sheet.assigned)?;
     push_deadlines(out, court.clock(), sheet.case, sheet.deadlines.as_slice())?;
-    push_motions(out, court, sheet.case, sheet.motions.as_slice())
+    push_motions(out, court, sheet.case, sheet.motions.as_slice())?;
+    push_called(out, labels, sheet)
 }
 
 #[tactic(auto, unfolding(crate::specs::Script::case_row))]

@@ -10,7 +10,8 @@ use Rattle.docket_selection.specs.declared.choice.Choice.{Choice}
 use Rattle.docket_selection.specs.declared.item.DueItem.{DueItem}
 use Rattle.office_texts.specs.Words.{name_of}
 use Rattle.report_texts.specs.Days.{whole_day}
-use Rattle.report_texts.specs.Items.{item_line}
+use Rattle.report_texts.specs.Items.{item_lines}
+use Rattle.report_texts.specs.Labels.{LabelsView}
 use Rattle.reason_texts.specs.Words.{minute_time}
 
 abbrev pub judge_words : CourtView → Option ℕ → List ℕ
@@ -53,24 +54,24 @@ is_day_of before day = option_map_or (λ b. int_eq b day) before false
 abbrev pub day_line_if_new : (before : Option ℤ) → (day : ℤ) → List ℕ
 day_line_if_new before day = if is_day_of before day then [] else codes "\n" ++ whole_day day ++ codes "\n"
 
--- a line for each item, in the order of the list, and one for each day before the first item of it
-unfoldable pub lines_after : CourtView → List NamedCase → (before : Option ℤ) → List DueItem → List ℕ
-lines_after court named before [] = []
-lines_after court named before (item ∷ items) = day_line_if_new before item.day ++ item_line court named item ++ lines_after court named (Some item.day) items
+-- the lines of each item, in the order of the list, and one for each day before the first item of it
+unfoldable pub lines_after : CourtView → LabelsView → (before : Option ℤ) → List DueItem → List ℕ
+lines_after court labels before [] = []
+lines_after court labels before (item ∷ items) = day_line_if_new before item.day ++ item_lines court labels item ++ lines_after court labels (Some item.day) items
 
 -- that nothing is listed
 abbrev pub none_words : (overdue : Bool) → List ℕ
 none_words true = codes "\nNothing is overdue.\n"
 none_words false = codes "\nNothing is due.\n"
 
-abbrev pub lines_or_none : CourtView → List NamedCase → (overdue : Bool) → List DueItem → List ℕ
-lines_or_none court named overdue [] = none_words overdue
-lines_or_none court named overdue (item ∷ items) = lines_after court named None (item ∷ items)
+abbrev pub lines_or_none : CourtView → LabelsView → (overdue : Bool) → List DueItem → List ℕ
+lines_or_none court labels overdue [] = none_words overdue
+lines_or_none court labels overdue (item ∷ items) = lines_after court labels None (item ∷ items)
 
 -- how many deadlines aren't listed since they are ended; nothing where there are none
 abbrev pub left_out_line : (count : ℕ) → List ℕ
 left_out_line count = if count == 0 then [] else codes "\nEnded, and so not listed: " ++ decimal count ++ codes ".\n"
 
 -- what was chosen, and then the items by day
-unfoldable pub due_text : CourtView → List NamedCase → Choice → List DueItem → List ℕ
-due_text court named choice items = heading court named choice ++ closing_line court ++ lines_or_none court named choice.overdue items
+unfoldable pub due_text : CourtView → LabelsView → Choice → List DueItem → List ℕ
+due_text court labels choice items = heading court labels.cases choice ++ closing_line court ++ lines_or_none court labels choice.overdue items

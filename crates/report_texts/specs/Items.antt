@@ -2,7 +2,6 @@
 use Rattle.std.specs.Prelude.{ℕ, ◌+◌, ◌*◌, List, [], ◌∷◌, ◌++◌, None, codes}
 use Rattle.std.specs.Fmt.{decimal}
 use Rattle.case_numbers.specs.Words.{case_text}
-use Rattle.case_numbers.specs.declared.names.NamedCase.{NamedCase}
 use Rattle.court_clock.specs.Words.{ClockView}
 use Rattle.court_days.specs.Words.{CourtView}
 use Rattle.rule6.specs.declared.timeliness.Means.TheVariants.{Electronic}
@@ -17,9 +16,12 @@ use Rattle.docket_selection.specs.declared.item.DueItem.{DueItem}
 use Rattle.docket_selection.specs.declared.item.Matter.{Matter}
 use Rattle.docket_selection.specs.declared.item.Matter.TheVariants.{Deadline, Hearing}
 use Rattle.office_texts.specs.Words.{and_ended_text, name_of}
+use Rattle.report_texts.specs.Called.{called_beneath}
+use Rattle.report_texts.specs.Labels.{LabelsView}
 use Rattle.report_texts.specs.Names.{panel_names}
 use Rattle.report_texts.specs.Other.{other_words}
 use Rattle.report_texts.specs.Periods.{period_words}
+use Rattle.report_texts.specs.Selected.{counted_in}
 use Rattle.reason_texts.specs.Words.{day_end_time, minute_time, second_time}
 
 -- when a deadline ends: at a second of its day, or on its last day when that ends for an act by electronic means
@@ -61,6 +63,10 @@ matter_words court number (Deadline d) = deadline_words number d ++ other_words 
 matter_words court number (Hearing h) = hearing_words court number h.hearing
 
 -- `  to midnight  case 1 deadline 3: 59e`; a case that has a name is called by it
-unfoldable pub item_line : CourtView → List NamedCase → DueItem → List ℕ
-item_line court named item =
-    codes "  " ++ time_words court.clock item.second item.matter ++ codes "  case " ++ case_text named item.case ++ matter_words court item.number item.matter ++ 10 ∷ []
+unfoldable pub item_line : CourtView → LabelsView → DueItem → List ℕ
+item_line court labels item =
+    codes "  " ++ time_words court.clock item.second item.matter ++ codes "  case " ++ case_text labels.cases item.case ++ matter_words court item.number item.matter ++ 10 ∷ []
+
+-- the line of an item, and beneath it what rows call it and its case
+unfoldable pub item_lines : CourtView → LabelsView → DueItem → List ℕ
+item_lines court labels item = item_line court labels item ++ called_beneath labels item.case (counted_in item.matter) item.number

@@ -6,7 +6,7 @@ ghost use Rattle.reason_texts.specs.Words.{minute_time};
 ghost use Rattle.report_texts.specs.Due.{case_words, chosen_words, closing_back, closing_front, closing_line, day_line_if_new, due_text, heading, heading_front, is_day_of, judge_words, left_out_line, lines_after, lines_or_none, none_words};
 
 use crate::days::push_whole_day;
-use crate::items::push_item;
+use crate::items::push_item_lines;
 use crate::labels::Labels;
 use case_numbers::push_case_text;
 use court_clock::{Clock, Day};
@@ -16,7 +16,8 @@ use office_texts::{judge_name, push_number};
 use reason_texts::push_minute;
 use std::alloc::AllocError;
 
-/// Adds what was chosen, and the items by day, a line each. `Err` says that memory ran out.
+/// Adds what was chosen, and the items by day: a line each, and beneath it what rows call it and its case. `Err` says that memory
+/// ran out.
 #[tactic(auto, unfolding(crate::specs::Due::due_text))]
 pub fn push_due(
     text: &mut String,
@@ -25,7 +26,7 @@ pub fn push_due(
     choice: &Choice,
     items: &[DueItem],
 ) -> Result<(), AllocError>
-    ensures { OnOk result (AddsText text.old text.new (due_text court.now labels.now.cases choice.now items.now)) }
+    ensures { OnOk result (AddsText text.old text.new (due_text court.now labels.now choice.now items.now)) }
 {
     push_heading(text, court, labels, choice)?;
     push_closing(text, court)?;
@@ -137,7 +138,7 @@ fn push_lines(
     overdue: bool,
     items: &[DueItem],
 ) -> Result<(), AllocError>
-    ensures { OnOk result (AddsText text.old text.new (lines_or_none court.now labels.now.cases overdue items.now)) }
+    ensures { OnOk result (AddsText text.old text.new (lines_or_none court.now labels.now overdue items.now)) }
 {
     if items.is_empty() {
         return text.push_str(none_words(overdue));
@@ -175,12 +176,12 @@ fn push_items(
     labels: &Labels<'_>,
     items: &[DueItem],
 ) -> Result<(), AllocError>
-    ensures { OnOk result (AddsText text.old text.new (lines_after court.now labels.now.cases None items.now)) }
+    ensures { OnOk result (AddsText text.old text.new (lines_after court.now labels.now None items.now)) }
 {
     let mut before = None;
     for item in items {
         push_day_if_new(text, before, item.day)?;
-        push_item(text, court, labels, item)?;
+        push_item_lines(text, court, labels, item)?;
         before = Some(item.day);
     }
     Ok(())

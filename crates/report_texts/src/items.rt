@@ -2,12 +2,14 @@
 
 ghost use Rattle.std.specs.Prelude.{◌≡◌, OnOk};
 ghost use Rattle.office_texts.specs.Words.{AddsText};
-ghost use Rattle.report_texts.specs.Items.{deadline_words, end_words, hearing_front, hearing_words, item_line, late_words, matter_words, room_words, span_words, time_words};
+ghost use Rattle.report_texts.specs.Items.{deadline_words, end_words, hearing_front, hearing_words, item_line, item_lines, late_words, matter_words, room_words, span_words, time_words};
 
+use crate::called::push_called_beneath;
 use crate::judges::push_panel;
 use crate::labels::Labels;
 use crate::other::push_other;
 use crate::periods::push_period;
+use crate::selected::counted_in;
 use case_numbers::push_case_text;
 use court_clock::Clock;
 use court_days::Court;
@@ -20,13 +22,13 @@ use std::alloc::AllocError;
 
 /// Adds the line of a deadline or a hearing, with the name of its case where it has one.
 #[tactic(auto, unfolding(crate::specs::Items::item_line))]
-pub(crate) fn push_item(
+fn push_item(
     text: &mut String,
     court: &Court,
     labels: &Labels<'_>,
     item: &DueItem,
 ) -> Result<(), AllocError>
-    ensures { OnOk result (AddsText text.old text.new (item_line court.now labels.now.cases item.now)) }
+    ensures { OnOk result (AddsText text.old text.new (item_line court.now labels.now item.now)) }
 {
     text.push_str("  ")?;
     push_time(text, court.clock(), item.second, &item.matter)?;
@@ -34,6 +36,26 @@ pub(crate) fn push_item(
     push_case_text(text, labels.cases, item.case)?;
     push_matter(text, court, item.number, &item.matter)?;
     text.push_str("\n")
+}
+
+/// Adds the line of a deadline or a hearing, and beneath it what rows call it and its case.
+#[tactic(auto, unfolding(crate::specs::Items::item_lines))]
+pub(crate) fn push_item_lines(
+    text: &mut String,
+    court: &Court,
+    labels: &Labels<'_>,
+    item: &DueItem,
+) -> Result<(), AllocError>
+    ensures { OnOk result (AddsText text.old text.new (item_lines court.now labels.now item.now)) }
+{
+    push_item(text, court, labels, item)?;
+    push_called_beneath(
+        text,
+        labels,
+        item.case,
+        counted_in(&item.matter),
+        item.number,
+    )
 }
 
 /// Adds until when a deadline runs, or from when to when a hearing takes. `Err` says that memory ran out.

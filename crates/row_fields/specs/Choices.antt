@@ -80,6 +80,13 @@ ruling_said word =
     else if is_one_of word (codes "reserved" ∷ codes "reserve" ∷ codes "underadvisement" ∷ []) then Clear (codes "reserved")
     else Unknown
 
+-- whether a deadline or a motion is meant
+unfoldable pub counted_said : List ℕ → Said (List ℕ)
+counted_said word =
+    if is_one_of word (codes "deadline" ∷ codes "deadlines" ∷ []) then Clear (codes "deadline")
+    else if is_one_of word (codes "motion" ∷ codes "motions" ∷ []) then Clear (codes "motion")
+    else Unknown
+
 -- a Rule's number, as people cite it: `4(m)`, `Rule 4(m)`, `FRCP 4(m)`, `Fed. R. Civ. P. 4(m)`
 abbrev pub cited : List ℕ → List (List ℕ)
 cited number = number ∷ (codes "rule" ++ number) ∷ (codes "frcp" ++ number) ∷ (codes "fedrcivp" ++ number) ∷ []

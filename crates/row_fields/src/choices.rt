@@ -1,7 +1,7 @@
 //! Fields that say one of a few words. Each word is folded: in small letters, with its letters and digits alone.
 
 ghost use Rattle.std.specs.Prelude.{◌≡◌};
-ghost use Rattle.row_fields.specs.Choices.{act_said, answer_said, closing_said, list_said, means_said, one_rule_said, rule_said, ruling_said, service_said, why_said};
+ghost use Rattle.row_fields.specs.Choices.{act_said, answer_said, closing_said, counted_said, list_said, means_said, one_rule_said, rule_said, ruling_said, service_said, why_said};
 ghost use Rattle.row_fields.specs.Said.{said_map};
 
 use crate::said::Said;
@@ -98,6 +98,18 @@ pub fn ruling_said(word: &str) -> Said<&'static str>
         "moot" | "mooted" | "deniedasmoot" => Said::Clear("moot"),
         "withdrawn" | "withdrew" => Said::Clear("withdrawn"),
         "reserved" | "reserve" | "underadvisement" => Said::Clear("reserved"),
+        _ => Said::Unknown,
+    }
+}
+
+/// Whether a deadline or a motion is meant.
+#[tactic(auto, unfolding(crate::specs::Choices::counted_said))]
+pub fn counted_said(word: &str) -> Said<&'static str>
+    ensures { said_map (λ plain. plain.now) result ≡ counted_said word.now }
+{
+    match word {
+        "deadline" | "deadlines" => Said::Clear("deadline"),
+        "motion" | "motions" => Said::Clear("motion"),
         _ => Said::Unknown,
     }
 }

@@ -12,8 +12,8 @@ mod said;
 mod times;
 
 pub use choices::{
-    act_said, answer_said, closing_said, list_said, means_said, rule_said, ruling_said,
-    service_said, why_said,
+    act_said, answer_said, closing_said, counted_said, list_said, means_said, rule_said,
+    ruling_said, service_said, why_said,
 };
 pub use dates::{DateOrder, date_said};
 pub use laws::{no_other_reading, numbers_stay_whole, order_is_kept, places_follow_their_marks};

@@ -11,7 +11,7 @@ use Rattle.row_forms.specs.declared.fault.RowCause.{RowCause}
 use Rattle.row_forms.specs.declared.fault.RowCause.TheVariants.{BadClerk, NotText, TooManyRows, WrongCount}
 use Rattle.row_forms.specs.declared.forms.periods.Measured.{Measured}
 use Rattle.row_forms.specs.declared.forms.table.Form.{Form}
-use Rattle.row_forms.specs.declared.forms.table.Form.TheVariants.{Assign, Close, Compute, End, Extend, Reopen, Reset, Resume, Rule, Set, Start}
+use Rattle.row_forms.specs.declared.forms.table.Form.TheVariants.{Assign, Close, Compute, End, Extend, Label, Reopen, Reset, Resume, Rule, Set, Start, Title}
 use Rattle.row_forms.specs.declared.row.Row.{Row}
 use Rattle.row_forms.specs.declared.row.Work.{Work}
 use Rattle.row_forms.specs.declared.row.Work.TheVariants.{Query}
@@ -35,6 +35,8 @@ of_desk Close = true
 of_desk Reopen = true
 of_desk Rule = true
 of_desk Assign = true
+of_desk Title = true
+of_desk Label = true
 of_desk other = false
 
 -- a form whose own word clerk_office doesn't take has no word there
@@ -56,6 +58,8 @@ never_of_desk word Close own h = none_has Close word refl h
 never_of_desk word Reopen own h = none_has Reopen word refl h
 never_of_desk word Rule own h = none_has Rule word refl h
 never_of_desk word Assign own h = none_has Assign word refl h
+never_of_desk word Title own h = none_has Title word refl h
+never_of_desk word Label own h = none_has Label word refl h
 never_of_desk word other own h = cc own
 
 -- what is read, if anything is, is work of clerk_office
@@ -94,6 +98,8 @@ form_is_office names Close fields office = cc office
 form_is_office names Reopen fields office = cc office
 form_is_office names Rule fields office = cc office
 form_is_office names Assign fields office = cc office
+form_is_office names Title fields office = cc office
+form_is_office names Label fields office = cc office
 form_is_office names Extend fields office =
     counted (not (length fields == length (columns_of_form Extend))) (extend_row fields) (record { office = λ work h. (extend_is fields work h).1 })
 form_is_office names Start fields office =

@@ -14,18 +14,19 @@ use Rattle.rule_periods.specs.declared.period.Period.{Period}
 use Rattle.rule_periods.specs.declared.period.Period.TheVariants.{Entered}
 use Rattle.rule_periods.specs.Words.{is_order, is_set}
 use Rattle.docket_rows.specs.declared.command.Command.TheVariants as command
-use Rattle.docket_rows.specs.declared.fact.Fact.TheVariants.{Ended, Resumed, Closed, Reopened, Ruled, Assigned}
+use Rattle.docket_rows.specs.declared.fact.Fact.TheVariants.{Ended, Resumed, Closed, Reopened, Ruled, Assigned, Titled, Labelled}
 use Rattle.docket_rows.specs.declared.query.Query.TheVariants as query
 use Rattle.row_forms.specs.declared.fault.RowCause.{RowCause}
 use Rattle.row_forms.specs.declared.fault.RowCause.TheVariants.{UnknownCommand, WrongCount}
 use Rattle.row_forms.specs.declared.forms.table.Form.{Form}
-use Rattle.row_forms.specs.declared.forms.table.Form.TheVariants.{Open, Start, File, Extend, Motion, Book, Move, Cancel, Holiday, Inaccessible, Compute, Sheet, Calendar, Set, End, Resume, Close, Reopen, Reset, Rule, Assign}
+use Rattle.row_forms.specs.declared.forms.table.Form.TheVariants.{Open, Start, File, Extend, Motion, Book, Move, Cancel, Holiday, Inaccessible, Compute, Sheet, Calendar, Set, End, Resume, Close, Reopen, Reset, Rule, Assign, Title, Label}
 use Rattle.row_forms.specs.declared.row.Work.{Work}
 use Rattle.row_forms.specs.declared.row.Work.TheVariants.{Command, Query}
 use Rattle.row_forms.specs.Columns.{◌>>=◌, column, in_column, day_in, number_in}
-use Rattle.row_forms.specs.Fields.Choices.{closing_of, ending_of, is_so, list_of, means_of, ruling_of}
+use Rattle.row_forms.specs.Fields.Choices.{closing_of, counted_of, ending_of, is_so, list_of, means_of, ruling_of}
 use Rattle.row_forms.specs.Fields.Grants.{grant_of, need_of, order_dated, reset_to}
 use Rattle.row_forms.specs.Fields.Period.{act_of}
+use Rattle.row_forms.specs.Fields.Texts.{text_length}
 use Rattle.row_forms.specs.Fields.Times.{day_anew, ending_minute, minute_or_midnight}
 use Rattle.row_forms.specs.CourtNames.{CourtNames, number_if_named, number_named}
 use Rattle.row_forms.specs.Forms.Periods.{measured_from}
@@ -188,6 +189,22 @@ assign_row names fields = do
   dated ← day_in fields 6
   Ok (Command (command.Fact case (Assigned (number_named names.judges (column fields 4)) (number_if_named names.judges (column fields 5)) dated)))
 
+-- a row of `title`: what a case is called; the text isn't part of what is asked for
+abbrev pub title_row : List (List ℕ) → Result Work RowCause
+title_row fields = do
+  case ← number_in fields 3
+  _ ← in_column 4 (text_length (column fields 4))
+  Ok (Command (command.Fact case Titled))
+
+-- a row of `label`: what a deadline or a motion is called, likewise
+abbrev pub label_row : List (List ℕ) → Result Work RowCause
+label_row fields = do
+  case ← number_in fields 3
+  kind ← in_column 4 (counted_of (column fields 4))
+  number ← number_in fields 5
+  _ ← in_column 6 (text_length (column fields 6))
+  Ok (Command (command.Fact case (Labelled kind number)))
+
 -- what the fields of a row of this form ask for
 abbrev pub fields_as : CourtNames → Form → List (List ℕ) → Result Work RowCause
 fields_as names Open fields = open_row fields
@@ -217,6 +234,8 @@ fields_as names Close fields = close_row fields
 fields_as names Reopen fields = reopen_row fields
 fields_as names Rule fields = rule_row fields
 fields_as names Assign fields = assign_row names fields
+fields_as names Title fields = title_row fields
+fields_as names Label fields = label_row fields
 
 -- what a row of this form asks for, which has a field for each column
 abbrev pub read_as : CourtNames → Form → List (List ℕ) → Result Work RowCause
@@ -255,6 +274,8 @@ form_asking (Command (command.Fact case (Closed why dated))) = Close
 form_asking (Command (command.Fact case (Reopened dated))) = Reopen
 form_asking (Command (command.Fact case (Ruled motion how dated))) = Rule
 form_asking (Command (command.Fact case (Assigned judge referred dated))) = Assign
+form_asking (Command (command.Fact case Titled)) = Title
+form_asking (Command (command.Fact case (Labelled kind number))) = Label
 form_asking (Query (query.Compute period event second service)) = Compute
 form_asking (Query (query.Sheet case)) = Sheet
 form_asking (Query (query.JudgeDay judge day)) = Calendar

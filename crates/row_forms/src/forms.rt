@@ -2,15 +2,18 @@
 
 ghost use Rattle.std.specs.Prelude.{◌≡◌};
 ghost use Rattle.csv.specs.Records.{fields_of};
-ghost use Rattle.row_forms.specs.Forms.{assign_row, calendar_row, cancel_row, close_row, compute_row, end_row, extend_row, file_row, holiday_row, inaccessible_row, motion_row, open_row, read_as, reopen_row, reset_row, resume_row, rule_row, set_length, set_row, set_to, start_row, work_as};
+ghost use Rattle.row_forms.specs.Forms.{assign_row, calendar_row, cancel_row, close_row, compute_row, end_row, extend_row, file_row, holiday_row, inaccessible_row, label_row, motion_row, open_row, read_as, reopen_row, reset_row, resume_row, rule_row, set_length, set_row, set_to, start_row, title_row, work_as};
 ghost use Rattle.row_forms.specs.CourtNames.{names_of};
 
 use crate::columns::{column, day_in, number_in};
 use crate::fault::RowCause;
-use crate::fields::choices::{closing_of, ending_of, is_so, list_of, means_of, ruling_of};
+use crate::fields::choices::{
+    closing_of, counted_of, ending_of, is_so, list_of, means_of, ruling_of,
+};
 use crate::fields::grants::{grant_of, need_of, order_dated, reset_to};
 use crate::fields::hearings::{judge_if_named, judge_named};
 use crate::fields::period::act_of;
+use crate::fields::texts::text_length;
 use crate::fields::times::{day_anew, ending_minute, minute_or_midnight};
 use crate::row::Work;
 use court_clock::{Direction, minute_from_text};
@@ -68,6 +71,8 @@ fn read_as(court: &Court, form: Form, fields: &StringRecord) -> Result<Work, Row
         Form::Reopen => reopen_row(fields),
         Form::Rule => rule_row(fields),
         Form::Assign => assign_row(court, fields),
+        Form::Title => title_row(fields),
+        Form::Label => label_row(fields),
     }
 }
 
@@ -324,5 +329,27 @@ fn assign_row(court: &Court, fields: &StringRecord) -> Result<Work, RowCause>
         referred,
         dated,
     };
+    Ok(Work::Command(Command::Fact { case, fact }))
+}
+
+// What a case is called. The text isn't part of what is asked for.
+fn title_row(fields: &StringRecord) -> Result<Work, RowCause>
+    ensures { result ≡ title_row (fields_of fields.now) }
+{
+    let case = number_in(fields, 3)?;
+    text_length(column(fields, 4)).ok_or(RowCause::BadField(4))?;
+    let fact = Fact::Titled;
+    Ok(Work::Command(Command::Fact { case, fact }))
+}
+
+// What a deadline or a motion is called. The text isn't part of what is asked for.
+fn label_row(fields: &StringRecord) -> Result<Work, RowCause>
+    ensures { result ≡ label_row (fields_of fields.now) }
+{
+    let case = number_in(fields, 3)?;
+    let counted = counted_of(column(fields, 4)).ok_or(RowCause::BadField(4))?;
+    let number = number_in(fields, 5)?;
+    text_length(column(fields, 6)).ok_or(RowCause::BadField(6))?;
+    let fact = Fact::Labelled { counted, number };
     Ok(Work::Command(Command::Fact { case, fact }))
 }

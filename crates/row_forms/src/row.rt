@@ -1,7 +1,7 @@
 //! Rows.
 
 use court_clock::Day;
-use docket_rows::{Closing, Command, Ending, Fact, Query, Ruling};
+use docket_rows::{Closing, Command, Counted, Ending, Fact, Query, Ruling};
 use rule_periods::{Grant, Request};
 
 /// One row: which clerk asks, and for what.
@@ -32,6 +32,6 @@ pub(crate) type RowTypes = Option<
         Option<Day>,
         Grant,
         Request,
-        (Fact, Ending, Closing, Ruling, Option<u8>),
+        (Fact, Ending, Closing, Ruling, Option<u8>, Counted),
     ),
 >;

@@ -9,10 +9,11 @@ use std::alloc::{AllocError, Global};
 use strsim::osa_distance;
 
 /// The headings of columns.
-const HEADINGS: [&str; 28] = [
+const HEADINGS: [&str; 32] = [
     "clerk", "command", "case", "deadline", "motion", "period", "date", "time", "second", "kind",
     "means", "grant", "cause", "neglect", "need", "list", "from", "to", "judge", "referred",
-    "room", "slots", "notice", "act", "why", "ruling", "dated", "note",
+    "room", "slots", "notice", "act", "why", "ruling", "dated", "title", "of", "number", "label",
+    "note",
 ];
 
 /// The word from which a text that is folded differs by no more than a slip: a letter that is added, lost or another, or two
@@ -133,6 +134,7 @@ fn nearest_in(
                 "reserved",
             ],
         ),
+        Column::Counted => nearest_of(alloc, word, &["deadline", "motion"]),
         Column::Why => nearest_of(
             alloc,
             word,

@@ -55,6 +55,10 @@ heading_said word =
     else if is_one_of word (codes "dated" ∷ codes "orderdated" ∷ codes "orderdate" ∷ codes "dateoforder" ∷ []) then Some (codes "dated")
     else if is_one_of word (codes "why" ∷ codes "reason" ∷ []) then Some (codes "why")
     else if is_one_of word (codes "ruling" ∷ []) then Some (codes "ruling")
+    else if is_one_of word (codes "title" ∷ codes "caption" ∷ []) then Some (codes "title")
+    else if is_one_of word (codes "of" ∷ []) then Some (codes "of")
+    else if is_one_of word (codes "number" ∷ []) then Some (codes "number")
+    else if is_one_of word (codes "label" ∷ []) then Some (codes "label")
     else if is_one_of word (codes "note" ∷ codes "notes" ∷ codes "remarks" ∷ codes "comment" ∷ codes "comments" ∷ []) then Some (codes "note")
     else None
 

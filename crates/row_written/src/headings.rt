@@ -77,6 +77,10 @@ pub fn heading_said(word: &str) -> Option<&'static str>
         "dated" | "orderdated" | "orderdate" | "dateoforder" => Some("dated"),
         "why" | "reason" => Some("why"),
         "ruling" => Some("ruling"),
+        "title" | "caption" => Some("title"),
+        "of" => Some("of"),
+        "number" => Some("number"),
+        "label" => Some("label"),
         "note" | "notes" | "remarks" | "comment" | "comments" => Some("note"),
         _ => None,
     }

@@ -23,7 +23,7 @@ use crate::known::names_known;
 use court_clock::Day;
 use court_days::Court;
 use csv::StringRecord;
-use docket_rows::{Closing, Command, Ending, Fact, Query, Ruling};
+use docket_rows::{Closing, Command, Counted, Ending, Fact, Query, Ruling};
 use row_fields::{DateOrder, Said, cut_line, folded, separator_of, typed};
 use row_forms::{Column, Line, Row, RowCause, Work, column_at, columns_of, name_of, read_line};
 use rule_periods::{Grant, Request};
@@ -39,7 +39,7 @@ type RowTypes = Option<
         Option<Day>,
         Grant,
         Request,
-        (Fact, Ending, Closing, Ruling, Option<u8>),
+        (Fact, Ending, Closing, Ruling, Option<u8>, Counted),
     ),
 >;
 

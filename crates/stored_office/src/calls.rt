@@ -2,7 +2,7 @@
 use anyhow::{Context, Result, bail};
 use court_clock::Day;
 use court_days::Court;
-use docket_rows::{Closing, Command, Ending, Fact, Query, Ruling};
+use docket_rows::{Closing, Command, Counted, Ending, Fact, Query, Ruling};
 use row_forms::{Row, RowError, Work, read_rows};
 use rule_periods::{Grant, Request};
 use std::alloc::Global;
@@ -16,7 +16,7 @@ type RowTypes = Option<
         Option<Day>,
         Grant,
         Request,
-        (Fact, Ending, Closing, Ruling, Option<u8>),
+        (Fact, Ending, Closing, Ruling, Option<u8>, Counted),
     ),
 >;
 

@@ -7,7 +7,7 @@ use clerk_seats::{Done, Journal};
 use court_clock::Day;
 use court_days::Court;
 use docket_core::Docket;
-use docket_rows::{Answer, Closing, Command, Ending, Fact, Ruling};
+use docket_rows::{Answer, Closing, Command, Counted, Ending, Fact, Ruling};
 use office_texts::push_number;
 use rule_periods::{Grant, Request};
 use rule6::Shown;
@@ -22,7 +22,7 @@ type AnswerTypes = Option<
         Request,
         Shown,
         Fact,
-        (Ending, Closing, Ruling, Option<u8>),
+        (Ending, Closing, Ruling, Option<u8>, Counted),
     ),
 >;
 

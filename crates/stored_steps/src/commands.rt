@@ -6,7 +6,7 @@ ghost use Rattle.stored_steps.specs.Commands.{AreAsked, AreCommands};
 use anyhow::{Result, bail};
 use court_clock::Day;
 use court_days::Court;
-use docket_rows::{Closing, Command, Ending, Fact, Ruling};
+use docket_rows::{Closing, Command, Counted, Ending, Fact, Ruling};
 use row_forms::{Row, RowError, Work, read_rows};
 use rule_periods::{Grant, Request};
 use std::alloc::Global;
@@ -18,7 +18,7 @@ type CommandTypes = Option<
         Grant,
         Request,
         Fact,
-        (Ending, Closing, Ruling, Option<u8>),
+        (Ending, Closing, Ruling, Option<u8>, Counted),
     ),
 >;
 

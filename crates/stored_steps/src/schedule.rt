@@ -6,7 +6,7 @@ ghost use Rattle.stored_steps.specs.Inside.Spelling.{IsSpelled};
 
 use anyhow::{Result, bail};
 use court_clock::Day;
-use docket_rows::{Closing, Command, Ending, Fact, Ruling};
+use docket_rows::{Closing, Command, Counted, Ending, Fact, Ruling};
 use itoa::Buffer;
 use rule_periods::{Grant, Request};
 use std::alloc::Global;
@@ -19,7 +19,7 @@ type StepTypes = Option<
         Grant,
         Request,
         Fact,
-        (Ending, Closing, Ruling, Option<u8>),
+        (Ending, Closing, Ruling, Option<u8>, Counted),
     ),
 >;
 

@@ -1,18 +1,18 @@
 -- A fact that is recorded.
-use Rattle.std.proofs.Common.{◌≡◌, ℕ, ℤ, Bool, true, false, is_some, find, None, if◌then◌else◌}
+use Rattle.std.proofs.Common.{◌≡◌, ℕ, ℤ, Bool, true, false, cond, is_some, List, [], ◌∷◌, ◌++◌, All, find, None, if◌then◌else◌, append-nil, subst, sym}
 use Rattle.std.specs.Option.{IsSome}
 use Rattle.std.proofs.lemmas.List.Elements.{All-push}
 use Rattle.docket_rows.specs.declared.command.Command.TheVariants as command
 use Rattle.docket_rows.specs.declared.fact.Fact.{Fact}
-use Rattle.docket_rows.specs.declared.fact.Fact.TheVariants.{Ended, Resumed, Closed, Reopened, Ruled, Assigned}
-use Rattle.docket_rows.specs.Words.{CourtSetup, Rows, DocketedFact, AreSound, AreLawful, parts_of, hearing_of, if_ahead, is_case, end_checks, resume_checks, close_checks, reopen_checks, rule_checks, assign_checks, end_refusal, resume_refusal, close_refusal, reopen_refusal, rule_refusal, assign_refusal, refusal, with_fact, without_hearing, hearings_until, rows_after}
+use Rattle.docket_rows.specs.declared.fact.Fact.TheVariants.{Ended, Resumed, Closed, Reopened, Ruled, Assigned, Titled, Labelled}
+use Rattle.docket_rows.specs.Words.{CourtSetup, Rows, DocketedFact, AreSound, AreLawful, parts_of, hearing_of, if_ahead, is_case, end_checks, resume_checks, close_checks, reopen_checks, rule_checks, assign_checks, title_checks, label_checks, end_refusal, resume_refusal, close_refusal, reopen_refusal, rule_refusal, assign_refusal, title_refusal, label_refusal, refusal, with_fact, without_hearing, hearings_until, is_kept, rows_after}
 use Rattle.docket_laws.proofs.MadeLemmas.{none_of, when-not-None}
 use Rattle.docket_laws.proofs.LawfulLemmas.HearingLemmas.{sound_without, lawful_without}
 use Rattle.docket_laws.proofs.LawfulLemmas.SeenLemmas.{IsOpen, is_open_of}
 
 -- the case of a fact that isn't refused is open
 fact_open : (setup : CourtSetup) (rows : Rows) (case : ℕ) (fact : Fact) → refusal setup (parts_of rows) (command.Fact case fact) ≡ None → IsOpen rows case
-unfolding end_refusal resume_refusal close_refusal reopen_refusal rule_refusal assign_refusal
+unfolding end_refusal resume_refusal close_refusal reopen_refusal rule_refusal assign_refusal title_refusal label_refusal
 fact_open setup rows case (Ended deadline why dated) h =
     is_open_of rows case (when-not-None _ _ (none_of (end_checks (parts_of rows) case deadline dated) h).0)
 fact_open setup rows case (Resumed deadline dated) h =
@@ -25,8 +25,17 @@ fact_open setup rows case (Ruled motion how dated) h =
     is_open_of rows case (when-not-None _ _ (none_of (rule_checks (parts_of rows) case motion dated) h).0)
 fact_open setup rows case (Assigned judge referred dated) h =
     is_open_of rows case (when-not-None _ _ (none_of (assign_checks setup (parts_of rows) case judge referred dated) h).0)
+fact_open setup rows case Titled h =
+    is_open_of rows case (when-not-None _ _ (none_of (title_checks (parts_of rows) case) h).0)
+fact_open setup rows case (Labelled counted number) h =
+    is_open_of rows case (when-not-None _ _ (none_of (label_checks (parts_of rows) case counted number) h).0)
 
--- rows with one more fact of an open case
+-- what holds of all facts, and of one more that is kept or isn't
+all_with_kept : (P : DocketedFact → Type 0) (facts : List DocketedFact) (f : DocketedFact) (kept : Bool) → All P facts → P f → All P (facts ++ cond kept (f ∷ []) [])
+all_with_kept P facts f true all one = All-push P facts f all one
+all_with_kept P facts f false all one = subst (λ (fs : List DocketedFact). All P fs) (sym (append-nil facts)) all
+
+-- rows with one more fact of an open case, if it is one that is kept
 sound_recorded : (setup : CourtSetup) (rows : Rows) (case : ℕ) (fact : Fact) → AreSound setup rows → IsOpen rows case → AreSound setup (with_fact case fact rows)
 sound_recorded setup rows case fact s opened =
     let f : DocketedFact = record { case = case; fact = fact } in
@@ -43,7 +52,7 @@ sound_recorded setup rows case fact s opened =
       hearings_of_motions = s.hearings_of_motions;
       hearing_once = s.hearing_once;
       hearings_settable = s.hearings_settable;
-      facts_of_cases = All-push (λ (x : DocketedFact). IsSome (find (is_case x.case) rows.cases)) rows.facts f s.facts_of_cases opened.stands;
+      facts_of_cases = all_with_kept (λ (x : DocketedFact). IsSome (find (is_case x.case) rows.cases)) rows.facts f (is_kept fact) s.facts_of_cases opened.stands;
     }
 
 -- which stay lawful, as no hearing, no motion and no day changes
@@ -78,6 +87,9 @@ sound_fact setup rows case (Ruled motion how dated) s h =
     sound_until setup (with_fact case (Ruled motion how dated) rows) case motion dated (sound_recorded setup rows case (Ruled motion how dated) s (fact_open setup rows case (Ruled motion how dated) h))
 sound_fact setup rows case (Assigned judge referred dated) s h =
     sound_recorded setup rows case (Assigned judge referred dated) s (fact_open setup rows case (Assigned judge referred dated) h)
+sound_fact setup rows case Titled s h = sound_recorded setup rows case Titled s (fact_open setup rows case Titled h)
+sound_fact setup rows case (Labelled counted number) s h =
+    sound_recorded setup rows case (Labelled counted number) s (fact_open setup rows case (Labelled counted number) h)
 
 pub lawful_fact : (setup : CourtSetup) (rows : Rows) (case : ℕ) (fact : Fact) → AreLawful setup rows → AreLawful setup (rows_after rows (command.Fact case fact))
 lawful_fact setup rows case (Ended deadline why dated) l = lawful_recorded setup rows case (Ended deadline why dated) l
@@ -87,3 +99,5 @@ lawful_fact setup rows case (Reopened dated) l = lawful_recorded setup rows case
 lawful_fact setup rows case (Ruled motion how dated) l =
     lawful_until setup (with_fact case (Ruled motion how dated) rows) case motion dated (lawful_recorded setup rows case (Ruled motion how dated) l)
 lawful_fact setup rows case (Assigned judge referred dated) l = lawful_recorded setup rows case (Assigned judge referred dated) l
+lawful_fact setup rows case Titled l = lawful_recorded setup rows case Titled l
+lawful_fact setup rows case (Labelled counted number) l = lawful_recorded setup rows case (Labelled counted number) l

@@ -3,7 +3,7 @@
 ghost use Rattle.std.specs.Prelude.{◌≡◌, ◌<◌, ◌==◌, ◌+◌, true, None, length, find, map, is_ok, option_map, IfSome, IfOk, if◌then◌else◌};
 ghost use Rattle.rule_periods.specs.Words.{grant_fits, is_grant_length, is_in_hours, with_grant, with_filing};
 ghost use Rattle.docket_rows.specs.Cases.{NumberedDeadline, NumberedMotion, numbered_deadlines, numbered_motions};
-ghost use Rattle.docket_rows.specs.Facts.{add_fact};
+ghost use Rattle.docket_rows.specs.Facts.{add_fact, is_kept, keep_fact};
 ghost use Rattle.docket_rows.specs.Limits.{most_deadlines, most_facts, most_motions};
 ghost use Rattle.docket_rows.specs.Writes.{add_deadline, change_deadline, add_motion, set_hearing};
 
@@ -65,10 +65,22 @@ impl CaseRecord {
         set_hearing(&mut self.motions, motion, hearing);
     }
 
-    /// Records a fact. An error leaves the case as it was.
+    /// Records a fact, if it is one that is kept. An error leaves the case as it was.
     pub fn add_fact(&mut self, fact: Fact) -> Result<(), AllocError>
-        requires { length self.old.facts < most_facts }
+        requires { is_kept fact ≡ true → length self.old.facts < most_facts }
         ensures { self.new ≡ (if is_ok result then add_fact fact self.old else self.old) }
+    {
+        if fact.is_kept() {
+            self.keep_fact(fact)
+        } else {
+            Ok(())
+        }
+    }
+
+    // Keeps a fact.
+    fn keep_fact(&mut self, fact: Fact) -> Result<(), AllocError>
+        requires { length self.old.facts < most_facts }
+        ensures { self.new ≡ (if is_ok result then keep_fact fact self.old else self.old) }
     {
         self.facts.push(fact)?;
         Ok(())

@@ -14,7 +14,7 @@ use Rattle.rule_periods.specs.Words.{is_order}
 use Rattle.docket_rows.specs.declared.answer.Answer.TheVariants as answer
 use Rattle.docket_rows.specs.declared.command.Command.{Command}
 use Rattle.docket_rows.specs.declared.command.Command.TheVariants.{OpenCase, Start, FileAct, Extend, Motion, Book, MoveHearing, Cancel, Holiday, Inaccessible, Fact}
-use Rattle.docket_rows.specs.declared.fact.Fact.TheVariants.{Ended, Resumed, Closed, Reopened, Ruled, Assigned}
+use Rattle.docket_rows.specs.declared.fact.Fact.TheVariants.{Ended, Resumed, Closed, Reopened, Ruled, Assigned, Titled, Labelled}
 use Rattle.docket_rows.specs.declared.fact.Ruling.{Ruling}
 use Rattle.docket_rows.specs.declared.hearing.Hearing.{Hearing}
 use Rattle.docket_rows.specs.declared.hearing.Setting.{Setting}
@@ -169,6 +169,8 @@ module _ (judge : Option ℕ) (case motion : ℕ) where
       let P : Option Hearing → Type 0 = λ set. last_hearing (fold next_history before (option_to_list (change_made row (Fact of (Ruled of_motion how dated)) (answer.Ruled (option_map (λ (h : Hearing). h.day) (if_ahead dated set)))))) ≡ hearing_before judge (hearing_of (rows_after rows (Fact of (Ruled of_motion how dated))) case motion) in
       subst P (sym (hearing_seen setup rows sound of of_motion)) (ruled_ends rows row before of of_motion how dated ends (if_ahead dated (hearing_of rows of of_motion)))
   made_ends setup rows row before sound ends (Fact of (Assigned to referred dated)) free = ends
+  made_ends setup rows row before sound ends (Fact of Titled) free = ends
+  made_ends setup rows row before sound ends (Fact of (Labelled counted number)) free = ends
 
   step_ends : (setup : CourtSetup) (rows : Rows) (row : ℕ) (before : Option HearingHistory) → AreSound setup rows → last_hearing before ≡ hearing_before judge (hearing_of rows case motion) → (command : Command)
       → last_hearing (fold next_history before (option_to_list (change_made row command (step setup rows command).1))) ≡ hearing_before judge (hearing_of (step setup rows command).0 case motion)

@@ -1,5 +1,5 @@
 -- One command more raises the revision of a case's events, or leaves all on which they rest.
-use Rattle.std.proofs.Common.{◌≡◌, ◌<◌, ◌≤◌, ◌+◌, ◌∙◌, ◌==◌, ◌&&◌, ◌||◌, ℕ, ℤ, suc, max, Bool, true, false, is_some, List, [], ◌∷◌, ◌++◌, length, nat_le, map, fold, filter, All, Option, Some, None, option_map, option_to_list, if◌then◌else◌, append_assoc, append-nil, refl, sym, ap, subst, arith, inl, inr}
+use Rattle.std.proofs.Common.{◌≡◌, ◌<◌, ◌≤◌, ◌+◌, ◌∙◌, ◌==◌, ◌&&◌, ◌||◌, ℕ, ℤ, suc, max, Bool, true, false, is_some, cond, List, [], ◌∷◌, ◌++◌, length, nat_le, map, fold, filter, All, Option, Some, None, option_map, option_to_list, if◌then◌else◌, append_assoc, append-nil, refl, sym, ap, subst, arith, inl, inr}
 use Rattle.std.specs.Option.{option_map_or}
 use Rattle.std.proofs.Math.Nat.{le-max_left, le-max_right, max-le}
 use Rattle.std.proofs.lemmas.Bool.{cases_Bool, eqb-true, and_parts, false≢true}
@@ -11,11 +11,11 @@ use Rattle.docket_rows.specs.declared.answer.Answer.TheVariants as answer
 use Rattle.docket_rows.specs.declared.command.Command.{Command}
 use Rattle.docket_rows.specs.declared.command.Command.TheVariants.{OpenCase, Start, FileAct, Extend, Motion, Book, MoveHearing, Cancel, Holiday, Inaccessible, Fact}
 use Rattle.docket_rows.specs.declared.fact.Fact.{Fact as FactOf}
-use Rattle.docket_rows.specs.declared.fact.Fact.TheVariants.{Ended, Resumed, Closed, Reopened, Ruled, Assigned}
+use Rattle.docket_rows.specs.declared.fact.Fact.TheVariants.{Ended, Resumed, Closed, Reopened, Ruled, Assigned, Titled, Labelled}
 use Rattle.docket_rows.specs.declared.fact.Ruling.{Ruling}
 use Rattle.docket_rows.specs.declared.hearing.Hearing.{Hearing}
 use Rattle.docket_rows.specs.declared.refusal.Refusal.{Refusal}
-use Rattle.docket_rows.specs.Words.{AreSound, CourtSetup, DocketedDeadline, Rows, answer_if_made, answered, ended_answer, hearing_of, if_ahead, is_deadline_in, is_fact_in, next_deadline, opening_rows, parts_of, refusal, rows_after, rows_from, started, step, with_deadline, with_fact, without_hearing}
+use Rattle.docket_rows.specs.Words.{AreSound, CourtSetup, DocketedDeadline, DocketedFact, Rows, answer_if_made, answered, ended_answer, hearing_of, if_ahead, is_deadline_in, is_fact_in, is_kept, next_deadline, opening_rows, parts_of, refusal, rows_after, rows_from, started, step, with_deadline, with_fact, without_hearing}
 use Rattle.rule6.specs.declared.timeliness.Shown.{Shown}
 use Rattle.rule_periods.specs.declared.grant.Request.{Request}
 use Rattle.rule_periods.specs.Words.{DeadlineRowView, is_order}
@@ -66,6 +66,8 @@ module _ (Holds : ℕ → Type 0) (row : ℕ) (command : Command) (holds : Holds
   made_at answer.Reopened = asked_at (change_asked command)
   made_at (answer.Ruled day) = asked_at (change_by command day)
   made_at answer.Assigned = asked_at (change_asked command)
+  made_at answer.Titled = asked_at (change_asked command)
+  made_at answer.Labelled = asked_at (change_asked command)
   made_at (answer.Resumed shown) = asked_at (change_asked command)
   made_at (answer.Refused refusal) = All-nil (λ (c : RowChange). Holds c.row)
 
@@ -122,13 +124,18 @@ extension_touches : (case row of deadline : ℕ) (request : Request) (order : Bo
 extension_touches case row of deadline request true end other = other
 extension_touches case row of deadline request false end other = other
 
+-- one more fact of another case, which is kept or isn't
+kept_elsewhere : (facts : List DocketedFact) (case : ℕ) (f : DocketedFact) (kept : Bool) → (f.case == case) ≡ false → filter (is_fact_in case) (facts ++ cond kept (f ∷ []) []) ≡ filter (is_fact_in case) facts
+kept_elsewhere facts case f true other = filter-append (is_fact_in case) facts (f ∷ []) ∙ rw other (append-nil (filter (is_fact_in case) facts))
+kept_elsewhere facts case f false other = ap (filter (is_fact_in case)) (append-nil facts)
+
 -- a fact of another case
 recorded_elsewhere : (rows : Rows) (case of : ℕ) (fact : FactOf) → (of == case) ≡ false → KeepsEvents case rows (with_fact of fact rows)
 recorded_elsewhere rows case of fact other = record {
   days = refl;
   deadlines = refl;
   hearings = λ motion. refl;
-  facts = filter-append (is_fact_in case) rows.facts (record { case = of; fact = fact } ∷ []) ∙ rw other (append-nil (filter (is_fact_in case) rows.facts));
+  facts = kept_elsewhere rows.facts case (record { case = of; fact = fact }) (is_kept fact) other;
 }
 
 -- a ruling in another case, which takes this hearing of its motion off, if any
@@ -185,6 +192,8 @@ made_keeps setup rows case row sound (Fact of (Ruled of_motion how dated)) free 
     let P : Option Hearing → Type 0 = λ set. made_touches case (change_made row (Fact of (Ruled of_motion how dated)) (answer.Ruled (option_map (λ (h : Hearing). h.day) (if_ahead dated set)))) ≡ false in
     ruled_elsewhere rows case row of of_motion how dated (if_ahead dated (hearing_of rows of of_motion)) (subst P (hearing_seen setup rows sound of of_motion) other)
 made_keeps setup rows case row sound (Fact of (Assigned judge referred dated)) free other = recorded_elsewhere rows case of (Assigned judge referred dated) other
+made_keeps setup rows case row sound (Fact of Titled) free other = recorded_elsewhere rows case of Titled other
+made_keeps setup rows case row sound (Fact of (Labelled counted number)) free other = recorded_elsewhere rows case of (Labelled counted number) other
 
 step_keeps : (setup : CourtSetup) (rows : Rows) (case row : ℕ) → AreSound setup rows → (command : Command) → made_touches case (change_made row command (step setup rows command).1) ≡ false → KeepsEvents case rows (step setup rows command).0
 unfolding step answered

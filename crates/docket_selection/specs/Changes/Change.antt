@@ -7,7 +7,7 @@ use Rattle.docket_rows.specs.declared.command.Command.{Command}
 use Rattle.docket_rows.specs.declared.command.Command.TheVariants.{OpenCase, Start, FileAct, Extend, Motion, Holiday, Inaccessible, Fact}
 use Rattle.docket_rows.specs.declared.command.HearingOrder.{HearingOrder}
 use Rattle.docket_rows.specs.declared.fact.Fact.{Fact as FactOf}
-use Rattle.docket_rows.specs.declared.fact.Fact.TheVariants.{Ended, Resumed, Closed, Reopened, Ruled, Assigned}
+use Rattle.docket_rows.specs.declared.fact.Fact.TheVariants.{Ended, Resumed, Closed, Reopened, Ruled, Assigned, Titled, Labelled}
 use Rattle.docket_rows.specs.declared.hearing.Setting.{Setting}
 use Rattle.docket_rows.specs.Words.{hearing_asked, order_of}
 use Rattle.docket_selection.specs.declared.changes.change.Change.{Change}
@@ -27,7 +27,7 @@ order_made order = option_map_or setting_made order.setting (Some (record { case
 abbrev pub hearing_change : Command → Option HearingChange
 hearing_change command = option_and_then order_made (order_of command)
 
--- what a fact of a case changes of what calendars show: its deadlines, or the judges before whom they are
+-- what a fact of a case changes of what calendars show: its deadlines, also what they are called, or the judges before whom they are
 abbrev pub fact_change : (case : ℕ) → FactOf → Change
 fact_change case (Ended deadline why dated) = Deadline case
 fact_change case (Resumed deadline dated) = Deadline case
@@ -35,6 +35,8 @@ fact_change case (Closed why dated) = Deadline case
 fact_change case (Reopened dated) = Deadline case
 fact_change case (Ruled motion how dated) = Deadline case
 fact_change case (Assigned judge referred dated) = Judges case judge referred
+fact_change case Titled = Deadline case
+fact_change case (Labelled counted number) = Deadline case
 
 -- What a command asks for changes of what calendars show: a deadline of a case, which is started, extended, ended or resumed, or for
 -- which an act or a fact of the case is recorded; the court's days, by a holiday or an outage, on which the end of any deadline may rest;

@@ -100,6 +100,8 @@ fn fact_change(case: u32, fact: &Fact) -> Change
             referred,
             ..
         } => Change::Judges(case, judge, referred),
+        Fact::Titled => Change::Deadline(case),
+        Fact::Labelled { .. } => Change::Deadline(case),
     }
 }
 

@@ -13,13 +13,9 @@ use hearing_slots::Need;
 use std::alloc::AllocError;
 use std::fmt::Write;
 
-/// Adds the line of a motion, and that of its hearing, if one is set.
+/// Adds the line of a motion, and that of its hearing, if one is set. `Err` says that memory ran out.
 #[tactic(auto, unfolding(crate::specs::Sheets::motion_lines))]
-pub(super) fn push_motion(
-    text: &mut String,
-    court: &Court,
-    motion: &SheetMotion,
-) -> Result<(), AllocError>
+pub fn push_motion(text: &mut String, court: &Court, motion: &SheetMotion) -> Result<(), AllocError>
     ensures { OnOk result (AddsText text.old text.new (motion_lines court.now motion.now)) }
 {
     let served = motion.served;

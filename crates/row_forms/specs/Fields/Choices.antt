@@ -7,6 +7,8 @@ use Rattle.rule6.specs.declared.service.ServiceKind.{ServiceKind}
 use Rattle.rule6.specs.declared.service.ServiceKind.TheVariants.{HandA, LeftB, MailC, ClerkD, ElectronicE, OtherF}
 use Rattle.rule6.specs.declared.timeliness.Means.{Means}
 use Rattle.rule6.specs.declared.timeliness.Means.TheVariants.{Electronic, Paper}
+use Rattle.docket_rows.specs.declared.command.Counted.{Counted}
+use Rattle.docket_rows.specs.declared.command.Counted.TheVariants.{Deadline, Motion}
 use Rattle.docket_rows.specs.declared.fact.Closing.{Closing}
 use Rattle.docket_rows.specs.declared.fact.Closing.TheVariants as closing
 use Rattle.docket_rows.specs.declared.fact.Ending.{Ending}
@@ -69,6 +71,10 @@ ruling_of text =
     else if bytes_eq text (codes "withdrawn") then Some ruling.Withdrawn
     else if bytes_eq text (codes "reserved") then Some ruling.Reserved
     else None
+
+-- whether a deadline or a motion is meant
+unfoldable pub counted_of : List ℕ → Option Counted
+counted_of text = if bytes_eq text (codes "deadline") then Some Deadline else if bytes_eq text (codes "motion") then Some Motion else None
 
 -- whether something is so
 unfoldable pub is_so : List ℕ → Option Bool

@@ -5,7 +5,7 @@ use Rattle.std.specs.Str.{bytes_eq}
 use Rattle.row_forms.specs.declared.forms.table.Form.{Form}
 use Rattle.row_forms.specs.declared.forms.table.Form.TheVariants as form
 use Rattle.row_forms.specs.declared.headings.columns.Column.{Column}
-use Rattle.row_forms.specs.declared.headings.columns.Column.TheVariants.{Clerk, Command, Case, Deadline, Motion, Period, Date, Time, Start, TimeOrNone, SecondOrNone, ServiceOrNone, Means, Grant, ByMotion, Cause, Neglect, Need, Holidays, From, To, Judge, Judges, Room, Slots, Notice, Act, Why, Closing, ResumeDay, Ruling, JudgeOrNone, Dated}
+use Rattle.row_forms.specs.declared.headings.columns.Column.TheVariants.{Clerk, Command, Case, Deadline, Motion, Period, Date, Time, Start, TimeOrNone, SecondOrNone, ServiceOrNone, Means, Grant, ByMotion, Cause, Neglect, Need, Holidays, From, To, Judge, Judges, Room, Slots, Notice, Act, Why, Closing, ResumeDay, Ruling, JudgeOrNone, Dated, Title, Counted, Number, Label}
 
 -- the forms of the rows of clerk_office
 abbrev pub office_forms : List Form
@@ -14,7 +14,7 @@ office_forms =
 
 -- the forms of the rows of the desk
 abbrev pub forms : List Form
-forms = office_forms ++ form.Set ∷ form.Reset ∷ form.End ∷ form.Resume ∷ form.Close ∷ form.Reopen ∷ form.Rule ∷ form.Assign ∷ []
+forms = office_forms ++ form.Set ∷ form.Reset ∷ form.End ∷ form.Resume ∷ form.Close ∷ form.Reopen ∷ form.Rule ∷ form.Assign ∷ form.Title ∷ form.Label ∷ []
 
 -- the command word of a form
 abbrev pub command_word : Form → List ℕ
@@ -39,6 +39,8 @@ command_word form.Close = codes "close"
 command_word form.Reopen = codes "reopen"
 command_word form.Rule = codes "rule"
 command_word form.Assign = codes "assign"
+command_word form.Title = codes "title"
+command_word form.Label = codes "label"
 
 -- the columns of rows that set a hearing
 abbrev pub setting_columns : List Column
@@ -67,6 +69,8 @@ columns_of_form form.Close = Clerk ∷ Command ∷ Case ∷ Closing ∷ Dated �
 columns_of_form form.Reopen = Clerk ∷ Command ∷ Case ∷ Dated ∷ []
 columns_of_form form.Rule = Clerk ∷ Command ∷ Case ∷ Motion ∷ Ruling ∷ Dated ∷ []
 columns_of_form form.Assign = Clerk ∷ Command ∷ Case ∷ Judge ∷ JudgeOrNone ∷ Dated ∷ []
+columns_of_form form.Title = Clerk ∷ Command ∷ Case ∷ Title ∷ []
+columns_of_form form.Label = Clerk ∷ Command ∷ Case ∷ Counted ∷ Number ∷ Label ∷ []
 
 -- the word is this form's
 unfoldable pub is_word_of : List ℕ → Form → Bool

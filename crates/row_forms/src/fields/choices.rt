@@ -1,10 +1,10 @@
 //! Fields that say one of a few words.
 
 ghost use Rattle.std.specs.Prelude.{◌≡◌};
-ghost use Rattle.row_forms.specs.Fields.Choices.{closing_of, ending_of, is_so, kind_if_given, kind_of, list_of, means_of, ruling_of};
+ghost use Rattle.row_forms.specs.Fields.Choices.{closing_of, counted_of, ending_of, is_so, kind_if_given, kind_of, list_of, means_of, ruling_of};
 
 use court_days::HolidayList;
-use docket_rows::{Closing, Ending, Ruling};
+use docket_rows::{Closing, Counted, Ending, Ruling};
 use rule6::{Means, ServiceKind};
 
 /// The kind of service that a field says; an empty field says none.
@@ -101,6 +101,18 @@ pub fn ending_of(text: &str) -> Option<Ending>
         "stayed" => Some(Ending::Stayed),
         "suspended" => Some(Ending::Suspended),
         "withdrawn" => Some(Ending::Withdrawn),
+        _ => None,
+    }
+}
+
+/// Whether a deadline or a motion is meant.
+#[tactic(auto, unfolding(crate::specs::Fields::Choices::counted_of))]
+pub fn counted_of(text: &str) -> Option<Counted>
+    ensures { result ≡ counted_of text.now }
+{
+    match text {
+        "deadline" => Some(Counted::Deadline),
+        "motion" => Some(Counted::Motion),
         _ => None,
     }
 }

@@ -5,9 +5,10 @@ ghost use Rattle.std.specs.Prelude.{◌≡◌, find, map, option_map};
 ghost use Rattle.row_forms.specs.Forms.Table.{columns_of, columns_of_form, command_word, commands_listed, form_of, forms, is_word_of, office_form_of};
 
 use crate::headings::Column::{
-    self, Act, ByMotion, Case, Cause, Clerk, Closing, Command, Date, Dated, Deadline, From, Grant,
-    Holidays, Judge, JudgeOrNone, Judges, Means, Motion, Need, Neglect, Notice, Period, ResumeDay,
-    Room, Ruling, SecondOrNone, ServiceOrNone, Slots, Start, Time, TimeOrNone, To, Why,
+    self, Act, ByMotion, Case, Cause, Clerk, Closing, Command, Counted, Date, Dated, Deadline,
+    From, Grant, Holidays, Judge, JudgeOrNone, Judges, Label, Means, Motion, Need, Neglect, Notice,
+    Number, Period, ResumeDay, Room, Ruling, SecondOrNone, ServiceOrNone, Slots, Start, Time,
+    TimeOrNone, Title, To, Why,
 };
 
 /// The form of a row: which command or query it asks for.
@@ -55,6 +56,10 @@ pub enum Form {
     Rule,
     /// Assigns a case to a judge. It is of the desk alone.
     Assign,
+    /// Gives a case a title. It is of the desk alone.
+    Title,
+    /// Gives a deadline or a motion a label. It is of the desk alone.
+    Label,
 }
 
 /// The forms of the rows of clerk_office.
@@ -75,7 +80,7 @@ pub const OFFICE_FORMS: [Form; 13] = [
 ];
 
 /// The forms of the rows of the desk.
-pub const FORMS: [Form; 21] = [
+pub const FORMS: [Form; 23] = [
     Form::Open,
     Form::Start,
     Form::File,
@@ -97,10 +102,12 @@ pub const FORMS: [Form; 21] = [
     Form::Reopen,
     Form::Rule,
     Form::Assign,
+    Form::Title,
+    Form::Label,
 ];
 
 /// The command words, in the order of the forms.
-pub const COMMANDS: [&str; 21] = [
+pub const COMMANDS: [&str; 23] = [
     "open",
     "start",
     "file",
@@ -122,6 +129,8 @@ pub const COMMANDS: [&str; 21] = [
     "reopen",
     "rule",
     "assign",
+    "title",
+    "label",
 ];
 
 /// The columns of a form's rows, from the first on.
@@ -170,6 +179,8 @@ pub fn columns_of_form(form: Form) -> &'static [Column]
         Form::Reopen => &[Clerk, Command, Case, Dated],
         Form::Rule => &[Clerk, Command, Case, Motion, Ruling, Dated],
         Form::Assign => &[Clerk, Command, Case, Judge, JudgeOrNone, Dated],
+        Form::Title => &[Clerk, Command, Case, Title],
+        Form::Label => &[Clerk, Command, Case, Counted, Number, Label],
     }
 }
 
@@ -192,7 +203,7 @@ pub fn commands() -> &'static [&'static str]
 pub fn commands_listed() -> &'static str
     ensures { result.now ≡ commands_listed }
 {
-    "open, start, file, extend, motion, book, move, cancel, holiday, inaccessible, compute, sheet, calendar, set, reset, end, resume, close, reopen, rule or assign"
+    "open, start, file, extend, motion, book, move, cancel, holiday, inaccessible, compute, sheet, calendar, set, reset, end, resume, close, reopen, rule, assign, title or label"
 }
 
 // Whether the word is this form's.

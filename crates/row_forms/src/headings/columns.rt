@@ -72,6 +72,14 @@ pub enum Column {
     Ruling,
     /// A judge to whom a case is referred, or nothing.
     JudgeOrNone,
+    /// What a case is called.
+    Title,
+    /// Whether a deadline or a motion is meant.
+    Counted,
+    /// The number of a deadline or of a motion.
+    Number,
+    /// What a deadline or a motion is called.
+    Label,
 }
 
 /// The column of that number, counted from 0.
@@ -113,6 +121,10 @@ pub fn name_of(column: Column) -> &'static str
         Column::Why | Column::Closing => "why",
         Column::Ruling => "ruling",
         Column::JudgeOrNone => "referred",
+        Column::Title => "title",
+        Column::Counted => "of",
+        Column::Number => "number",
+        Column::Label => "label",
     }
 }
 
@@ -153,6 +165,10 @@ pub fn mark_of(word: &str, column: Column) -> &str
         Column::ResumeDay => "[DAY]",
         Column::Ruling => "RULING",
         Column::JudgeOrNone => "[JUDGE2]",
+        Column::Title => "TITLE",
+        Column::Counted => "deadline|motion",
+        Column::Number => "NUMBER",
+        Column::Label => "LABEL",
     }
 }
 

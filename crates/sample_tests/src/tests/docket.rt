@@ -4,8 +4,8 @@ use super::{court, day};
 use court_days::HolidayList;
 use docket_core::Docket;
 use docket_rows::{
-    Answer, Assignment, Closing, Command, Ending, Fact, Query, Refusal, Ruling, Setting, Sheet,
-    View,
+    Answer, Assignment, Closing, Command, Counted, Ending, Fact, Query, Refusal, Ruling, Setting,
+    Sheet, View,
 };
 use hearing_slots::{Need, Panel};
 use rule_periods::{Event, Period, RulePeriod};
@@ -181,6 +181,33 @@ fn closes_and_reopens(rt: &impl Abort, alloc: Global, docket: &mut Docket) -> Re
         &start(rt),
         &Answer::Started(1, last(rt, "2025-03-24")),
     )
+}
+
+/// Gives names to case 1 and to its deadline, and in vain to what isn't there.
+fn names_what_is_there(rt: &impl Abort, alloc: Global, docket: &mut Docket) -> Result<(), Fail> {
+    let number = 1;
+    let title = fact(Fact::Titled);
+    let counted = Counted::Deadline;
+    let deadline = fact(Fact::Labelled { counted, number });
+    let counted = Counted::Motion;
+    let motion = fact(Fact::Labelled { counted, number });
+    let no_case = Answer::Refused(Refusal::NoSuchCase);
+    let no_deadline = Answer::Refused(Refusal::NoSuchDeadline);
+    let no_motion = Answer::Refused(Refusal::NoSuchMotion);
+    let started = Answer::Started(1, last(rt, "2025-03-24"));
+    gives(rt, alloc, docket, &title, &no_case)?;
+    gives(rt, alloc, docket, &open_case(rt), &Answer::Opened)?;
+    gives(rt, alloc, docket, &title, &Answer::Titled)?;
+    gives(rt, alloc, docket, &deadline, &no_deadline)?;
+    gives(rt, alloc, docket, &motion, &no_motion)?;
+    gives(rt, alloc, docket, &start(rt), &started)?;
+    gives(rt, alloc, docket, &deadline, &Answer::Labelled)
+}
+
+#[test]
+fn a_case_and_a_deadline_are_named(rt: HostRuntime) -> Result<(), Fail> {
+    let mut docket = opening(rt.alloc())?;
+    names_what_is_there(&rt, rt.alloc(), &mut docket)
 }
 
 #[test]
