@@ -33,7 +33,7 @@ from reference.civil import day_of_text, day_text, minute_of_text, minute_text, 
 from reference.court_file import court_of, split, table_of
 from reference.docket import STEPS, assignment_of, case_of, deadlines_of, ending_of, hearing_of, motions_of, opening, step, view
 from reference.rows_in import grant as grant_of, reset_to, rows_of
-from reference.text_out import sheet_lines, shown_text
+from reference.text_out import assigned_text, sheet_lines, shown_text
 
 # Of the periods of the Rules the number of days, the act, whether they run from service under Rule 5(b)(2), and the day
 # from which they are so.
@@ -530,9 +530,15 @@ def shape(texts):
     return tuple(re.sub(r"\d+", "", text[18:]) for text in texts)
 
 
-def memo_of(programs, data, *words):
-    """What the memo says below its head, which must be that of the court and of these words, or the status and the line where what is
-    asked for isn't there. Its page must have the same lines."""
+def judge_of(ended, case):
+    """Who has the case after all rows, and to whom it is referred. None where it isn't assigned."""
+    _, court, docket, _ = ended
+    return assigned_text(court, docket, case).partition(" ")[2] or None
+
+
+def memo_of(programs, data, *words, judge=None):
+    """What the memo says below its head, which must be that of the court, of these words and of this judge, or the status and the line
+    where what is asked for isn't there. Its page must have the same lines."""
     ended = report_of(programs, ["memo", *words], data)
     if ended.status == 6 and not ended.output:
         return b"status 6\n" + ended.errors
@@ -543,7 +549,7 @@ def memo_of(programs, data, *words):
     if page != page_of(text) or memo_on(page) != text:
         sys.exit("another page: {}".format(words))
     text = text if "--today" in given else without_made(text)
-    return below_head(text, head_of(split(data)[0], given.get("--case"), given.get("--today"))).encode()
+    return below_head(text, head_of(split(data)[0], given.get("--case"), given.get("--today"), judge=judge)).encode()
 
 
 def all_derivations(programs, data, chance):
@@ -552,10 +558,10 @@ def all_derivations(programs, data, chance):
     ended = docket_after(data)
     opened = [case.number for case in ended[2].cases]
     for case in opened + [max(opened, default=0) % 4096 + 1]:
-        yield from whole_case(ended, memo_of(programs, data, "--case", str(case)), case, None)
+        yield from whole_case(ended, memo_of(programs, data, "--case", str(case), judge=judge_of(ended, case)), case, None)
     for case in opened:
         for day in [a_date(chance)] + ends_near(ended, case, chance):
-            output = memo_of(programs, data, "--case", str(case), "--today", day)
+            output = memo_of(programs, data, "--case", str(case), "--today", day, judge=judge_of(ended, case))
             yield from whole_case(ended, output, case, day_of_text(day))
 
 

@@ -8,6 +8,7 @@ import tempfile
 from html.parser import HTMLParser
 
 from lib.desk import Desk, FAULTS, FAULTY, NO_TEXTS, SHORT_COURT, TEXTS, told_of
+from lib.memo_head import HEAD
 
 # Texts with quotes, commas and backslashes too, and the longest.
 HOSTILE = TEXTS + ["\"quoted\" and 'single'", "a,b;c", "'); DROP TABLE cases; --", "back\\slash \\n \\, \\;", "</title></h3><b onclick=x>", "&lt;b&gt;",
@@ -90,6 +91,8 @@ def compare(desk, title, of_deadline, of_motion, plain):
     for words in (["sheet", "1:25-cv-5"], ["memo", "--case", "1:25-cv-5"]):
         sheet = said(desk, *words)
         assert all("\n" + line in sheet for line in lines), (words, sheet, lines)
+    head, of_all = HEAD.match(said(desk, "memo", "--case", "1:25-cv-5")), HEAD.match(said(desk, "memo"))
+    assert (head["case"], head["title"], head["judge"], of_all["title"]) == ("1:25-cv-5", title, None, None), (head, of_all)
     assert [line for line in said(desk, "memo").splitlines(True) if line in lines] == [], "the answers of a memo have what things are called"
     page = Elements(said(desk, "page"))
     assert page.tags == Elements(plain["page"]).tags, (title, page.tags)

@@ -1,5 +1,5 @@
-"""The head of `docket memo`: the court, where its file names it in a comment; the case; the day on which the memo is made; and the
-edition of the Rules. An empty line ends it.
+"""The head of `docket memo`: the court, where its file names it in a comment; the case, with what rows call it and who has it; the day on
+which the memo is made; and the edition of the Rules. An empty line ends it.
 """
 import datetime
 import re
@@ -7,7 +7,8 @@ import re
 # How the line begins that names the court.
 NAMING = "# The court's file of the "
 EDITION = "Rules    Federal Rules of Civil Procedure, as amended on 1 December 2025\n\n"
-HEAD = re.compile(r"(?:Court    (?P<court>.+)\n)?(?:Case     (?P<case>.+)\n)?(?:Made     (?P<made>.+)\n)?" + re.escape(EDITION))
+LABELS = ("Court", "Case", "Title", "Judge", "Made")
+HEAD = re.compile("".join(r"(?:{:<9}(?P<{}>.+)\n)?".format(label, label.lower()) for label in LABELS) + re.escape(EDITION))
 
 
 def court_name(file):
@@ -21,10 +22,10 @@ def whole_day(date):
     return datetime.date.fromisoformat(date).strftime("%a %Y-%m-%d")
 
 
-def head_of(file, case=None, made=None):
-    """The head of a memo, where the court has this file. `case` is what the case is called, and `made` the date on which the memo is
-    made; either may be None."""
-    said = [("Court", court_name(file)), ("Case", case), ("Made", None if made is None else whole_day(made))]
+def head_of(file, case=None, made=None, title=None, judge=None):
+    """The head of a memo, where the court has this file. `case` is the number of the case, `title` what rows call it, `judge` who has it,
+    and `made` the date on which the memo is made; each may be None."""
+    said = zip(LABELS, (court_name(file), case, title, judge, None if made is None else whole_day(made)))
     return "".join("{:<9}{}\n".format(label, text) for label, text in said if text is not None) + EDITION
 
 

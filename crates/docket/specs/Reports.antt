@@ -42,9 +42,11 @@ IsReport asked entries text = AfterEntries entries (λ under.
 abbrev pub IsNoReport : ReportAsked → (entries : List (List ℕ)) → (line : List ℕ) → Type 0
 IsNoReport asked entries line = AfterEntries entries (λ under. IsMissing asked under.court (cases_of under entries).named (rows_standing under entries) line)
 
--- the head of the memo of a folder: the court that its file names, the case, and the day on which the memo is made
+-- the head of the memo of a folder: the court that its file names, the case with what rows call it and who has it, and the day on which the
+-- memo is made
 abbrev pub folder_head : MemoAsked → Standing → (entries : List (List ℕ)) → List ℕ
-folder_head asked under entries = head_of (standing_file entries) (cases_of under entries).named asked.case (Some (day_made under.court asked))
+folder_head asked under entries =
+    head_of (standing_file entries) under.court (cases_of under entries).named (called_standing under entries) (rows_standing under entries) asked.case (Some (day_made under.court asked))
 
 -- the same of the memo, below its head, as text or as a page
 abbrev pub IsMemo : MemoAsked → (entries : List (List ℕ)) → (text : List ℕ) → Type 0

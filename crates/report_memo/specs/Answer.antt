@@ -1,6 +1,6 @@
 -- What is written, by what is asked for: a head, and the whole memo, or that of one case, as text or as a page; and the line where it
 -- isn't there.
-use Rattle.std.specs.Prelude.{◌≡◌, ℕ, ℤ, List, ◌++◌, Option, Some, None, codes, MatchOption}
+use Rattle.std.specs.Prelude.{◌≡◌, ℕ, ℤ, List, [], ◌++◌, Option, Some, None, codes, MatchOption}
 use Rattle.office_texts.specs.Names.Words.{called_text, number_called}
 use Rattle.office_texts.specs.declared.names.called.CaseCalled.{CaseCalled}
 use Rattle.court_days.specs.Words.{CourtView, file_of}
@@ -10,6 +10,7 @@ use Rattle.program_runs.specs.Words.{Input}
 use Rattle.report_memo.specs.declared.asked.Asked.{Asked}
 use Rattle.report_memo.specs.Case.{IsCaseClosed, IsCaseMemo}
 use Rattle.report_texts.specs.Words.{LabelsView}
+use Rattle.report_memo.specs.Head.{head_of}
 use Rattle.report_memo.specs.Memo.{IsMemo}
 use Rattle.report_memo.specs.Page.{shown_as}
 
@@ -47,11 +48,12 @@ pub record IsWritten (head : List ℕ) (asked : Asked) (court : CourtView) (labe
 abbrev pub IsMissing : Asked → CourtView → LabelsView → List NumberedRow → List ℕ → Type 0
 IsMissing asked court labels rows = IsMissingBy court labels rows asked.case
 
--- the text of an input with that head, in the court whose file it has: its rows are numbered from 1
-pub record IsAnswerOf (asked : Asked) (head : List ℕ) (labels : LabelsView) (input : Input) (text : List ℕ) : Type 0 where
+-- the text of an input, in the court whose file it has: no case has a name, nothing is called anything, rows are numbered from 1, and
+-- the memo is made on the day that is asked for
+pub record IsAnswerOf (asked : Asked) (file : List ℕ) (labels : LabelsView) (input : Input) (text : List ℕ) : Type 0 where
   pub court : CourtView
   pub is_court : file_of court ≡ input.file
-  pub is_written : IsWritten head asked court labels (numbered_from 1 input.rows) text
+  pub is_written : IsWritten (head_of file court [] [] (numbered_from 1 input.rows) asked.case asked.today) asked court labels (numbered_from 1 input.rows) text
 
 -- the line that says that the case isn't there, in that court
 pub record IsMissingOf (asked : Asked) (labels : LabelsView) (input : Input) (line : List ℕ) : Type 0 where

@@ -11,6 +11,7 @@ pub mod Case
 pub mod CommandLine
 pub mod Asked
 pub mod CourtName
+pub mod AboutCase
 pub mod Head
 pub mod Page
 pub mod Answer

@@ -2,6 +2,7 @@
 //! sheet of a case.
 #![tactic(auto)]
 
+mod about_case;
 mod asked;
 mod calendars;
 mod called;

@@ -1,9 +1,7 @@
 //! What is asked for, as what is written.
 
-ghost use Rattle.std.specs.Prelude.{◌≡◌, ◌++◌, List, IfOk, string_bytes};
-ghost use Rattle.court_days.specs.Words.{CourtView};
+ghost use Rattle.std.specs.Prelude.{◌≡◌, ◌++◌, IfOk, string_bytes};
 ghost use Rattle.program_runs.specs.Words.{IsFinding};
-ghost use Rattle.row_forms.specs.declared.numbered.NumberedRow.{NumberedRow};
 ghost use Rattle.report_memo.specs.Answer.{IsAnswer, IsCalled, IsCalledMissing, IsMissing, IsWritten, no_case};
 ghost use Rattle.report_memo.specs.Head.{head_of};
 ghost use Rattle.report_memo.specs.Page.{shown_as};
@@ -31,7 +29,6 @@ use std::thread::Threads;
 impl Report for Asked {
     ghost use Rattle.std.specs.Prelude.{[]};
     ghost use Rattle.report_memo.specs.Answer.{IsAnswerOf, IsMissingOf};
-    ghost use Rattle.report_memo.specs.Head.{head_of};
     ghost use Rattle.report_texts.specs.Words.{labels_of};
 
     type Text = Vec<u8>;
@@ -39,7 +36,7 @@ impl Report for Asked {
     // The rows are one history, whoever gave them.
     ghost clerk_count = { λ asked. 64 };
 
-    ghost is_text = { λ asked file. IsAnswerOf asked (head_of file [] asked.case asked.today) (labels_of file [] [] []) };
+    ghost is_text = { λ asked file. IsAnswerOf asked file (labels_of file [] [] []) };
 
     ghost is_missing = { λ asked file. IsMissingOf asked (labels_of file [] [] []) };
 
@@ -92,11 +89,21 @@ pub fn memo_of(
     called: &CalledTexts,
     rows: &[NumberedRow],
 ) -> Result<Finding<Vec<u8>>, AllocError>
-    ensures { IfOk result (IsFinding (λ text. text.items) (IsWritten (head_of file.now cases.now.named asked.now.case made) asked.now court.now (labels_of file.now cases.now.named moved.now called.now) rows.now) (IsMissing asked.now court.now (labels_of file.now cases.now.named moved.now called.now) rows.now)) }
+    ensures { IfOk result (IsFinding (λ text. text.items) (IsWritten (head_of file.now court.now cases.now.named called.now rows.now asked.now.case made) asked.now court.now (labels_of file.now cases.now.named moved.now called.now) rows.now) (IsMissing asked.now court.now (labels_of file.now cases.now.named moved.now called.now) rows.now)) }
 {
     let found = body_of(alloc, asked, file, court, cases, moved, called, rows)?;
     match found {
-        Finding::Text(body) => written(alloc, asked, file, made, cases, body.as_str()),
+        Finding::Text(body) => written(
+            alloc,
+            asked,
+            file,
+            made,
+            court,
+            cases,
+            called,
+            rows,
+            body.as_str(),
+        ),
         Finding::Missing(line) => Ok(Finding::Missing(line)),
     }
 }
@@ -107,13 +114,16 @@ fn written(
     asked: &Asked,
     file: &[u8],
     made: Option<Day>,
+    court: &Court,
     cases: &Cases,
+    called: &CalledTexts,
+    rows: &[NumberedRow],
     body: &str,
 ) -> Result<Finding<Vec<u8>>, AllocError>
-    ensures { (court : CourtView) (labels : LabelsView) (rows : List NumberedRow) → IsAnswer asked.now court labels rows body.now →
-        IfOk result (IsFinding (λ text. text.items) (IsWritten (head_of file.now cases.now.named asked.now.case made) asked.now court labels rows) (IsMissing asked.now court labels rows)) }
+    ensures { (labels : LabelsView) → IsAnswer asked.now court.now labels rows.now body.now →
+        IfOk result (IsFinding (λ text. text.items) (IsWritten (head_of file.now court.now cases.now.named called.now rows.now asked.now.case made) asked.now court.now labels rows.now) (IsMissing asked.now court.now labels rows.now)) }
 {
-    let text = headed(alloc, asked, file, made, cases, body)?;
+    let text = headed(alloc, asked, file, made, court, cases, called, rows, body)?;
     Ok(Finding::Text(text))
 }
 
@@ -123,12 +133,15 @@ fn headed(
     asked: &Asked,
     file: &[u8],
     made: Option<Day>,
+    court: &Court,
     cases: &Cases,
+    called: &CalledTexts,
+    rows: &[NumberedRow],
     body: &str,
 ) -> Result<Vec<u8>, AllocError>
-    ensures { IfOk result (λ text. text.items ≡ shown_as asked.now.html (head_of file.now cases.now.named asked.now.case made) body.now) }
+    ensures { IfOk result (λ text. text.items ≡ shown_as asked.now.html (head_of file.now court.now cases.now.named called.now rows.now asked.now.case made) body.now) }
 {
-    let head = head_of(alloc, file, cases, &asked.case, made)?;
+    let head = head_of(alloc, file, court, cases, called, rows, &asked.case, made)?;
     shown_as(alloc, asked.html, head.as_str(), body)
 }
 

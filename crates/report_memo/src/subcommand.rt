@@ -20,9 +20,9 @@ stands in place of a section where the Rules leave a choice; where another
 reading gives another end, a line says which.
 
 First comes a head: the court, where its file names it in a comment; with
---case the case; the day on which the memo is made, which is that of --today or
-else of the clock, and left out with --input alone; and the edition of the
-Rules. It ends with an empty line.
+--case the case, what rows call it, and the judge who has it; the day on which
+the memo is made, which is that of --today or else of the clock, and left out
+with --input alone; and the edition of the Rules. It ends with an empty line.
 
 Of one case it writes the sheet alone, as it is after all rows: each deadline
 with its reasons, its act and by how much that was timely or late, how far a

@@ -6,4 +6,4 @@ pub returns-in-Text : goal.returns-in-Text
 returns-in-Text c =
     let labels : LabelsView = labels_of c.args.file.now c.args.cases.now.named c.args.moved.now c.args.called.now in
     let answer : IsAnswer c.args.asked.now c.args.court.now labels c.args.rows.now c.as_str.result.now = rw c.as_str.ensures.value (rw c.in-Text.is at c.in_ok-found.ensures) in
-    c.written.ensures c.args.court.now labels c.args.rows.now answer
+    c.written.ensures labels answer
