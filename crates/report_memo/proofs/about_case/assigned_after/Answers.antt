@@ -1,4 +1,4 @@
-use Rattle.std.proofs.Common.{◌≡◌, ◌∙◌, ap}
+use Rattle.std.proofs.Common.{◌∙◌, ap}
 use Rattle.docket_rows.specs.declared.query.Query.TheVariants as query
 use Rattle.docket_rows.specs.Words.{opening_rows, setup_of, view_of}
 use Rattle.row_forms.specs.Words.{rows_of}
