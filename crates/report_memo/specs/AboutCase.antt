@@ -1,5 +1,5 @@
 -- What the head of a memo says of the case that is asked for: its number, what rows call it, and who has it.
-use Rattle.std.specs.Prelude.{ℕ, List, [], ◌∷◌, ◌++◌, codes, Option, Some, None}
+use Rattle.std.specs.Prelude.{ℕ, ◌==◌, List, [], ◌++◌, length, codes, Option, Some, None, if◌then◌else◌}
 use Rattle.case_numbers.specs.Words.{case_text}
 use Rattle.case_numbers.specs.declared.names.NamedCase.{NamedCase}
 use Rattle.court_days.specs.Words.{CourtView}
@@ -20,8 +20,7 @@ number_line named case = codes "Case     " ++ case_text named case ++ codes "\n"
 
 -- `Title    Doe v. Acme`: what rows call the case, if they do
 abbrev pub title_line : (title : List ℕ) → List ℕ
-title_line [] = []
-title_line (b ∷ title) = codes "Title    " ++ (b ∷ title) ++ codes "\n"
+title_line title = if length title == 0 then [] else codes "Title    " ++ title ++ codes "\n"
 
 -- `Judge    Ames, referred to Cole`: who has the case, if it is assigned
 abbrev pub judge_line : (names : List (List ℕ)) → Option Assignment → List ℕ
