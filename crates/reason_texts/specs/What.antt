@@ -70,13 +70,25 @@ grant_words (Until day) = codes "extended "
 grant_words (Reset day) = codes "reset "
 grant_words (ResetAt at) = codes "reset "
 
+-- what isn't done, where the end is of another kind than the period
+abbrev pub ungranted_words : Grant → List ℕ
+ungranted_words (ByDays n) = codes "not extended "
+ungranted_words (ByHours h) = codes "not extended "
+ungranted_words (Until day) = codes "not extended "
+ungranted_words (Reset day) = codes "not reset "
+ungranted_words (ResetAt at) = codes "not reset "
+
+-- to which time of the day an order sets the end
+abbrev pub time_set : (minute : ℕ) → List ℕ
+time_set minute = codes "to " ++ minute_time minute ++ codes " of this day by an order"
+
 -- the date to which a time is extended or reset is in the column before it
 abbrev pub grant_text : Grant → List ℕ
 grant_text (ByDays n) = codes "by " ++ days_or_hours n (codes " day") (codes " days")
 grant_text (ByHours h) = codes "by " ++ days_or_hours h (codes " hour") (codes " hours")
 grant_text (Until day) = codes "to this day"
 grant_text (Reset day) = codes "to this day by an order"
-grant_text (ResetAt at) = codes "to " ++ minute_time at.minute ++ codes " of this day by an order"
+grant_text (ResetAt at) = time_set at.minute
 
 -- That the clocks were set forward or back meanwhile. The number is that of the seconds by which the clock is further
 -- ahead at the end of the hours than where they begin. Hours before an event end earlier than they begin.
@@ -112,7 +124,7 @@ first_words (reason.PassedOver day cause) = []
 first_words (reason.RunsTo day) = codes "the time runs to this day"
 first_words (reason.ThreeAdded kind) = codes "3 days added, served "
 first_words (reason.Extended grant) = grant_words grant
-first_words (reason.NotExtended grant) = codes "not "
+first_words (reason.NotExtended grant) = ungranted_words grant
 first_words (reason.HoursFrom instant) = codes "the event, at "
 first_words (reason.HoursCounted h instant forward) = codes "hour "
 first_words (reason.EndsOn day) = codes "the hours end on this day"
@@ -132,7 +144,7 @@ detail_text clock names direction (reason.Counted n day) = decimal n
 detail_text clock names direction (reason.PassedOver day cause) = cause_shown names day cause
 detail_text clock names direction (reason.ThreeAdded kind) = kind_text kind
 detail_text clock names direction (reason.Extended grant) = grant_text grant
-detail_text clock names direction (reason.NotExtended grant) = grant_words grant ++ grant_text grant
+detail_text clock names direction (reason.NotExtended grant) = grant_text grant
 detail_text clock names direction (reason.SetAt instant) = time_of_civil (civil_of clock.zone instant)
 detail_text clock names direction (reason.HoursFrom instant) = time_of_civil (civil_of clock.zone instant)
 detail_text clock names direction (reason.HoursCounted h instant forward) = hours_text clock direction h instant forward

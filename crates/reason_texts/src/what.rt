@@ -1,7 +1,8 @@
 //! What happened, in words.
 
 ghost use Rattle.std.specs.Prelude.{◌≡◌, ◌++◌, OnOk, codes, option_copied, string_bytes};
-ghost use Rattle.reason_texts.specs.What.{cause_called, cause_named, cause_shown, cause_text, cause_unnamed, change_text, change_words, days_or_hours, detail_text, end_times, first_words, grant_text, grant_words, hours_text, kind_text, last_words, name_of_cause, outage_text, what_text};
+ghost use Rattle.reason_texts.specs.Times.{minute_time};
+ghost use Rattle.reason_texts.specs.What.{cause_called, cause_named, cause_shown, cause_text, cause_unnamed, change_text, change_words, days_or_hours, detail_text, end_times, first_words, grant_text, grant_words, hours_text, kind_text, last_words, name_of_cause, outage_text, time_set, ungranted_words, what_text};
 
 use crate::names::{HolidayName, name_on, push_federal_name, push_legal};
 use crate::times::{push_day_end, push_minute, push_time_at};
@@ -43,7 +44,7 @@ fn first_words(reason: &Reason) -> &'static str
         Reason::RunsTo(_) => "the time runs to this day",
         Reason::ThreeAdded(_) => "3 days added, served ",
         Reason::Extended(grant) => grant_words(grant),
-        Reason::NotExtended(_) => "not ",
+        Reason::NotExtended(grant) => ungranted_words(grant),
         Reason::HoursFrom(_) => "the event, at ",
         Reason::HoursCounted(_, _, _) => "hour ",
         Reason::EndsOn(_) => "the hours end on this day",
@@ -72,11 +73,7 @@ fn push_detail(
         Reason::Counted(n, _) => write!(text, "{n}"),
         Reason::PassedOver(day, cause) => push_cause(text, names, day, cause),
         Reason::ThreeAdded(kind) => text.push_str(kind_words(kind)),
-        Reason::Extended(grant) => push_grant(text, grant),
-        Reason::NotExtended(grant) => {
-            text.push_str(grant_words(grant))?;
-            push_grant(text, grant)
-        }
+        Reason::Extended(grant) | Reason::NotExtended(grant) => push_grant(text, grant),
         Reason::SetAt(instant)
         | Reason::HoursFrom(instant)
         | Reason::SameTime(_, instant)
@@ -170,6 +167,16 @@ fn grant_words(grant: Grant) -> &'static str
     }
 }
 
+/// What isn't done, where the end is of another kind than the period.
+fn ungranted_words(grant: Grant) -> &'static str
+    ensures { result.now ≡ ungranted_words grant }
+{
+    match grant {
+        Grant::ByDays(_) | Grant::ByHours(_) | Grant::Until(_) => "not extended ",
+        Grant::Reset(_) | Grant::ResetAt(_) => "not reset ",
+    }
+}
+
 /// Adds how far the time is extended, or to when it is reset.
 fn push_grant(text: &mut String, grant: Grant) -> Result<(), AllocError>
     ensures { OnOk result (string_bytes text.new ≡ string_bytes text.old ++ grant_text grant) }
@@ -179,12 +186,24 @@ fn push_grant(text: &mut String, grant: Grant) -> Result<(), AllocError>
         Grant::ByHours(h) => push_by(text, h, " hour", " hours"),
         Grant::Until(_) => text.push_str("to this day"),
         Grant::Reset(_) => text.push_str("to this day by an order"),
-        Grant::ResetAt(at) => {
-            text.push_str("to ")?;
-            push_minute(text, at.minute())?;
-            text.push_str(" of this day by an order")
-        }
+        Grant::ResetAt(at) => push_time_set(text, at.minute()),
     }
+}
+
+/// Adds to which time of the day an order sets the end.
+fn push_time_set(text: &mut String, minute: u16) -> Result<(), AllocError>
+    ensures { OnOk result (string_bytes text.new ≡ string_bytes text.old ++ time_set minute) }
+{
+    text.push_str("to ")?;
+    push_ordered_time(text, minute)
+}
+
+/// Adds a time of the day, and that an order sets it.
+fn push_ordered_time(text: &mut String, minute: u16) -> Result<(), AllocError>
+    ensures { OnOk result (string_bytes text.new ≡ string_bytes text.old ++ minute_time minute ++ codes " of this day by an order") }
+{
+    push_minute(text, minute)?;
+    text.push_str(" of this day by an order")
 }
 
 /// Adds by how many days or hours, as one or as many are called.
