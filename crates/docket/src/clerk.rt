@@ -1,5 +1,7 @@
 //! Rows that name no clerk, since all are of one.
 
+ghost use Rattle.std.specs.Prelude.{◌≡◌, ◌≤◌, length, take};
+
 use crate::fault::Fault;
 use desk_session::ShortLines;
 use program_runs::refused;
@@ -112,10 +114,19 @@ impl<R: Read + Drop> OfClerk<R> {
 }
 
 // Copies as many bytes as there is room for, and gives their number.
-fn copied(from: &[u8], to: &mut [u8]) -> usize {
-    let count = from.len().min(to.len());
-    to[..count].copy_from_slice(&from[..count]);
-    count
+#[tactic(auto, using(crate::proofs::ClerkLemmas::taken))]
+fn copied(from: Option<&[u8]>, to: &mut [u8]) -> usize
+    ensures room { result ≤ length to.new }
+    ensures count { result ≡ length (take result to.new) }
+{
+    match from {
+        Some(from) => {
+            let count = from.len().min(to.len());
+            to[..count].copy_from_slice(&from[..count]);
+            count
+        }
+        None => 0,
+    }
 }
 
 /// The lines of standard input, each as it is to be read and none too long.
@@ -132,10 +143,7 @@ impl<R: Read + Drop> Read for OfClerk<R> {
         if self.given >= self.made.len() {
             self.make()?;
         }
-        let count = match self.made.get(self.given..) {
-            Some(rest) => copied(rest, buf),
-            None => 0,
-        };
+        let count = copied(self.made.get(self.given..), buf);
         self.given = self.given.saturating_add(count);
         Ok(count)
     }

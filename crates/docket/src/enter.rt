@@ -18,6 +18,7 @@ use desk_program::{DeskFault, FileFault, Remembered, file_fault};
 use desk_session::{SessionFault, Tally, account_of, read_lines};
 use program_streams::{Watched, write_all};
 use program_words::{Entering, Keeping};
+use sqlite_disk::Disk;
 use sqlite_std_file::{FileFrom, Wary};
 use std::alloc::Global;
 use std::io::Write;
@@ -68,6 +69,26 @@ fn turn_of<H: Threads + Wait + Sync>(
     }
 }
 
+// What a turn has to say, once its file is closed.
+fn told_of<D: Disk + Drop>(turn: Turn<D>) -> Told {
+    let Turn { disk, told } = turn;
+    drop(disk);
+    told
+}
+
+// The same, with the file closed.
+fn told_turn<H: Threads + Wait + Sync>(
+    rt: &HostRuntime,
+    threads: &H,
+    folder: &str,
+    asked: &Entering,
+    left: Remembered,
+    account: &[u8],
+    rows: &[u8],
+) -> Result<Told, Fault> {
+    Ok(told_of(turn_of(rt, threads, folder, asked, left, account, rows)?))
+}
+
 // The same, while no other program has the folder. It is free again before anything of the turn is written.
 fn locked_turn<H: Threads + Wait + Sync>(
     rt: &HostRuntime,
@@ -81,8 +102,7 @@ fn locked_turn<H: Threads + Wait + Sync>(
     let name = journal_name(rt.alloc(), folder)?;
     let lock = lock_of(rt, folder, asked.wait)?;
     let place = journal_place(rt, name.as_str())?;
-    let Turn { disk, told } = turn_of(rt, threads, folder, asked, left, account, rows)?;
-    drop(disk);
+    let told = told_turn(rt, threads, folder, asked, left, account, rows)?;
     check_stays(rt, name.as_str(), place)?;
     drop(lock);
     Ok(told)
@@ -180,7 +200,7 @@ fn kept_by_turns<H: Threads + Wait + Sync, W: Write, E: Write>(
     let mut buffer = vec![in rt.alloc(); 0u8; CHUNK]?;
     let mut begun = Vec::new(rt.alloc());
     let mut tally = Tally::new();
-    for _ in 0..u64::MAX {
+    'turns: for _ in 0..u64::MAX {
         let lines = match read_lines(rt.alloc(), &mut reader, buffer.as_mut_slice(), &mut begun) {
             Ok(Some(lines)) => lines,
             Ok(None) => return taken(tally),
@@ -240,6 +260,32 @@ fn entered<H: Threads + Wait + Sync, W: Write, E: Write>(
     }
 }
 
+// What a turn left, and after which row.
+fn left_of(told: Told) -> (Remembered, u32) {
+    let Told { left, after, .. } = told;
+    (left, after)
+}
+
+// Opens the docket of a folder.
+fn first_left<H: Threads + Wait + Sync>(
+    rt: &HostRuntime,
+    threads: &H,
+    folder: &str,
+    asked: &Entering,
+) -> Result<(Remembered, u32), Fault> {
+    let turn = first_turn(rt, threads, folder, asked, b"", Wary)?;
+    Ok(left_of(told_of(turn)))
+}
+
+// What a session has before its first turn.
+fn session_of(alloc: Global, left: Remembered, account: Vec<u8>) -> Session {
+    Session {
+        left,
+        account,
+        own: OwnRows::new(alloc),
+    }
+}
+
 // Opens the docket of a folder for a session, and marks that it begins.
 fn begun<H: Threads + Wait + Sync>(
     rt: &HostRuntime,
@@ -249,17 +295,11 @@ fn begun<H: Threads + Wait + Sync>(
 ) -> Result<(Session, Option<Mark>), Fault> {
     let lock = lock_of(rt, folder, asked.wait)?;
     check_lock(rt, folder, &lock)?;
-    let Turn { disk, told } = first_turn(rt, threads, folder, asked, b"", Wary)?;
-    drop(disk);
+    let (left, after) = first_left(rt, threads, folder, asked)?;
     let account = account_of(rt)?;
-    let mark = begin_session(rt, folder, &lock, &account, told.after)?;
+    let mark = begin_session(rt, folder, &lock, &account, after)?;
     drop(lock);
-    let session = Session {
-        left: told.left,
-        account,
-        own: OwnRows::new(rt.alloc()),
-    };
-    Ok((session, mark))
+    Ok((session_of(rt.alloc(), left, account), mark))
 }
 
 // Ends a session: its mark is taken away, unless rows are kept that weren't answered.
