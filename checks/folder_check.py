@@ -43,7 +43,8 @@ def reports(draw):
     case, day = str(draw.randint(1, 3)), "2025-{:02}-{:02}".format(draw.randint(3, 9), draw.randint(1, 28))
     yield from (["due"], ["due", "--from", day, "--judge", "Ames"], ["due", "--case", case], ["week", "--judge", "Ames", "--of", day],
                 ["page"], ["page", "--case", case], ["ics", "--stamp", "20250901T120000Z"], ["ics", "--stamp", "20250901T120000Z", "--judge", "Ames"],
-                ["json"], ["json", "--lines"], ["json", "--to", day], ["sql"], ["memo"], ["memo", "--case", case, "--today", day],
+                ["json"], ["json", "--lines"], ["json", "--to", day], ["sql"], ["pending", "--on", day],
+                ["pending", "--on", day, "--page"], ["memo"], ["memo", "--case", case, "--today", day],
                 ["memo", "--case", case, "--today", day, "--html"])
 
 

@@ -221,9 +221,13 @@ has_other_days given = (is_some (first_of (codes "from") given) || is_some (firs
 abbrev pub days_alone_faults : List Row → Kinds
 days_alone_faults given = faults_together (is_some (first_of (codes "days") given)) (has_other_days given)
 
+-- what is pending is written as a page or as a table, not as both
+abbrev pub one_form_faults : List Row → Kinds
+one_form_faults given = faults_together (is_flag (first_of (codes "page") given)) (is_flag (first_of (codes "csv") given))
+
 -- the faults of options that don't go together
 abbrev pub apart_faults : List Row → Kinds
-apart_faults given = or_else (lines_alone_faults given) (days_alone_faults given)
+apart_faults given = or_else (or_else (lines_alone_faults given) (days_alone_faults given)) (one_form_faults given)
 
 -- The places of a sheet are those of a folder and a case; where an input is given, the first is that of the case.
 abbrev pub sheet_folder : (first second input : Option Text) → Option Text
@@ -256,11 +260,14 @@ sheet_asked clock_time case = record {
   from = None;
   to = None;
   of = None;
+  on = None;
   today = None;
   stamp = None;
   clock_time = clock_time;
   lines = false;
   overdue = false;
+  page = false;
+  csv = false;
 }
 
 -- ---- the subcommands

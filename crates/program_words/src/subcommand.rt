@@ -30,7 +30,7 @@ pub(crate) enum Subcommand {
     Rows,
     /// `log`.
     Log,
-    /// `due`, `week`, `page`, `ics`, `json` or `sql`.
+    /// `due`, `week`, `page`, `ics`, `json`, `sql` or `pending`.
     Report,
     /// `memo`.
     Memo,

@@ -38,7 +38,7 @@ pub enum Task {
     Rows(String, Option<AsOf>),
     /// `log`: who entered what, and when.
     Log(String, LogAsked),
-    /// `due`, `week`, `page`, `ics`, `json`, `sql` or `sheet`.
+    /// `due`, `week`, `page`, `ics`, `json`, `sql`, `pending` or `sheet`.
     Report(Source, ReportAsked),
     /// `memo`.
     Memo(Source, MemoAsked),

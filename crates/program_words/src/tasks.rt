@@ -5,7 +5,7 @@ ghost use Rattle.clap.specs.Words.{Text, first_of, found_of, rows_of};
 ghost use Rattle.program_main.specs.Options.Words.{IsAnswerFor};
 ghost use Rattle.program_words.specs.declared.subcommand.Subcommand.{Subcommand};
 ghost use Rattle.program_words.specs.Given.{faults_without};
-ghost use Rattle.program_words.specs.Task.{IsCorrecting, IsSheetSource, IsSource, IsSourceOf, IsTask, apart_faults, correcting_faults, days_alone_faults, faults_given, has_other_days, is_narrowed, lines_alone_faults, report_source_faults, sheet_asked, sheet_case, sheet_folder, sheet_source_faults, source_faults};
+ghost use Rattle.program_words.specs.Task.{IsCorrecting, IsSheetSource, IsSource, IsSourceOf, IsTask, apart_faults, correcting_faults, days_alone_faults, faults_given, has_other_days, is_narrowed, lines_alone_faults, one_form_faults, report_source_faults, sheet_asked, sheet_case, sheet_folder, sheet_source_faults, source_faults};
 
 use crate::as_of::report_as_of;
 use crate::given::{apart, both, has_flag, is_given, mistake, needed, text_in};
@@ -25,6 +25,9 @@ const ALL_ANSWERS: &str =
 // What is said where days that count from today are given beside others.
 const OTHER_DAYS: &str =
     "the argument '--days <N>' cannot be used with '--from <DAY>', '--to <DAY>' or '--overdue'";
+
+// What is said where what is pending is to be written in two ways.
+const TWO_FORMS: &str = "the argument '--page' cannot be used with '--csv'";
 
 /// The folder.
 pub(crate) fn folder_in(alloc: Global, given: &ArgMatches<'_>) -> Result<String, OptionsFault>
@@ -186,11 +189,27 @@ fn days_alone(alloc: Global, given: &ArgMatches<'_>) -> Result<(), OptionsFault>
     )
 }
 
+/// Whether what is pending is to be written in one way. BadWords where it is to be a page and a table.
+fn one_form(alloc: Global, given: &ArgMatches<'_>) -> Result<(), OptionsFault>
+    ensures { IsAnswerFor (one_form_faults (rows_of (found_of given.now))) result }
+{
+    apart(
+        alloc,
+        has_flag(given, "page"),
+        has_flag(given, "csv"),
+        TWO_FORMS,
+    )
+}
+
 /// Whether no two options are given that don't go together. BadWords where there are two.
-fn options_apart(alloc: Global, given: &ArgMatches<'_>) -> Result<((), ()), OptionsFault>
+fn options_apart(
+    alloc: Global,
+    given: &ArgMatches<'_>,
+) -> Result<(((), ()), ()), OptionsFault>
     ensures { IsAnswerFor (apart_faults (rows_of (found_of given.now))) result }
 {
-    both(lines_alone(alloc, given), days_alone(alloc, given))
+    let two = both(lines_alone(alloc, given), days_alone(alloc, given));
+    both(two, one_form(alloc, given))
 }
 
 /// A report of that name, at the clock's time.
@@ -241,11 +260,14 @@ fn sheet_asked(clock_time: Instant, case: CaseCalled) -> Asked
         from: None,
         to: None,
         of: None,
+        on: None,
         today: None,
         stamp: None,
         clock_time,
         lines: false,
         overdue: false,
+        page: false,
+        csv: false,
     }
 }
 

@@ -38,7 +38,7 @@ unfolding rows_by_day
 rows_are day_of head row heads rows before [] = nothing
 rows_are day_of head row heads rows before (x ∷ xs) = both (both (heads before (day_of x)) (rows x)) (rows_are day_of head row heads rows (Some (day_of x)) xs)
 
-three_heads_are : (a b c : List ℕ) → IsMarkup (three_heads a b c)
+pub three_heads_are : (a b c : List ℕ) → IsMarkup (three_heads a b c)
 unfolding three_heads
 three_heads_are a b c = within tag.TableHead (within tag.Row (both (both (words tag.ColumnHead a) (words tag.ColumnHead b)) (words tag.ColumnHead c)))
 

@@ -42,8 +42,19 @@ week_shape = record (sourced_shape (codes "week")) { rules = (sourced_shape (cod
 abbrev pub sql_shape : Shape
 sql_shape = sourced_shape (codes "sql")
 
+-- `--page` and `--csv`, once at most
+abbrev pub page_rule : Rule
+page_rule = record (new_rule (codes "page")) { long = Some (codes "page"); action = Some SetTrue }
+
+abbrev pub csv_rule : Rule
+csv_rule = record (new_rule (codes "csv")) { long = Some (codes "csv"); action = Some SetTrue }
+
+-- the one of what has been pending for long, for which a day has to be given; it takes that of today, and as what it is written
+abbrev pub pending_shape : Shape
+pending_shape = record (sourced_shape (codes "pending")) { rules = (sourced_shape (codes "pending")).rules ++ needed_rule (codes "on") ∷ text_rule (codes "today") ∷ page_rule ∷ csv_rule ∷ [] }
+
 -- a command line with a subcommand for each report
 abbrev pub with_reports : App → App
 with_reports app =
-    with_subcommand (with_subcommand (with_subcommand (with_subcommand (with_subcommand (with_subcommand app due_shape) week_shape) (choosing_shape (codes "page"))) ics_shape)
-    json_shape) sql_shape
+    with_subcommand (with_subcommand (with_subcommand (with_subcommand (with_subcommand (with_subcommand (with_subcommand app due_shape) week_shape) (choosing_shape (codes "page"))) ics_shape)
+    json_shape) sql_shape) pending_shape

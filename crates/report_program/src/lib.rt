@@ -13,6 +13,7 @@ mod missing;
 mod opened;
 mod page;
 mod past;
+mod pending;
 mod report;
 mod sheet;
 mod subcommands;

@@ -18,6 +18,7 @@ use crate::missing::missing_line;
 use crate::opened::found_of;
 use crate::page::page_text;
 use crate::past::{Past, push_since};
+use crate::pending::pending_text;
 use crate::sheet::sheet_text;
 use crate::week::week_text;
 use case_numbers::Cases;
@@ -215,5 +216,6 @@ fn listing_of(
             *stamp,
         ),
         Listing::Sheet(case) => sheet_text(alloc, court, labels, docket, *case),
+        Listing::Pending(day, form) => pending_text(alloc, court, labels, docket, *day, *form),
     }
 }

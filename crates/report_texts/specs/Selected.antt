@@ -1,10 +1,11 @@
 -- Items of what is due and judges' bookings, with the numbers that deadlines and motions keep.
-use Rattle.std.specs.Prelude.{List, map}
+use Rattle.std.specs.Prelude.{ℕ, List, map, Option, option_map}
 use Rattle.docket_selection.specs.declared.bookings.DayBookings.{DayBookings}
 use Rattle.docket_selection.specs.declared.calendars.JudgeCalendar.{JudgeCalendar}
 use Rattle.docket_selection.specs.declared.item.DueItem.{DueItem}
 use Rattle.docket_selection.specs.declared.item.Matter.{Matter}
 use Rattle.docket_selection.specs.declared.item.Matter.TheVariants as matter
+use Rattle.docket_selection.specs.declared.pending.PendingItem.{PendingItem}
 use Rattle.docket_rows.specs.declared.command.Counted.{Counted}
 use Rattle.docket_rows.specs.declared.command.Counted.TheVariants.{Deadline, Motion}
 use Rattle.desk_numbers.specs.declared.moved.Moved.{Moved}
@@ -25,3 +26,11 @@ numbered_calendar moved c = record c { bookings = map (numbered_booking moved) c
 
 abbrev pub numbered_day : List Moved → DayBookings → DayBookings
 numbered_day moved d = record d { bookings = map (numbered_booking moved) d.bookings }
+
+-- a motion's place, where there is one, as its number
+abbrev pub numbered_motion : List Moved → (case : ℕ) → (motion : Option ℕ) → Option ℕ
+numbered_motion moved case motion = option_map (number_in moved case Motion) motion
+
+-- what has been pending for long, with the number of its motion
+abbrev pub numbered_pending : List Moved → PendingItem → PendingItem
+numbered_pending moved item = record item { motion = numbered_motion moved item.case item.motion }

@@ -1,9 +1,11 @@
 //! What reports call cases, deadlines, motions and holidays; what is selected of a docket, with the numbers that deadlines and motions
-//! keep; and what is due and a judge's week, as texts of 80 columns for a terminal or paper. Each function that adds to a text leaves,
+//! keep; and what is due, what has been pending for long and a judge's week, as texts of 80 columns
+//! for a terminal or paper, and what has been pending as a table for other programs (CSV). Each function that adds to a text leaves,
 //! where memory runs out, what was added so far.
 #![tactic(auto)]
 
 mod called;
+mod csv;
 mod days;
 mod due;
 mod grid;
@@ -12,6 +14,8 @@ mod items;
 mod judges;
 mod labels;
 mod other;
+mod pending;
+mod pending_csv;
 mod periods;
 mod selected;
 mod sheets;
@@ -25,10 +29,14 @@ pub use items::{push_matter, push_room, push_span, push_time};
 pub use judges::push_panel;
 pub use labels::Labels;
 pub use other::{push_given, push_reading};
+pub use pending::{
+    kind_words, push_holder, push_pending, push_pending_count, push_pending_title,
+};
+pub use pending_csv::push_pending_csv;
 pub use periods::{push_period, unit_words};
 pub use selected::{
-    counted_in, explained_selection, number_days, number_item, number_items, number_sheets,
-    numbered_calendars,
+    counted_in, explained_selection, number_all_pending, number_days, number_item, number_items,
+    number_sheets, numbered_calendars,
 };
 pub use sheets::{
     push_case_lines, push_labelled_deadline, push_labelled_motion, push_labelled_sheet,
