@@ -83,6 +83,13 @@ def of_sheet(place, given):
     yield from (("sheet {}{}".format(place, more), given, WORDS) for more in ("", " 1 1", " 1 --nothing"))
 
 
+def of_case():
+    """The calls for the page of a case, which is of a folder alone."""
+    yield from (("case F " + case, b"", status) for case, status in (("1", 0), ("2", ABSENT), ("1:25-cv-8", ABSENT), ("4097", WORDS), ("0", WORDS)))
+    yield from (("case " + words, b"", WORDS) for words in ("", "F", "F 1 1", "F 1 --nothing", "F 1 --as-of 1", "--input sound.txt 1"))
+    yield from (("case F 1" + BESIDE, b"", 0), ("case F 1" + FULL, b"", STREAM), ("case N 1", b"", JOURNAL), ("case E 1", b"", JOURNAL))
+
+
 def of_rows(words):
     """The calls of a command that reads lines and answers them."""
     yield words + " F", QUESTION, 0
@@ -166,7 +173,7 @@ TABLE = [
     *(call for report in REPORTS for call in of_report(report)),
     ("week F --judge Ames", b"", WORDS), ("week F --of 2025-03-03", b"", WORDS), ("week F --judge Nobody --of 2025-03-03", b"", ABSENT),
     ("week F --judge Ames --of 2030-03-03", b"", ABSENT), ("week F --judge Ames --today 2025-03-03 --of tuesday", b"", 0),
-    *of_sheet("F", b""), *of_sheet("--input -", FILES["sound.txt"]), ("sheet F 1" + BESIDE, b"", 0), ("sheet F 1" + FULL, b"", STREAM),
+    *of_case(), *of_sheet("F", b""), *of_sheet("--input -", FILES["sound.txt"]), ("sheet F 1" + BESIDE, b"", 0), ("sheet F 1" + FULL, b"", STREAM),
     ("sheet --input faulty.txt 1", b"", COURT), ("sheet --input rows.txt 1", b"", LINES), ("sheet --input none.txt 1", b"", STREAM),
     ("sheet F 1 --input sound.txt", b"", WORDS), ("sheet S 1:25-cv-7", b"", 0), ("sheet N 1", b"", JOURNAL), ("sheet E 1", b"", JOURNAL), ("memo F --today 2025-03-03", b"", WORDS), ("ics F --stamp now", b"", WORDS),
     ("court check court.toml", b"", DOUBT), ("court check doubtful.toml", b"", DOUBT), ("court check divided.toml", b"", COURT), ("court check faulty.toml", b"", COURT), ("court check none.toml", b"", STREAM),

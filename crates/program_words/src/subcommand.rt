@@ -36,6 +36,8 @@ pub(crate) enum Subcommand {
     Memo,
     /// `sheet`.
     Sheet,
+    /// `case`.
+    Case,
     /// `court`, with no word after it.
     Court,
     /// `court check`.
@@ -67,6 +69,7 @@ pub(crate) fn meant(name: &str) -> Subcommand
         "log" => Subcommand::Log,
         "memo" => Subcommand::Memo,
         "sheet" => Subcommand::Sheet,
+        "case" => Subcommand::Case,
         "court" => Subcommand::Court,
         _ => Subcommand::Report,
     }

@@ -36,6 +36,8 @@ pub enum Task {
     Sheet,
     /// What has been pending for long.
     Pending,
+    /// One page of a case, up to the entries of its log.
+    Case,
 }
 
 /// What the words ask for: what is written, and of what. The name is as the words have it.

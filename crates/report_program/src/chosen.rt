@@ -2,7 +2,7 @@
 
 ghost use Rattle.std.specs.Prelude.{◌≡◌, option_map, string_bytes};
 ghost use Rattle.court_clock.specs.Words.{earlier_day};
-ghost use Rattle.report_program.specs.Chosen.{case_given, choice_asked, choice_of, chosen_by, chosen_of, day_asked, due_chosen, form_asked, ics_chosen, json_chosen, judge_given, last_asked, missing_backwards, missing_between, missing_day, missing_days, missing_listed, page_chosen, pending_chosen, sheet_chosen, today_of, week_chosen};
+ghost use Rattle.report_program.specs.Chosen.{case_given, choice_asked, choice_of, chosen_by, chosen_of, day_asked, due_chosen, form_asked, ics_chosen, json_chosen, judge_given, last_asked, missing_backwards, missing_between, missing_day, missing_days, missing_listed, page_chosen, page_of_case, pending_chosen, sheet_chosen, today_of, week_chosen};
 
 use crate::asked::{Asked, Task};
 use court_clock::{Day, Instant};
@@ -27,6 +27,8 @@ pub enum Listing {
     Sheet(u32),
     /// What has been pending for long on that day.
     Pending(Day, Form),
+    /// The page of the case, up to the entries of its log.
+    Case(u32),
 }
 
 /// As what it is written what has been pending for long.
@@ -120,6 +122,7 @@ fn chosen_by(court: &Court, case: Option<u32>, asked: &Asked) -> Option<Chosen>
         Task::Sql => Some(Chosen::Sql),
         Task::Sheet => Some(sheet_chosen(case)),
         Task::Pending => Some(pending_chosen(court, asked)),
+        Task::Case => Some(page_of_case(case)),
     }
 }
 
@@ -144,6 +147,7 @@ fn missing_listed(court: &Court, listing: &Listing) -> Option<Missing>
         Listing::Ics(choice, _) => missing_between(court, choice),
         Listing::Sheet(_) => None,
         Listing::Pending(day, _) => missing_day(court, *day),
+        Listing::Case(_) => None,
     }
 }
 
@@ -217,6 +221,13 @@ fn sheet_chosen(case: Option<u32>) -> Chosen
     ensures { result ≡ sheet_chosen case }
 {
     Chosen::Listed(Listing::Sheet(case.unwrap_or(0)))
+}
+
+/// The page of that case. No case has the number 0, which stands for none.
+fn page_of_case(case: Option<u32>) -> Chosen
+    ensures { result ≡ page_of_case case }
+{
+    Chosen::Listed(Listing::Case(case.unwrap_or(0)))
 }
 
 /// What has been pending for long on the day that is asked for.

@@ -3,6 +3,7 @@
 
 mod appointments;
 mod asked;
+mod case;
 mod chosen;
 mod clock;
 mod docket;

@@ -10,6 +10,7 @@ ghost use Rattle.program_runs.specs.Words.{IsFinding};
 ghost use Rattle.report_texts.specs.Words.{labels_of};
 
 use crate::asked::Asked;
+use crate::case::case_text;
 use crate::chosen::{Chosen, ChosenTypes, Listing};
 use crate::docket::{Came, docket_after};
 use crate::due::due_text;
@@ -217,5 +218,6 @@ fn listing_of(
         ),
         Listing::Sheet(case) => sheet_text(alloc, court, labels, docket, *case),
         Listing::Pending(day, form) => pending_text(alloc, court, labels, docket, *day, *form),
+        Listing::Case(case) => case_text(alloc, court, labels, docket, *case),
     }
 }

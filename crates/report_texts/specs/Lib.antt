@@ -1,4 +1,5 @@
 pub mod Called
+pub mod Case
 pub mod Csv
 pub mod Days
 pub mod Due

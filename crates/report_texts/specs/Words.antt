@@ -1,5 +1,6 @@
 -- The words of clauses and definitions, for the crates above, from one place.
 pub use Rattle.report_texts.specs.Called.{called_after, label_after, title_after}
+unfoldable pub use Rattle.report_texts.specs.Case.{case_page_text}
 unfoldable pub use Rattle.report_texts.specs.Days.{whole_day}
 pub use Rattle.report_texts.specs.Due.{case_words, is_day_of, left_out_line}
 unfoldable pub use Rattle.report_texts.specs.Due.{chosen_words, closing_line, lines_after, due_text}

@@ -5,6 +5,7 @@
 #![tactic(auto)]
 
 mod called;
+mod case;
 mod csv;
 mod days;
 mod due;
@@ -22,6 +23,7 @@ mod sheets;
 mod week;
 
 pub use called::{push_called_after, push_label_after, push_title_after};
+pub use case::push_case_page;
 pub use days::push_whole_day;
 pub use due::{is_day_of, push_chosen, push_closing, push_due, push_left_out};
 pub use holidays::{HolidayNames, holiday_names};

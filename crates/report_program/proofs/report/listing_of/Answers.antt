@@ -17,3 +17,6 @@ returns-in-Sheet c = λ docketed holds. rw c.in-Sheet.is (c.sheet_text.ensures d
 
 pub returns-in-Pending : goal.returns-in-Pending
 returns-in-Pending c = λ docketed holds. rw c.in-Pending.is (c.pending_text.ensures docketed holds)
+
+pub returns-in-Case : goal.returns-in-Case
+returns-in-Case c = λ docketed holds. rw c.in-Case.is (c.case_text.ensures docketed holds)
