@@ -9,7 +9,7 @@ any days, any judge, any case, and words that say nothing of the court. Half of 
 cases have names (lib/given_docket.py), and each is called by its name. Of the cases of runs/assigned, which are assigned to
 judges, it must say what was worked out by hand. A page is read by Python's own reader of HTML; its
 markup is looked at too (lib/pages.py). What has been pending for long is found by a second body (lib/pending.py), and is what was
-worked out by hand in runs/pending. What it says of the reasons of a deadline must be the lines of `docket memo`, but for how
+worked out by hand in runs/pending. Months of judges are found by Python's calendar (lib/months.py). What it says of the reasons of a deadline must be the lines of `docket memo`, but for how
 its period is called. In half of the inputs rows are given to several clerks (lib/several_clerks.py), which changes nothing. A
 faulty input must end both programs alike, and so must names that no court's file may have, such as `<b>`. Words that write no
 day, no instant, no number of days or no case must be refused, and words such as `friday` or `+7d` must say the days that this
@@ -30,6 +30,7 @@ from lib.desk import Desk, divided
 from lib.given_docket import LAST_ROW, given_docket
 from lib.made_inputs import INPUTS, made_input
 from lib.memo_lines import as_on_page, closing_of, ended_in, other_day, other_of, reasons_of
+from lib.months import months_of
 from lib.pages import faults_of, parts_of
 from lib.pending import end_of_months, page_fault as pending_page_fault, pending_lines, pending_on, table_fault
 from lib.period_words import SET
@@ -289,6 +290,10 @@ def page_fault(names, page, text, docket, sheets, reasons, first, last, judge, c
     found = [(name, [(week, [cell.text() for cell in cells]) for week, cells in rows]) for name, rows in parts.judges]
     if found != [calendar for calendar in calendars if calendar[1]]:
         return "other hearings"
+    booked = [(name, [b for b in bookings if first <= b.day <= last and case in (None, b.case)])
+              for name, bookings in docket.calendars.items() if judge in (None, name)]
+    if parts.months != [("Judge " + name, months_of(names, name, bookings)) for name, bookings in booked if bookings]:
+        return "other months"
     judges = {s.case: {*docket.before.get(s.case, ()), *docket.heard.get(s.case, ())} for s in sheets}
     cases = [s for s in sheets if case in (None, s.case) and (judge is None or judge in judges[s.case])]
     if list(parts.cases) != ["case-{}".format(s.case) for s in cases]:

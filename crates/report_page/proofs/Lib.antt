@@ -1,3 +1,4 @@
 pub mod MarkupLemmas
+pub mod MonthLemmas
 pub mod PendingLemmas
 pub mod RowLemmas

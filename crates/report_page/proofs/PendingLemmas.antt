@@ -1,5 +1,5 @@
 -- The page of what has been pending for long is made of elements and escaped texts alone.
-use Rattle.std.proofs.Common.{ℕ, ℤ, List, [], ◌∷◌}
+use Rattle.std.proofs.Common.{List, [], ◌∷◌}
 use Rattle.court_days.specs.Words.{CourtView}
 use Rattle.docket_selection.specs.declared.pending.PendingItem.{PendingItem}
 use Rattle.docket_selection.specs.declared.pending.PendingKind.{PendingKind}

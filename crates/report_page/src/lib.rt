@@ -7,12 +7,15 @@ mod deadlines;
 mod due;
 mod judges;
 mod laws;
+mod load;
+mod months;
 mod motions;
 mod page;
 mod pending;
 mod phrases;
 mod reasons;
 mod tables;
+mod weeks;
 
 pub use laws::{content_is_markup, pending_is_markup};
 pub use page::push_page;

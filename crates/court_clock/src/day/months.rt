@@ -19,7 +19,7 @@ impl Day {
 
     /// The number of the month that is so many after the day's, where January of the year 0 is 1.
     #[tactic(auto, using(crate::proofs::DayLemmas::MonthLemmas::month_is))]
-    fn month_after(self, months: u16) -> i32
+    pub fn month_after(self, months: u16) -> i32
         ensures { result ≡ month_after months self }
     {
         let date = self.date();
@@ -29,7 +29,7 @@ impl Day {
 
     /// The day of its month, from 1.
     #[tactic(auto, using(crate::proofs::DayLemmas::MonthLemmas::number_is))]
-    fn day_in_month(self) -> u8
+    pub fn day_in_month(self) -> u8
         ensures { result ≡ day_in_month self }
     {
         self.date().to_plain().day
