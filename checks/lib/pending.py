@@ -59,11 +59,20 @@ def pending_lines(names, day, lists):
     return lines
 
 
+def table_of(names, lists):
+    """The table for other programs, without titles and labels."""
+    rows = [[item.judge, "case" if item.motion is None else "motion", called(names, item.case),
+             "" if item.motion is None else str(item.motion), str(item.since), "", ""] for items in lists for item in items]
+    guarded = (("'" + field if field[:1] in ("=", "+", "-", "@", "\t", "\r") else field for field in row) for row in rows)
+    return "".join(line + "\n" for line in [",".join(HEADS), *(",".join('"{}"'.format(field.replace('"', '""')) for field in row) for row in guarded)])
+
+
 def table_fault(names, lists, text):
-    """What a table for other programs says otherwise, or none."""
-    wanted = [[item.judge, "case" if item.motion is None else "motion", called(names, item.case),
-               "" if item.motion is None else str(item.motion), str(item.since), "", ""] for items in lists for item in items]
-    return None if list(csv.reader(io.StringIO(text))) == [HEADS, *wanted] else "another table"
+    """What a table for other programs says otherwise, or none. One that a program reads as a table is read so."""
+    if text != table_of(names, lists):
+        return "another table"
+    columns = {len(row) for row in csv.reader(io.StringIO(text))}
+    return None if columns == {len(HEADS)} else "rows of other lengths"
 
 
 def page_fault(names, day, lists, page):
