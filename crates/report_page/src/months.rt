@@ -124,7 +124,7 @@ fn push_month_at(
 {
     match first {
         Some(first) => {
-            let near = near(alloc, bookings, first)?;
+            let near = near_bookings(alloc, bookings, first)?;
             push_month(alloc, page, line, court, labels, judge, &near, first)
         }
         None => Ok(()),
@@ -132,7 +132,11 @@ fn push_month_at(
 }
 
 /// Those of the bookings that are in the six weeks from that on in which the month begins.
-fn near(alloc: Global, bookings: &[Booking], first: Day) -> Result<Vec<Booking>, AllocError>
+fn near_bookings(
+    alloc: Global,
+    bookings: &[Booking],
+    first: Day,
+) -> Result<Vec<Booking>, AllocError>
     ensures { IfOk result (λ list. list.items ≡ filter (is_near first) bookings.now) }
 {
     let mut list = Vec::from_slice(alloc, bookings)?;

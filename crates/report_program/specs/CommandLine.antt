@@ -42,16 +42,13 @@ week_shape = record (sourced_shape (codes "week")) { rules = (sourced_shape (cod
 abbrev pub sql_shape : Shape
 sql_shape = sourced_shape (codes "sql")
 
--- `--page` and `--csv`, once at most
-abbrev pub page_rule : Rule
-page_rule = record (new_rule (codes "page")) { long = Some (codes "page"); action = Some SetTrue }
-
-abbrev pub csv_rule : Rule
-csv_rule = record (new_rule (codes "csv")) { long = Some (codes "csv"); action = Some SetTrue }
+-- `--NAME`, once at most
+abbrev pub form_rule : (name : Text) → Rule
+form_rule name = record (new_rule name) { long = Some name; action = Some SetTrue }
 
 -- the one of what has been pending for long, for which a day has to be given; it takes that of today, and as what it is written
 abbrev pub pending_shape : Shape
-pending_shape = record (sourced_shape (codes "pending")) { rules = (sourced_shape (codes "pending")).rules ++ needed_rule (codes "on") ∷ text_rule (codes "today") ∷ page_rule ∷ csv_rule ∷ [] }
+pending_shape = record (sourced_shape (codes "pending")) { rules = (sourced_shape (codes "pending")).rules ++ needed_rule (codes "on") ∷ text_rule (codes "today") ∷ form_rule (codes "page") ∷ form_rule (codes "csv") ∷ [] }
 
 -- a command line with a subcommand for each report
 abbrev pub with_reports : App → App

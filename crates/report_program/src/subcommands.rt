@@ -1,8 +1,8 @@
 //! The subcommands for reports, as `clap` takes them.
 
 ghost use Rattle.std.specs.Prelude.{◌≡◌, [], IfOk};
-ghost use Rattle.clap.specs.Words.{app_of};
-ghost use Rattle.report_program.specs.CommandLine.{choosing_shape, due_shape, ics_shape, json_shape, pending_shape, sourced_shape, sql_shape, week_shape, with_reports};
+ghost use Rattle.clap.specs.Words.{app_of, with_rule};
+ghost use Rattle.report_program.specs.CommandLine.{choosing_shape, due_shape, form_rule, ics_shape, json_shape, pending_shape, sourced_shape, sql_shape, week_shape, with_reports};
 
 use clap::{Arg, ArgAction, Command};
 use program_main::{with_needed, with_source, with_subcommand, with_text};
@@ -46,10 +46,10 @@ const DAYS: &str =
 next such day from today on; or so many days from today, as +7d or (with =) -3d.";
 
 const PENDING: &str =
-    "A motion is listed if more than six months have passed since it was served and
+    "A motion is listed if more than six months have passed since it was served, and
 its last ruling is of a later day, reserves it, or isn't there; a case if more
-than three years have passed since it was filed. What was closed by that day isn't
-listed (28 U.S.C. 476(a)).
+than three years have passed since it was filed. A case that was closed by that
+day isn't listed, and no motion of it is (28 U.S.C. 476(a)).
 
 Example:
   docket pending cases --on 2026-03-31
@@ -138,6 +138,22 @@ fn json<'a>(alloc: Global) -> Result<Command<'a>, AllocError>
     command.arg(lines)
 }
 
+/// The command, which also takes that what it writes has this form.
+fn with_form<'a>(
+    alloc: Global,
+    command: Command<'a>,
+    name: &'a str,
+    help: &'a str,
+) -> Result<Command<'a>, AllocError>
+    ensures { IfOk result (λ whole. app_of whole ≡ with_rule (app_of command.entry) (form_rule name.now)) }
+{
+    let form = Arg::new(alloc, name)
+        .long(name)
+        .action(ArgAction::SetTrue)
+        .help(help);
+    command.arg(form)
+}
+
 /// The subcommand for what has been pending for long, which also takes as what it is written.
 fn pending<'a>(alloc: Global) -> Result<Command<'a>, AllocError>
     ensures { IfOk result (λ command. app_of command ≡ record { top = pending_shape; subs = [] }) }
@@ -145,15 +161,8 @@ fn pending<'a>(alloc: Global) -> Result<Command<'a>, AllocError>
     let command = sourced(alloc, "pending", ABOUT_PENDING)?.after_help(PENDING);
     let command = with_needed(alloc, command, "on", "DAY", ON)?;
     let command = with_text(alloc, command, "today", "DATE", TODAY)?;
-    let page = Arg::new(alloc, "page")
-        .long("page")
-        .action(ArgAction::SetTrue)
-        .help(PAGE);
-    let csv = Arg::new(alloc, "csv")
-        .long("csv")
-        .action(ArgAction::SetTrue)
-        .help(CSV);
-    command.arg(page)?.arg(csv)
+    let command = with_form(alloc, command, "page", PAGE)?;
+    with_form(alloc, command, "csv", CSV)
 }
 
 /// A command with the subcommands due, week, page, ics, json, sql and pending. Each takes `folder`, the first place, and `as-of`, or `input`, the option;

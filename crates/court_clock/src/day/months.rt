@@ -12,9 +12,9 @@ impl Day {
     pub fn has_passed(self, months: u16, since: Day) -> bool
         ensures { result ≡ has_passed months since self }
     {
-        let end = since.month_after(months);
-        let now = self.month_after(0);
-        end < now || (end == now && since.day_in_month() < self.day_in_month())
+        let ends = since.month_after(months);
+        let reached = self.month_after(0);
+        ends < reached || (ends == reached && since.day_in_month() < self.day_in_month())
     }
 
     /// The number of the month that is so many after the day's, where January of the year 0 is 1.
