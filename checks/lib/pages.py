@@ -106,7 +106,7 @@ def rows_of(table, columns):
 
 
 def is_month(table):
-    return table.attributes.get("class") == "month"
+    return table.attributes.get("class") == "grid"
 
 
 def month_in(table):

@@ -108,7 +108,7 @@ fn push_attributes(bytes: &mut Vec<u8>, tag: Tag) -> Result<(), AllocError>
         Tag::Note => bytes.extend_from_slice(b" class=\"note\""),
         Tag::WideCell => bytes.extend_from_slice(b" colspan=\"4\""),
         Tag::Reasons => bytes.extend_from_slice(b" class=\"reasons\""),
-        Tag::Month => bytes.extend_from_slice(b" class=\"month\""),
+        Tag::Grid => bytes.extend_from_slice(b" class=\"grid\""),
         Tag::DateCell => bytes.extend_from_slice(b" class=\"date\""),
         Tag::OutCell => bytes.extend_from_slice(b" class=\"out\""),
         Tag::Block => bytes.extend_from_slice(b" class=\"block\""),

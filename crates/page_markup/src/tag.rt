@@ -66,8 +66,8 @@ pub enum Tag {
     Summary,
     /// Lines in columns, as a text has them.
     Reasons,
-    /// A table of a month, with a row for each week.
-    Month,
+    /// A table whose columns are equally wide, and in which any text may be broken.
+    Grid,
     /// The cell of a day of the month.
     DateCell,
     /// The cell of a day of the month before or after it.
@@ -97,7 +97,7 @@ pub(crate) fn tag_name(tag: Tag) -> &'static str
         Tag::Paragraph => "p",
         Tag::Section | Tag::CaseSection(_) => "section",
         Tag::CaseLink(_) => "a",
-        Tag::Table | Tag::Month => "table",
+        Tag::Table | Tag::Grid => "table",
         Tag::Caption => "caption",
         Tag::TableHead => "thead",
         Tag::TableBody => "tbody",

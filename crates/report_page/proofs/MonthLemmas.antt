@@ -81,7 +81,7 @@ month_heads_are = within tag.TableHead (within tag.Row (both front_heads_are bac
 month_table_is : (court : CourtView) (labels : LabelsView) (judge : ℕ) (bookings : List Booking) (first : ℤ) → IsMarkup (month_table court labels judge bookings first)
 unfolding month_table
 month_table_is court labels judge bookings first =
-    within tag.Month (both (both (words tag.Caption _) month_heads_are) (within tag.TableBody (month_weeks_are labels bookings first 0 6)))
+    within tag.Grid (both (both (words tag.Caption _) month_heads_are) (within tag.TableBody (month_weeks_are labels bookings first 0 6)))
 
 month_at_is : (court : CourtView) (labels : LabelsView) (judge : ℕ) (bookings : List Booking) (first : Option ℤ) → IsMarkup (month_at court labels judge bookings first)
 month_at_is court labels judge bookings None = nothing

@@ -23,7 +23,7 @@ pending_table_is : (court : CourtView) (labels : LabelsView) (kind : PendingKind
 unfolding pending_table
 pending_table_is court labels kind [] = words tag.Paragraph _
 pending_table_is court labels kind (item ∷ items) =
-    within tag.Table (both (both (words tag.Caption _) pending_heads_are) (within tag.TableBody (each (pending_row court labels) (pending_row_is court labels) (item ∷ items))))
+    within tag.Grid (both (both (words tag.Caption _) pending_heads_are) (within tag.TableBody (each (pending_row court labels) (pending_row_is court labels) (item ∷ items))))
 
 pending_section_is : (court : CourtView) (labels : LabelsView) (kind : PendingKind) (items : List PendingItem) → IsMarkup (pending_section court labels kind items)
 unfolding pending_section

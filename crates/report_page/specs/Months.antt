@@ -36,7 +36,7 @@ month_caption court judge first = codes "Judge " ++ name_of court.judges judge +
 -- the grid of the month that begins on a day, with these bookings
 unfoldable pub month_table : CourtView → LabelsView → (judge : ℕ) → List Booking → (first : ℤ) → List ℕ
 month_table court labels judge bookings first =
-    element tag.Month (text_in tag.Caption (month_caption court judge first) ++ month_heads ++ element tag.TableBody (month_weeks labels bookings first 0 6))
+    element tag.Grid (text_in tag.Caption (month_caption court judge first) ++ month_heads ++ element tag.TableBody (month_weeks labels bookings first 0 6))
 
 -- the booking is in the six weeks from that on in which the month begins
 abbrev pub is_near : (first : ℤ) → Booking → Bool

@@ -29,7 +29,7 @@ pending_heads = three_heads (codes "Judge") (codes "Case") (codes "Since")
 unfoldable pub pending_table : CourtView → LabelsView → PendingKind → List PendingItem → List ℕ
 pending_table court labels kind [] = text_in tag.Paragraph (codes "None.")
 pending_table court labels kind (item ∷ items) =
-    element tag.Table (text_in tag.Caption (kind_words kind) ++ pending_heads ++ element tag.TableBody (flat_map (pending_row court labels) (item ∷ items)))
+    element tag.Grid (text_in tag.Caption (kind_words kind) ++ pending_heads ++ element tag.TableBody (flat_map (pending_row court labels) (item ∷ items)))
 
 -- how many there are, and their table
 unfoldable pub pending_section : CourtView → LabelsView → PendingKind → List PendingItem → List ℕ

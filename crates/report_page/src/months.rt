@@ -166,14 +166,14 @@ fn push_month(
 ) -> Result<(), AllocError>
     ensures { OnOk result (page.new ≡ page.old ++ month_table court.now labels.now judge bookings.now first) }
 {
-    page.open(Tag::Month)?;
+    page.open(Tag::Grid)?;
     set_caption(line, court, judge, first)?;
     page.text_in(Tag::Caption, line)?;
     push_heads(page)?;
     page.open(Tag::TableBody)?;
     push_weeks(alloc, page, line, labels, bookings, first, 6)?;
     page.close(Tag::TableBody)?;
-    page.close(Tag::Month)
+    page.close(Tag::Grid)
 }
 
 /// Makes the line what the grid of a month has.

@@ -116,13 +116,13 @@ fn push_table(
     if items.is_empty() {
         return page.text_in(Tag::Paragraph, "None.");
     }
-    page.open(Tag::Table)?;
+    page.open(Tag::Grid)?;
     page.text_in(Tag::Caption, kind_words(kind))?;
     push_heads(page)?;
     page.open(Tag::TableBody)?;
     push_rows(page, line, court, labels, items)?;
     page.close(Tag::TableBody)?;
-    page.close(Tag::Table)
+    page.close(Tag::Grid)
 }
 
 #[tactic(auto, unfolding(crate::specs::Pending::pending_heads))]
