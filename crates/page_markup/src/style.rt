@@ -1,9 +1,9 @@
 //! How a page looks.
 
 /// The style sheet of all pages: the text; tables, in which what heads a row stays in one line and a long name in a row's last
-/// cell is broken anywhere; grids, as months are, whose columns are alike and in which anything is broken that is too long; a phone; and paper, on
-/// which no row is cut and no heading is left alone at the end of a sheet. A bar is the line below a text, since paper has lines where
-/// it has no backgrounds.
+/// cell is broken anywhere; grids, as months are, whose columns are alike and in which anything is broken that is too long; a phone;
+/// and paper, on which no row is cut and no heading is left alone at the end of a sheet. A bar is the line below a text, since paper
+/// has lines where it has no backgrounds.
 pub(crate) const STYLE: &str = "
 body { margin: 0 auto; max-width: 60rem; padding: 1rem; font: 1rem/1.45 system-ui, sans-serif; color: #1a1a1a; background: #ffffff; overflow-wrap: break-word }
 h1 { margin: 0 0 0.5rem; font-size: 1.6rem; line-height: 1.2 }

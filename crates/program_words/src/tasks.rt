@@ -202,10 +202,7 @@ fn one_form(alloc: Global, given: &ArgMatches<'_>) -> Result<(), OptionsFault>
 }
 
 /// Whether no two options are given that don't go together. BadWords where there are two.
-fn options_apart(
-    alloc: Global,
-    given: &ArgMatches<'_>,
-) -> Result<(((), ()), ()), OptionsFault>
+fn options_apart(alloc: Global, given: &ArgMatches<'_>) -> Result<(((), ()), ()), OptionsFault>
     ensures { IsAnswerFor (apart_faults (rows_of (found_of given.now))) result }
 {
     let two = both(lines_alone(alloc, given), days_alone(alloc, given));

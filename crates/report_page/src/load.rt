@@ -49,11 +49,7 @@ fn capped(quarters: u32) -> u16
 
 /// Adds the load of a week as the head of its row.
 #[tactic(auto, unfolding(crate::specs::Load::load_head))]
-pub(crate) fn push_load(
-    page: &mut Page,
-    line: &mut String,
-    quarters: u16,
-) -> Result<(), AllocError>
+pub(crate) fn push_load(page: &mut Page, line: &mut String, quarters: u16) -> Result<(), AllocError>
     ensures { OnOk result (page.new ≡ page.old ++ load_head quarters) }
 {
     page.open(Tag::LoadHead)?;

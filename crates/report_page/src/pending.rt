@@ -88,11 +88,7 @@ fn push_section(
 }
 
 /// Makes the line how many there are.
-fn set_count(
-    line: &mut String,
-    kind: PendingKind,
-    items: &[PendingItem],
-) -> Result<(), AllocError>
+fn set_count(line: &mut String, kind: PendingKind, items: &[PendingItem]) -> Result<(), AllocError>
     ensures { OnOk result (string_bytes line.new ≡ pending_count kind items.now) }
 {
     let _types: PendingTypes = None;

@@ -62,7 +62,8 @@ pub enum Missing {
     Case,
     /// No judge has the name there.
     Judge,
-    /// The day isn't covered: that of a week, that on which something is pending, or the first or the last of the days of which something is listed.
+    /// The day isn't covered: that of a week, that on which something is pending, or the first or the last of the days of which
+    /// something is listed.
     Day(Day),
     /// There are no days from the first of these to the last, which comes before it.
     Backwards(Day, Day),

@@ -165,8 +165,8 @@ fn pending<'a>(alloc: Global) -> Result<Command<'a>, AllocError>
     with_form(alloc, command, "csv", CSV)
 }
 
-/// A command with the subcommands due, week, page, ics, json, sql and pending. Each takes `folder`, the first place, and `as-of`, or `input`, the option;
-/// none has to be given. `Err` says that memory ran out.
+/// A command with the subcommands due, week, page, ics, json, sql and pending. Each takes `folder`, the first place, and `as-of`, or
+/// `input`, the option; none has to be given. `Err` says that memory ran out.
 pub fn with_reports<'a>(alloc: Global, command: Command<'a>) -> Result<Command<'a>, AllocError>
     ensures { IfOk result (λ whole. app_of whole ≡ with_reports (app_of command.entry)) }
 {

@@ -11,8 +11,8 @@ use court_days::Court;
 use docket_rows::{Sheet, SheetDeadline, SheetMotion};
 use std::alloc::AllocError;
 
-/// Adds the page of a case up to the entries of its log: what it is called and who has it, its deadlines, its motions with their rulings
-/// and hearings, and the head of the entries. `Err` says that memory ran out.
+/// Adds the page of a case up to the entries of its log: what it is called and who has it, its deadlines, its motions with their
+/// rulings and hearings, and the head of the entries. `Err` says that memory ran out.
 #[tactic(auto, unfolding(crate::specs::Case::case_page_text))]
 pub fn push_case_page(
     text: &mut String,
