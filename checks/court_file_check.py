@@ -10,8 +10,8 @@ made the mistake. Then one character of the file, and of examples/district.toml,
 without it). Each change must give a fault, of which one is at the line that was changed or at one beside it (a list that isn't
 closed: at a later one, where that shows), or a warning, or
 the same court; only hours, names, the state's holidays and the ends of the span may be other ones unseen. In all of them
-clerk_office must refuse a file exactly where docket finds faults, with the fault that it names. It needs Python 3.11 or
-later.
+clerk_office must refuse a file exactly where docket finds faults, with the fault that it names, but for those of the key that docket
+alone reads. It needs Python 3.11 or later.
 """
 import pathlib
 import random
@@ -28,6 +28,19 @@ SAID = FOLDER / "said.txt"
 KEYS = ["zone", "opens", "closes", "from", "to", "federal", "state", "judges", "rooms"]
 # The status where nothing is at fault, but something may be wrong.
 DOUBT = 9
+# The file ends on 2026-12-31: long enough for the first of these days, and too early from 1 October 2025 on, since it ends with the next year.
+USED = ("2025-09-30", "2025-10-01", "2025-12-31", "2026-03-02")
+# Of what the text doesn't have the date: closings, and holidays of the State.
+SAYS = " It was open on 2025-01-09, 2025-12-24 and 2025-12-26."
+UNSAID = (("it says nothing of the days on which the President closed the government", COURT.replace(SAYS, "")),
+          ("it lists one of them, and names another in a comment", COURT.replace(SAYS, " Not closed: 2025-01-09").replace('"2025-12-25",', '"2025-12-24", "2025-12-25",')))
+# The line by which a file names its court, and the same file without a day that the law of the court's State names.
+NAMED = "# Written by `docket court write --court new_york_southern --from 2025 --to 2026`.\n" + COURT
+LACKS = NAMED.replace('    "2026-02-12", # Lincoln\'s Birthday\n', "")
+UNSAID += (("it names its court, and has each day of the State's law", NAMED),
+           ("it lacks one of these days", LACKS),
+           ("it names that day in a comment", LACKS.replace("# A court", "# Open on 2026-02-12. A court")),
+           ("it lacks the day, and doesn't name its court", LACKS.replace("# Written by", "# Made by")))
 # What may differ unseen: nothing says which hours, names and holidays of the state are right.
 FREE = {"opens", "closes", "from", "to", "state", "judges", "rooms"}
 
@@ -151,6 +164,15 @@ def spoiled():
         way("closes at " + hour, put("17:00", hour))
     way("opens at 8:30", put("08:30", "8:30"))
 
+    # the time to which e-filing runs
+    def until(value):
+        return put('closes = "17:00"\n', 'closes = "17:00"\nefiling_until = {}\n'.format(value))
+
+    for value in ['"18:00"', '"17:00"', '"12:00"', '"6 pm"', '"24:00"', "18"]:
+        way("e-filing runs to " + value, until(value))
+    way("the time of e-filing is below a header", COURT + '\n[holiday_names]\n2025-09-01 = "Labor Day"\nefiling_until = "18:00"\n')
+    way("the key of e-filing is misspelled", put("efiling_until", "efiling_untl", until('"18:00"')))
+
     # the span
     way("to is before from", put('to = "2026-12-31"', 'to = "2024-12-31"'))
     way("to is moved", put('to = "2026-12-31"', 'to = "2030-12-31"'))
@@ -188,10 +210,10 @@ class Checked:
     def __init__(self, programs, folder):
         self.programs, self.folder, self.path = programs, folder, pathlib.Path(folder) / "court.toml"
 
-    def check(self, data, *words):
-        """The status of a check, and what is said."""
+    def check(self, data, today="2025-01-01"):
+        """The status of a check on that day, and what is said."""
         self.path.write_bytes(data)
-        ended = run([self.programs.docket, "court", "check", "court.toml", *words], cwd=self.folder)
+        ended = run([self.programs.docket, "court", "check", "court.toml", "--today", today], cwd=self.folder)
         assert not ended.errors, ended.errors
         said = ended.output.decode("utf-8", "replace")
         lines = said.split("\n")
@@ -202,12 +224,14 @@ class Checked:
         return ended.status, said
 
     def compare(self, data, status, said):
-        """clerk_office refuses the file exactly where it has faults, with the fault that is named."""
+        """clerk_office refuses the file exactly where it has faults, with the fault that is named, unless the fault is at the key that it
+        doesn't read."""
         if b"\n%%" in data:
             return
         office = self.programs.office(data + b"\n%%\n")
-        assert (office.status == 2) == (status == 2), (office, said)
-        if status == 2:
+        of_office = status == 2 and "docket refuses the file with: " not in said
+        assert (office.status == 2) == of_office, (office, said)
+        if of_office:
             named = re.search(r"refuses the file with: (court fault .*)", said).group(1)
             assert office.errors.decode("utf-8", "replace").startswith(named), (office, said)
 
@@ -218,8 +242,10 @@ def all_said(checked):
     for name, data in spoiled():
         status, said = checked.check(data)
         parts.append("== {}: {}\n{}".format(name, status, said))
-    status, said = checked.check(COURT.encode(), "--today", "2026-03-02")
-    parts.append("== the file is used from 2026-03-02: {}\n{}".format(status, said))
+    for today in USED:
+        parts.append("== the file is used from {}: {}\n{}".format(today, *checked.check(COURT.encode(), today)))
+    for name, data in UNSAID:
+        parts.append("== {}: {}\n{}".format(name, *checked.check(data.encode())))
     return "".join(parts)
 
 

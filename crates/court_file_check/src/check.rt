@@ -3,7 +3,7 @@
 ghost use Rattle.std.specs.Prelude.{◌≡◌, ◌≢◌, [], Ok, map, IfOk};
 ghost use Rattle.std.specs.Bool.{OnTrue, OnFalse};
 ghost use Rattle.toml.specs.View.{table_view};
-ghost use Rattle.court_days.specs.Words.{court_of, file_of};
+ghost use Rattle.court_days.specs.Words.{desk_court_of, file_of};
 ghost use Rattle.court_file_check.specs.Faults.{faults_in};
 ghost use Rattle.court_file_check.specs.Seen.{seen};
 ghost use Rattle.court_file_check.specs.Check.{IsCheckOf, IsDocumentCheck};
@@ -33,7 +33,7 @@ pub fn check_file(alloc: Global, bytes: &[u8], asked: &Asked) -> Result<Checked,
 {
     match toml::table_from_slice(alloc, bytes) {
         Ok(file) => {
-            let checked = check_document(alloc, file, asked)?;
+            let checked = check_document(alloc, bytes, file, asked)?;
             Ok(checked)
         }
         Err(error) => {
@@ -46,15 +46,20 @@ pub fn check_file(alloc: Global, bytes: &[u8], asked: &Asked) -> Result<Checked,
 }
 
 /// Checks a document.
-fn check_document(alloc: Global, file: Table, asked: &Asked) -> Result<Checked, AllocError>
-    ensures { IfOk result (IsDocumentCheck asked.now (table_view file)) }
+fn check_document(
+    alloc: Global,
+    text: &[u8],
+    file: Table,
+    asked: &Asked,
+) -> Result<Checked, AllocError>
+    ensures { IfOk result (IsDocumentCheck asked.now text.now (table_view file)) }
 {
     let faults = faults_of(alloc, &file)?;
     if has_any(&faults) {
         return Ok(Checked::Faulty(file, faults));
     }
     let court = court_of(alloc, &file)?;
-    let warnings = warnings_of(alloc, &file, &court, asked)?;
+    let warnings = warnings_of(alloc, text, &file, &court, asked)?;
     Ok(Checked::Taken(file, warnings))
 }
 
@@ -71,9 +76,9 @@ fn has_any(faults: &[Fault]) -> bool
 #[tactic(auto, using(crate::proofs::CheckLemmas::no_fault))]
 fn court_of(alloc: Global, file: &Table) -> Result<Court, AllocError>
     requires { faults_in (table_view file.now) ≡ [] }
-    ensures { IfOk result (λ court. court_of (table_view file.now) ≡ Ok (file_of court)) }
+    ensures { IfOk result (λ court. desk_court_of (table_view file.now) ≡ Ok (file_of court)) }
 {
-    match Court::from_table(alloc, file) {
+    match Court::from_desk_table(alloc, file) {
         Ok(court) => Ok(court),
         Err(CourtFault::OutOfMemory) => Err(AllocError),
         Err(_) => unreachable!(),

@@ -3,8 +3,10 @@ pub mod EndLemmas
 pub mod CutLemmas
 pub mod PanelLemmas
 pub mod PeriodLemmas
+pub mod GrantLemmas
 pub mod FormLemmas
 pub mod TakenLemmas
+pub mod OfficeLemmas
 pub mod RecordsLemmas
 pub mod TextLemmas
 pub mod ReadingLemmas

@@ -47,9 +47,18 @@ heading_said word =
     else if is_one_of word (codes "from" ∷ []) then Some (codes "from")
     else if is_one_of word (codes "to" ∷ []) then Some (codes "to")
     else if is_one_of word (codes "judge" ∷ codes "judges" ∷ []) then Some (codes "judge")
+    else if is_one_of word (codes "referred" ∷ codes "referredto" ∷ codes "magistrate" ∷ codes "magistratejudge" ∷ []) then Some (codes "referred")
     else if is_one_of word (codes "room" ∷ codes "courtroom" ∷ []) then Some (codes "room")
     else if is_one_of word (codes "slots" ∷ []) then Some (codes "slots")
     else if is_one_of word (codes "notice" ∷ codes "noticeserved" ∷ []) then Some (codes "notice")
+    else if is_one_of word (codes "act" ∷ []) then Some (codes "act")
+    else if is_one_of word (codes "dated" ∷ codes "orderdated" ∷ codes "orderdate" ∷ codes "dateoforder" ∷ []) then Some (codes "dated")
+    else if is_one_of word (codes "why" ∷ codes "reason" ∷ []) then Some (codes "why")
+    else if is_one_of word (codes "ruling" ∷ []) then Some (codes "ruling")
+    else if is_one_of word (codes "title" ∷ codes "caption" ∷ []) then Some (codes "title")
+    else if is_one_of word (codes "of" ∷ []) then Some (codes "of")
+    else if is_one_of word (codes "number" ∷ []) then Some (codes "number")
+    else if is_one_of word (codes "label" ∷ []) then Some (codes "label")
     else if is_one_of word (codes "note" ∷ codes "notes" ∷ codes "remarks" ∷ codes "comment" ∷ codes "comments" ∷ []) then Some (codes "note")
     else None
 

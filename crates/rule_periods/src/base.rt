@@ -70,6 +70,12 @@ fn end_of_length(
             let end = end_of_hours(days, clock, begins, h, direction)?;
             Some(Expiry::AtInstant(end))
         }
+        // A date certain, which an order sets, isn't rolled.
+        Length::ToDay => Some(Expiry::OnDay(event.day())),
+        Length::ToTime => {
+            let end = clock.instant_of(event.day(), 60 * u32::from(event.minute()));
+            Some(Expiry::AtInstant(end))
+        }
     }
 }
 

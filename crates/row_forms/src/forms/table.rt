@@ -1,12 +1,14 @@
-//! The table of forms: the command word of each, and its columns. Rows are read, refused, headed and shown by it.
+//! The table of forms: the command word of each, and its columns. Rows are read, refused, headed and shown by it. The desk takes
+//! what clerk_office takes, and rows of its own.
 
 ghost use Rattle.std.specs.Prelude.{◌≡◌, find, map, option_map};
-ghost use Rattle.row_forms.specs.Forms.Table.{columns_of, columns_of_form, command_word, commands_listed, form_of, forms, is_word_of};
+ghost use Rattle.row_forms.specs.Forms.Table.{columns_of, columns_of_form, command_word, commands_listed, form_of, forms, is_word_of, office_form_of};
 
 use crate::headings::Column::{
-    self, ByMotion, Case, Cause, Clerk, Command, Date, Deadline, From, Grant, Holidays, Judge,
-    Judges, Means, Motion, Need, Neglect, Notice, Period, Room, SecondOrNone, ServiceOrNone, Slots,
-    Start, Time, TimeOrNone, To,
+    self, Act, ByMotion, Case, Cause, Clerk, Closing, Command, Counted, Date, Dated, Deadline,
+    From, Grant, Holidays, Judge, JudgeOrNone, Judges, Label, Means, Motion, Need, Neglect, Notice,
+    Number, Period, ResumeDay, Room, Ruling, SecondOrNone, ServiceOrNone, Slots, Start, Time,
+    TimeOrNone, Title, To, Why,
 };
 
 /// The form of a row: which command or query it asks for.
@@ -38,10 +40,30 @@ pub enum Form {
     Sheet,
     /// Asks for a judge's day.
     Calendar,
+    /// Starts a deadline on a day, or at a time of it, that an order sets. It is of the desk alone.
+    Set,
+    /// Sets another end for a deadline, by an order. It is of the desk alone.
+    Reset,
+    /// Ends a deadline. It is of the desk alone.
+    End,
+    /// Resumes a deadline that was ended. It is of the desk alone.
+    Resume,
+    /// Closes a case. It is of the desk alone.
+    Close,
+    /// Reopens a case that was closed. It is of the desk alone.
+    Reopen,
+    /// Rules on a motion. It is of the desk alone.
+    Rule,
+    /// Assigns a case to a judge. It is of the desk alone.
+    Assign,
+    /// Gives a case a title. It is of the desk alone.
+    Title,
+    /// Gives a deadline or a motion a label. It is of the desk alone.
+    Label,
 }
 
-/// The forms of rows.
-pub const FORMS: [Form; 13] = [
+/// The forms of the rows of clerk_office.
+pub const OFFICE_FORMS: [Form; 13] = [
     Form::Open,
     Form::Start,
     Form::File,
@@ -57,8 +79,35 @@ pub const FORMS: [Form; 13] = [
     Form::Calendar,
 ];
 
+/// The forms of the rows of the desk.
+pub const FORMS: [Form; 23] = [
+    Form::Open,
+    Form::Start,
+    Form::File,
+    Form::Extend,
+    Form::Motion,
+    Form::Book,
+    Form::Move,
+    Form::Cancel,
+    Form::Holiday,
+    Form::Inaccessible,
+    Form::Compute,
+    Form::Sheet,
+    Form::Calendar,
+    Form::Set,
+    Form::Reset,
+    Form::End,
+    Form::Resume,
+    Form::Close,
+    Form::Reopen,
+    Form::Rule,
+    Form::Assign,
+    Form::Title,
+    Form::Label,
+];
+
 /// The command words, in the order of the forms.
-pub const COMMANDS: [&str; 13] = [
+pub const COMMANDS: [&str; 23] = [
     "open",
     "start",
     "file",
@@ -72,6 +121,16 @@ pub const COMMANDS: [&str; 13] = [
     "compute",
     "sheet",
     "calendar",
+    "set",
+    "reset",
+    "end",
+    "resume",
+    "close",
+    "reopen",
+    "rule",
+    "assign",
+    "title",
+    "label",
 ];
 
 /// The columns of a form's rows, from the first on.
@@ -112,6 +171,16 @@ pub fn columns_of_form(form: Form) -> &'static [Column]
         ],
         Form::Sheet => &[Clerk, Command, Case],
         Form::Calendar => &[Clerk, Command, Judge, Date],
+        Form::Set => &[Clerk, Command, Case, Date, TimeOrNone, Act],
+        Form::Reset => &[Clerk, Command, Case, Deadline, Date, TimeOrNone, Dated],
+        Form::End => &[Clerk, Command, Case, Deadline, Why, Dated],
+        Form::Resume => &[Clerk, Command, Case, Deadline, ResumeDay, Dated],
+        Form::Close => &[Clerk, Command, Case, Closing, Dated],
+        Form::Reopen => &[Clerk, Command, Case, Dated],
+        Form::Rule => &[Clerk, Command, Case, Motion, Ruling, Dated],
+        Form::Assign => &[Clerk, Command, Case, Judge, JudgeOrNone, Dated],
+        Form::Title => &[Clerk, Command, Case, Title],
+        Form::Label => &[Clerk, Command, Case, Counted, Number, Label],
     }
 }
 
@@ -134,7 +203,7 @@ pub fn commands() -> &'static [&'static str]
 pub fn commands_listed() -> &'static str
     ensures { result.now ≡ commands_listed }
 {
-    "open, start, file, extend, motion, book, move, cancel, holiday, inaccessible, compute, sheet or calendar"
+    "open, start, file, extend, motion, book, move, cancel, holiday, inaccessible, compute, sheet, calendar, set, reset, end, resume, close, reopen, rule, assign, title or label"
 }
 
 // Whether the word is this form's.
@@ -161,12 +230,20 @@ fn form_in(forms: &[Form], word: &str) -> Option<Form>
     }
 }
 
-/// The form of the rows with this command word.
+/// The form of the rows with this command word, at the desk.
 #[tactic(auto, unfolding(crate::specs::Forms::Table::form_of))]
 pub fn form_of(word: &str) -> Option<Form>
     ensures { result ≡ form_of word.now }
 {
     form_in(&FORMS, word)
+}
+
+/// The form of the rows with this command word that clerk_office takes.
+#[tactic(auto, unfolding(crate::specs::Forms::Table::office_form_of))]
+pub fn office_form_of(word: &str) -> Option<Form>
+    ensures { result ≡ office_form_of word.now }
+{
+    form_in(&OFFICE_FORMS, word)
 }
 
 /// The columns of the rows with this command word, from the first on.

@@ -58,6 +58,28 @@ pub enum Column {
     Slots,
     /// The day on which notice was served.
     Notice,
+    /// What has to be done in time.
+    Act,
+    /// The day of an order.
+    Dated,
+    /// Why a deadline is due no more.
+    Why,
+    /// How a case was closed.
+    Closing,
+    /// The day on which a deadline that is resumed begins anew, which is empty.
+    ResumeDay,
+    /// How a motion was ruled on.
+    Ruling,
+    /// A judge to whom a case is referred, or nothing.
+    JudgeOrNone,
+    /// What a case is called.
+    Title,
+    /// Whether a deadline or a motion is meant.
+    Counted,
+    /// The number of a deadline or of a motion.
+    Number,
+    /// What a deadline or a motion is called.
+    Label,
 }
 
 /// The column of that number, counted from 0.
@@ -78,7 +100,7 @@ pub fn name_of(column: Column) -> &'static str
         Column::Deadline => "deadline",
         Column::Motion | Column::ByMotion => "motion",
         Column::Period => "period",
-        Column::Date => "date",
+        Column::Date | Column::ResumeDay => "date",
         Column::Time | Column::Start | Column::TimeOrNone => "time",
         Column::SecondOrNone => "second",
         Column::ServiceOrNone => "kind",
@@ -94,6 +116,15 @@ pub fn name_of(column: Column) -> &'static str
         Column::Room => "room",
         Column::Slots => "slots",
         Column::Notice => "notice",
+        Column::Act => "act",
+        Column::Dated => "dated",
+        Column::Why | Column::Closing => "why",
+        Column::Ruling => "ruling",
+        Column::JudgeOrNone => "referred",
+        Column::Title => "title",
+        Column::Counted => "of",
+        Column::Number => "number",
+        Column::Label => "label",
     }
 }
 
@@ -128,6 +159,16 @@ pub fn mark_of(word: &str, column: Column) -> &str
         Column::Room => "ROOM",
         Column::Slots => "SLOTS",
         Column::Notice => "NOTICE",
+        Column::Act => "ACT",
+        Column::Dated => "DATED",
+        Column::Why | Column::Closing => "WHY",
+        Column::ResumeDay => "[DAY]",
+        Column::Ruling => "RULING",
+        Column::JudgeOrNone => "[JUDGE2]",
+        Column::Title => "TITLE",
+        Column::Counted => "deadline|motion",
+        Column::Number => "NUMBER",
+        Column::Label => "LABEL",
     }
 }
 
@@ -137,6 +178,10 @@ pub fn may_be_empty(column: Column) -> bool
 {
     matches!(
         column,
-        Column::TimeOrNone | Column::SecondOrNone | Column::ServiceOrNone
+        Column::TimeOrNone
+            | Column::SecondOrNone
+            | Column::ServiceOrNone
+            | Column::ResumeDay
+            | Column::JudgeOrNone
     )
 }
