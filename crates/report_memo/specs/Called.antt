@@ -5,7 +5,7 @@ use Rattle.rule_periods.specs.declared.period.Entered.{Entered}
 use Rattle.rule_periods.specs.declared.period.Period.{Period}
 use Rattle.rule_periods.specs.declared.period.Period.TheVariants as period
 use Rattle.row_fields.specs.declared.named.RuleBook.{RuleBook}
-use Rattle.row_fields.specs.declared.named.RuleBook.TheVariants.{CivilRules, ForfeitureRules, SocialSecurityRules, AppellateRules, UnitedStatesCode}
+use Rattle.row_fields.specs.declared.named.RuleBook.TheVariants.{CivilRules, ForfeitureRules, SocialSecurityRules, AppellateRules, Title5, Title28, Title42}
 use Rattle.row_fields.specs.Words.{NamedPeriodView, named_periods}
 use Rattle.office_texts.specs.Words.{entered_text}
 
@@ -24,7 +24,9 @@ book_words CivilRules = codes "Rule "
 book_words ForfeitureRules = []
 book_words SocialSecurityRules = []
 book_words AppellateRules = []
-book_words UnitedStatesCode = []
+book_words Title5 = []
+book_words Title28 = []
+book_words Title42 = []
 
 -- `Rule 33(b)(2)`, `28 U.S.C. 1446(b)(1)`
 abbrev pub citation : NamedPeriodView → List ℕ

@@ -115,6 +115,8 @@ fn book_words(book: RuleBook) -> &'static str
         RuleBook::ForfeitureRules => "",
         RuleBook::SocialSecurityRules => "",
         RuleBook::AppellateRules => "",
-        RuleBook::UnitedStatesCode => "",
+        RuleBook::Title5 => "",
+        RuleBook::Title28 => "",
+        RuleBook::Title42 => "",
     }
 }

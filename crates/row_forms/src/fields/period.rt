@@ -1,11 +1,15 @@
-//! Periods, as rows write them: the code of a period of the Rules, or `LENGTH/DIRECTION/ACT/FROM/MARK`.
+//! Periods, as rows write them: the code of a period of the Rules, or `LENGTH/DIRECTION/ACT/FROM/MARK`; or, at the desk, the code of
+//! a section that sets a period which is entered.
 
-ghost use Rattle.std.specs.Prelude.{◌≡◌};
-ghost use Rattle.row_forms.specs.Fields.Period.{length_of, direction_of, act_of, is_served, entered_of, period_of};
+ghost use Rattle.std.specs.Prelude.{◌≡◌, option_map};
+ghost use Rattle.row_forms.specs.Fields.Period.{length_of, direction_of, act_of, is_served, entered_of, period_coded, period_entered, period_in, period_of};
+ghost use Rattle.row_forms.specs.CourtNames.{names_if, names_of};
 
 use crate::fields::cut::cut_at;
 use crate::fields::numbers::count_of;
 use court_clock::Direction;
+use court_days::Court;
+use row_fields::text_coded;
 use rule_periods::{Entered, Length, Mark, Period, RulePeriod};
 use rule6::Act;
 
@@ -17,6 +21,39 @@ pub fn period_of(text: &str) -> Option<Period>
     match RulePeriod::from_code(text) {
         Some(rule) => Some(Period::Rule(rule)),
         None => Some(Period::Entered(entered_of(text)?)),
+    }
+}
+
+/// The period that a text writes in a row of that court, which may be the code of a section where such codes are taken.
+#[tactic(auto, unfolding(crate::specs::Fields::Period::period_in))]
+pub fn period_in(_court: &Court, coded: bool, text: &str) -> Option<Period>
+    ensures { result ≡ period_in (names_if coded (names_of _court.now)) text.now }
+{
+    match period_of(text) {
+        Some(period) => Some(period),
+        None => period_coded(coded, text),
+    }
+}
+
+// The period of the section that has this code, if codes of sections are taken.
+#[tactic(auto, unfolding(crate::specs::Fields::Period::period_coded))]
+fn period_coded(coded: bool, text: &str) -> Option<Period>
+    ensures { result ≡ period_coded coded text.now }
+{
+    if coded {
+        period_entered(text_coded(text))
+    } else {
+        None
+    }
+}
+
+// The period that this text enters, if there is one.
+fn period_entered(text: Option<&'static str>) -> Option<Period>
+    ensures { result ≡ period_entered (option_map (λ entered. entered.now) text) }
+{
+    match text {
+        Some(text) => Some(Period::Entered(entered_of(text)?)),
+        None => None,
     }
 }
 
