@@ -22,7 +22,7 @@ import sys
 import tempfile
 from collections import Counter
 
-from lib.desk import CODED_ROW, Desk, FAULT_LINE, ROW_OF_DESK, called_rows, coded_rows, desk_rows, divided
+from lib.desk import CODED_ROW, Desk, FAULT_LINE, NAMED_PERIODS, ROW_OF_DESK, called_rows, coded_rows, desk_rows, divided, named_rows
 from lib.journal import rows_of
 from lib.made_inputs import INPUTS, made_input
 from lib.programs import programs_of, run, seed_and_count
@@ -78,8 +78,8 @@ def answered_by_python(data):
 
 
 def with_key(value, court):
-    """A court's file with that value of the key that the desk alone reads."""
-    return b"efiling_until = " + value + b"\n" + court
+    """A court's file with that value of the key that the desk alone reads, and with names of periods."""
+    return b"efiling_until = " + value + b"\n" + court + NAMED_PERIODS
 
 
 def check_key(programs, parent, court, draw):
@@ -148,6 +148,7 @@ def check_input(programs, data, draw):
         keyed = draw.random() < 0.2
         if keyed:
             check_key(programs, parent, court, draw)
+            rows = named_rows(draw, rows, [1, 2, 3])
         desk = Desk(programs, parent, with_key(b'"' + draw.choice(UNTIL) + b'"', court) if keyed else court)
         faulty, of_desk = check_rows(desk, rows, court, draw)
         if keyed:

@@ -245,6 +245,35 @@ def coded_rows(draw, rows, cases, faulty=True):
     return rows
 
 
+# Names that a court's file gives to periods, as it writes them. Rows read the first as a section's, and the last as none.
+NAMED_PERIODS = b"""
+[periods]
+50b = "3d/after/filing/event/plain"
+opposition = "14d/after/service/served/plain"
+reply = 7
+"LRCiv 7.2" = "7d/after/filing/event/plain"
+"LRCiv-7.2" = "7d/after/filing/served/plain"
+late = "72h/before/filing/event/60b"
+59e = "1d/after/filing/event/plain"
+slip = "59e"
+
+[periods.cite]
+opposition = "LRCiv 7.2(c)"
+"""
+
+
+def named_rows(draw, rows, cases):
+    """The rows with some put among them whose period is named by a court's file, or has a name that it doesn't give."""
+    days = re.findall(rb"\d{4}-\d\d-\d\d", b"".join(rows)) or [b"2025-09-07"]
+    rows = list(rows)
+    for _ in range(draw.randint(1, 6)):
+        name = draw.choice([b"50b", b"opposition", b"Opposition", b"LRCiv-7.2", b"LRCiv 7.2", b"late", b"59e", b"slip", b"cite", b"reply"])
+        kind = draw.choice([b"C", b"E"]) if name in (b"opposition", b"LRCiv-7.2") else b""
+        row = b"1,start,%d,%s,%s,,,%s\n" % (draw.choice(cases), name, draw.choice(days), kind)
+        rows.insert(draw.randint(min(len(rows), 3), len(rows)), row)
+    return rows
+
+
 def desk_rows(draw, rows, cases, faulty=True):
     """The rows with some among them that the desk alone takes."""
     return assign_rows(draw, fact_rows(draw, set_rows(draw, rows, cases, faulty), cases, faulty), cases, faulty)

@@ -155,8 +155,13 @@ def period(text, court):
 
 
 def period_or_code(text, court):
-    """A period as the desk takes it, also by the code of the section that sets it."""
-    return period_of_text(text) or period_of_text(CODES.get(text, ""))
+    """A period as the desk takes it, also by the code of the section that sets it, or by the court's own name for it."""
+    return period_of_text(text) or entered(CODES.get(text) or court.periods.get(text, ""))
+
+
+def entered(text):
+    """The period that a text enters, and not one of the Rules."""
+    return period_of_text(text) if "/" in text else None
 
 
 def grant(text, court):

@@ -1,7 +1,8 @@
 -- Codes of periods, and that no period which is read is one that an order sets.
-use Rattle.std.proofs.Common.{◌≡◌, ◌+◌, ℕ, ℤ, Bool, true, false, List, Option, Some, None, Result, Ok, Err, option_map, refl, rules}
+use Rattle.std.proofs.Common.{◌≡◌, ◌∙◌, ◌+◌, ℕ, ℤ, Bool, true, false, List, Option, Some, None, Result, Ok, Err, option_map, refl, rules}
 use Rattle.std.specs.Option.{ok_or, option_and_then, option_or}
-use Rattle.row_fields.specs.Words.{named_periods, text_coded}
+use Rattle.court_file_text.specs.Words.{NamedTextView}
+use Rattle.row_fields.specs.Words.{named_periods}
 use Rattle.rule6.specs.declared.service.ServiceKind.{ServiceKind}
 use Rattle.rule_periods.specs.declared.period.Entered.{Entered}
 use Rattle.rule_periods.specs.declared.period.Length.{Length}
@@ -18,7 +19,7 @@ use Rattle.row_forms.specs.CourtNames.{CourtNames, office_names}
 use Rattle.row_forms.specs.Fields.Choices.{kind_if_given}
 use Rattle.row_forms.specs.Fields.Numbers.{count_of}
 use Rattle.row_forms.specs.Fields.Cut.{cut_at}
-use Rattle.row_forms.specs.Fields.Period.{CodesAreReadBack, SectionCodesAreNew, entered_of, length_of, period_coded, period_entered, period_in, period_of}
+use Rattle.row_forms.specs.Fields.Period.{CodesAreReadBack, SectionCodesAreNew, entered_of, length_of, period_coded, period_entered, period_in, period_of, text_meant}
 use Rattle.row_forms.specs.Fields.Times.{day_if_given, minute_or_midnight}
 use Rattle.row_forms.specs.Forms.Periods.{measured_from}
 
@@ -78,25 +79,25 @@ entered_never_set (Some text) p h = by (entered_of text) refl h
         let is : period.Entered entered ≡ p = cc e in
         rw (← is) ((entered_counted text).counted entered same)
 
--- a period that is named by a section's code
-coded_never_set : (coded : Bool) (text : List ℕ) (p : Period) → period_coded coded text ≡ Some p → is_set p ≡ false
+-- a period that is named by a section's code, or by the court
+coded_never_set : (coded : Bool) (own : List NamedTextView) (text : List ℕ) (p : Period) → period_coded coded own text ≡ Some p → is_set p ≡ false
 unfolding period_coded
-coded_never_set false text p h = cc h
-coded_never_set true text p h = entered_never_set (text_coded text) p h
+coded_never_set false own text p h = cc h
+coded_never_set true own text p h = entered_never_set (text_meant own text) p h
 
 -- a period that rows write in one of these ways
 written_never_set : (names : CourtNames) (text : List ℕ) (p : Period) → period_in names text ≡ Some p → is_set p ≡ false
 unfolding period_in
-written_never_set names text p h = by (period_of text) refl (period_coded names.coded text) refl h
+written_never_set names text p h = by (period_of text) refl (period_coded names.coded names.periods text) refl h
   where
-    by : (found : Option Period) → period_of text ≡ found → (other : Option Period) → period_coded names.coded text ≡ other → option_or found other ≡ Some p → is_set p ≡ false
+    by : (found : Option Period) → period_of text ≡ found → (other : Option Period) → period_coded names.coded names.periods text ≡ other → option_or found other ≡ Some p → is_set p ≡ false
     by (Some q) same other coded e = let is : q ≡ p = cc e in rw (← is) (never_set text q same)
-    by None same other coded e = coded_never_set names.coded text p (rw coded e)
+    by None same other coded e = coded_never_set names.coded names.periods text p (coded ∙ e)
 
 -- what clerk_office reads as a period, the desk reads alike
 period_alike : (names : CourtNames) (text : List ℕ) (p : Period) → period_in (office_names names) text ≡ Some p → period_in names text ≡ Some p
 unfolding period_in period_coded
-period_alike names text p h = by (period_of text) (period_coded names.coded text) h
+period_alike names text p h = by (period_of text) (period_coded names.coded names.periods text) h
   where
     by : (found other : Option Period) → option_or found None ≡ Some p → option_or found other ≡ Some p
     by (Some q) other e = e

@@ -1,21 +1,23 @@
 -- The names that rows may have: those of a court's judges and rooms, with their numbers, and of periods.
 use Rattle.std.specs.Prelude.{ℕ, Bool, true, false, List, [], ◌∷◌, length, Option, Some, None, unwrap_or}
-use Rattle.court_file_text.specs.Words.{name_index}
+use Rattle.court_file_text.specs.Words.{NamedTextView, name_index}
 use Rattle.court_days.specs.Words.{CourtView}
 
--- the names of judges and of rooms, in the order of the court's file, and whether a period may be named by its section's code
+-- the names of judges and of rooms, in the order of the court's file, those that it gives to periods, with their texts, and whether a
+-- period may be named so or by its section's code
 pub record CourtNames : Type 0 where
   pub judges : List (List ℕ)
   pub rooms : List (List ℕ)
+  pub periods : List NamedTextView
   pub coded : Bool
 
 -- the names that rows of the desk may have
 abbrev pub names_of : CourtView → CourtNames
-names_of court = record { judges = court.judges; rooms = court.rooms; coded = true }
+names_of court = record { judges = court.judges; rooms = court.rooms; periods = court.periods.texts; coded = true }
 
 -- the same, where a period may be named so, or where it may not
 abbrev pub names_if : (coded : Bool) → CourtNames → CourtNames
-names_if coded names = record { judges = names.judges; rooms = names.rooms; coded = coded }
+names_if coded names = record { judges = names.judges; rooms = names.rooms; periods = names.periods; coded = coded }
 
 -- the names that rows of clerk_office may have
 abbrev pub office_names : CourtNames → CourtNames

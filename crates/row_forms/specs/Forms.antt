@@ -252,7 +252,7 @@ work_as names found fields = do
 unfoldable pub work_of : CourtNames → List (List ℕ) → Result Work RowCause
 work_of names fields = work_as names (form_of (column fields 2)) fields
 
--- what a row of clerk_office asks for, which has no code of a section
+-- what a row of clerk_office asks for, which names no period so
 unfoldable pub office_work_of : CourtNames → List (List ℕ) → Result Work RowCause
 office_work_of names fields = work_as (office_names names) (office_form_of (column fields 2)) fields
 

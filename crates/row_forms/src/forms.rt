@@ -34,7 +34,7 @@ pub use table::{COMMANDS, columns_of, commands, commands_listed};
 pub(crate) use table::{Form, form_of, office_form_of};
 
 /// What a row of that court asks for whose command word names this form, if it names one. Its period may be named by the code of a
-/// section where such codes are taken.
+/// section, or by the court, where such names are taken.
 #[tactic(auto, unfolding(crate::specs::Forms::work_as))]
 pub fn work_as(
     court: &Court,

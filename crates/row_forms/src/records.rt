@@ -104,7 +104,7 @@ pub fn row_of(clerks: u8, court: &Court, fields: &StringRecord) -> Result<Row, R
     row_as(clerks, court, true, form_of(column(fields, 2)), fields)
 }
 
-// The same in the forms of clerk_office, which takes no code of a section.
+// The same in the forms of clerk_office, which takes no such names of periods.
 #[tactic(auto, unfolding(crate::specs::Rows::office_row_of, crate::specs::Forms::office_work_of))]
 fn office_row_of(clerks: u8, court: &Court, fields: &StringRecord) -> Result<Row, RowCause>
     requires { list_all is_utf8 (fields_of fields.now) ≡ true }
@@ -114,7 +114,7 @@ fn office_row_of(clerks: u8, court: &Court, fields: &StringRecord) -> Result<Row
 }
 
 // The row that a record spells whose command word names this form, if it names one. Its period may be named by the code of a section
-// where such codes are taken.
+// or by the court where such names are taken.
 fn row_as(
     clerks: u8,
     court: &Court,

@@ -82,13 +82,21 @@ fn nearest_code(alloc: Global, word: &str) -> Result<Option<String>, AllocError>
     }
 }
 
-/// The code of a period, of the Rules or of a section whose period is entered, that is nearest to a folded word, likewise.
-fn nearest_period(alloc: Global, word: &str) -> Result<Option<String>, AllocError> {
+/// The code of a period, of the Rules or of a section whose period is entered, or the court's name for one, that is nearest to a folded
+/// word, likewise.
+fn nearest_period(
+    alloc: Global,
+    court: &Court,
+    word: &str,
+) -> Result<Option<String>, AllocError> {
     if is_section(alloc, word)? {
         return Ok(None);
     }
-    let codes = all_codes(alloc)?;
-    nearest_of(alloc, number_cited(word), &codes)
+    let mut known = all_codes(alloc)?;
+    for period in court.periods() {
+        known.push(period.name())?;
+    }
+    nearest_of(alloc, number_cited(word), &known)
 }
 
 /// The known word that is nearest to what was found in a column, which is this word when it is folded.
@@ -105,7 +113,7 @@ fn nearest_in(
             let names = rooms_of(alloc, court)?;
             nearest_of(alloc, word, &names)
         }
-        Column::Period => nearest_period(alloc, word),
+        Column::Period => nearest_period(alloc, court, word),
         Column::Deadline => nearest_code(alloc, word),
         Column::Motion => nearest_of(alloc, word, &["last"]),
         Column::ServiceOrNone => nearest_of(

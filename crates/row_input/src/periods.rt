@@ -21,7 +21,7 @@ pub(crate) const CODES: [&str; 10] = [
 const OF_A_YEAR: [&str; 6] = ["60b", "60b1", "60b2", "60b3", "60c", "60c1"];
 
 /// The codes of periods, and of sections that set one which is entered.
-pub(crate) fn all_codes(alloc: Global) -> Result<Vec<&'static str>, AllocError> {
+pub(crate) fn all_codes<'a>(alloc: Global) -> Result<Vec<&'a str>, AllocError> {
     let mut codes = Vec::new(alloc);
     for code in &CODES {
         codes.push(*code)?;

@@ -30,7 +30,7 @@ pub struct Measured {
 }
 
 /// The columns `PERIOD,DATE,TIME,SECOND,KIND`, the first of which has this number, in a row of that court, which may have the code of a
-/// section where such codes are taken.
+/// section, or the court's name for a period, where these are taken.
 #[tactic(auto, unfolding(crate::specs::Forms::Periods::measured_from))]
 pub fn measured_from(
     court: &Court,
