@@ -187,6 +187,14 @@ def spoiled():
     way("where a period is from that isn't there", named(opposition + '\n[periods.cite]\nreply = "LRCiv 7.2(d)"\n'))
     way("the names of periods are a text", COURT + 'periods = "14d/after/service/served/plain"\n')
 
+    def sets(text):
+        return COURT + "\n[triggers]\n" + text
+
+    way("sets of periods", sets('judgment = "50b, FRAP 4(a)(1)(A), 62(a)"\nmotion = "14d/after/service/served/plain"\n'))
+    way("a set with a period that is none", sets('judgment = "50b, 50c, 59e"\n'))
+    way("a set with a section that sets two periods", sets('judgment = "50b, FRAP 4(a)(1)"\n'))
+    way("a set that is a list", sets('judgment = ["50b"]\n'))
+
     # the span
     way("to is before from", put('to = "2026-12-31"', 'to = "2024-12-31"'))
     way("to is moved", put('to = "2026-12-31"', 'to = "2030-12-31"'))

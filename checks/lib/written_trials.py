@@ -4,7 +4,7 @@ import json
 import re
 
 from lib.programs import TOP
-from lib.written_fields import CODES, ENTERED, SECTION_CODES, case_in, folded, grant_in, is_statute, name_in, nearest_code, number_in, parted, period_in, slots_in, spelled, time_in
+from lib.written_fields import CODES, ENTERED, SECTIONS, SECTION_CODES, case_in, folded, grant_in, is_statute, name_in, nearest_code, number_in, parted, period_in, slots_in, spelled, time_in
 from reference.sections import code_of
 
 # The definition of the sections whose periods are entered, and its name for the book of each.
@@ -123,3 +123,23 @@ def check_sections(desk, draw):
         assert len(texts) < 3 and [fault.get("one"), fault.get("other")] == (texts if len(texts) == 2 else [None, None]), (text, texts, fault)
         assert len(texts) == 1 or fault["advice"].endswith("docs/law/RULES.md says when") and "nearest" not in fault, (text, fault)
     return len(ENTERED)
+
+
+# The sets of periods that come with the program, as docs/clerk/TRIGGERS.md has them.
+SETS = {"judgment": ["50b", "52b", "59b", "59e", "54d2B", "frap4a1A", "62a"], "complaint": ["4m"], "served": ["12a1Ai"], "removed": ["81c2C", "1447c"]}
+# Triggers, and what each is written out as: with the fields after the date, where there are some, and read as any row.
+TRIGGERS = [("1,trigger,12,{},2025-08-04", "1,start,12,{},2025-08-04,,,", False), ("1,trigger,12,{},2025-08-04,,,C", "1,start,12,{},2025-08-04,,,C", False),
+            ("2;Trigger;12;{};Aug 4, 2025", "2,start,12,{},2025-08-04,,,", True), ("1,TRIGGER,12,{},2025-08-04,09:30,,mail", "1,start,12,{},2025-08-04,09:30,,C", True)]
+
+
+def check_triggers(desk):
+    """Each set is written out as a row of `start` for each of its periods, in their order; and so are periods with commas between them.
+    A row that isn't plain has the texts of sections."""
+    tried = 0
+    for name, codes in list(SETS.items()) + [('"59e, 50b"', ["59e", "50b"])]:
+        for row, wanted, is_read in TRIGGERS:
+            ended = desk.call("plain", given=(row.format(name) + "\n").encode())
+            periods = [SECTIONS[folded(code)][0] if is_read else code for code in codes]
+            assert ended.output.decode() == "".join(wanted.format(period) + "\n" for period in periods), (row, name, ended)
+            tried += 1
+    return tried

@@ -159,6 +159,13 @@ impl Court {
         self.periods.cite(name)
     }
 
+    /// The text of the set of periods to which the court's file gives this name, with commas between them.
+    pub fn trigger_text(&self, name: &str) -> Option<&str>
+        ensures { option_map (λ text. text.now) result ≡ text_named self.now.periods.triggers name.now }
+    {
+        self.periods.trigger(name)
+    }
+
     /// The periods to which the court's file gives names, in its order, each with its text.
     pub fn periods(&self) -> &[NamedText]
         ensures { result.now ≡ self.now.periods.texts }

@@ -1,5 +1,5 @@
 -- The names that a court's file gives to periods which are entered: a table `[periods]` has the text of each, and in it a table
--- `[periods.cite]` says where the period is from. The desk alone reads them.
+-- `[periods.cite]` says where the period is from. A table `[triggers]` gives names to sets of periods. The desk alone reads them.
 use Rattle.std.specs.Prelude.{ℕ, ◌==◌, ◌&&◌, ◌||◌, not, nat_lt, Bool, List, [], ◌∷◌, ◌++◌, length, Option, Some, None, codes, if◌then◌else◌}
 use Rattle.std.specs.List.{list_all}
 use Rattle.std.specs.Option.{option_and_then}
@@ -12,13 +12,14 @@ pub record NamedTextView : Type 0 where
   pub name : List ℕ
   pub text : List ℕ
 
--- the texts of periods, and where they are from, each in the order of its table
+-- the texts of periods, where they are from, and the sets of periods, each in the order of its table
 pub record PeriodNamesView : Type 0 where
   pub texts : List NamedTextView
   pub cites : List NamedTextView
+  pub triggers : List NamedTextView
 
 abbrev pub no_period_names : PeriodNamesView
-no_period_names = record { texts = []; cites = [] }
+no_period_names = record { texts = []; cites = []; triggers = [] }
 
 -- a byte of no ASCII control character
 abbrev pub is_printed_byte : ℕ → Bool
@@ -51,14 +52,18 @@ texts_if None = []
 abbrev pub table_at : (key : List ℕ) → Members → Option Members
 table_at key table = option_and_then as_table (get_member key table)
 
--- the names in a table of periods, where there is one
-abbrev pub period_names_if : Option Members → PeriodNamesView
-period_names_if (Some table) = record { texts = texts_among table; cites = texts_if (table_at (codes "cite") table) }
-period_names_if None = no_period_names
+-- where the periods of a table are from, where there is one
+abbrev pub cites_if : Option Members → List NamedTextView
+cites_if (Some table) = texts_if (table_at (codes "cite") table)
+cites_if None = []
 
--- the names that a document gives to periods
+-- the names that a document gives to periods, and to sets of them
 unfoldable pub period_names : Members → PeriodNamesView
-period_names document = period_names_if (table_at (codes "periods") document)
+period_names document = record {
+  texts = texts_if (table_at (codes "periods") document);
+  cites = cites_if (table_at (codes "periods") document);
+  triggers = texts_if (table_at (codes "triggers") document);
+}
 
 -- the first text that has this name, if one has it
 abbrev pub text_named : List NamedTextView → (name : List ℕ) → Option (List ℕ)

@@ -3,7 +3,7 @@
 ghost use Rattle.std.specs.Prelude.{◌≡◌, ◌++◌, [], IfOk, Ok, OnOk, codes, option_map, string_bytes};
 ghost use Rattle.std.specs.List.{list_all};
 ghost use Rattle.toml.specs.View.{table_view, view};
-ghost use Rattle.court_file_text.specs.PeriodNames.{PeriodNamesView, is_printed, is_printed_byte, named_by, no_period_names, period_names, period_names_if, table_at, text_named, texts_among, texts_if};
+ghost use Rattle.court_file_text.specs.PeriodNames.{PeriodNamesView, is_printed, is_printed_byte, cites_if, named_by, no_period_names, period_names, table_at, text_named, texts_among, texts_if};
 ghost use Rattle.court_file_text.specs.Reading.{Gives};
 
 use crate::fault::CourtFault;
@@ -51,11 +51,12 @@ impl NamedText {
     }
 }
 
-/// The names of a court's periods: the text of each, and where it is from.
+/// The names of a court's periods: the text of each, and where it is from; and those of sets of periods.
 #[derive(Debug, Drop)]
 pub struct PeriodNames {
     texts: Vec<NamedText>,
     cites: Vec<NamedText>,
+    triggers: Vec<NamedText>,
 }
 
 impl Model for PeriodNames {
@@ -63,7 +64,7 @@ impl Model for PeriodNames {
 
     ghost Value = { PeriodNamesView };
 
-    ghost view = { λ p. record { texts = p.texts.items; cites = p.cites.items } };
+    ghost view = { λ p. record { texts = p.texts.items; cites = p.cites.items; triggers = p.triggers.items } };
 }
 
 impl PeriodNames {
@@ -74,6 +75,7 @@ impl PeriodNames {
         PeriodNames {
             texts: Vec::new(alloc),
             cites: Vec::new(alloc),
+            triggers: Vec::new(alloc),
         }
     }
 
@@ -97,32 +99,50 @@ impl PeriodNames {
     {
         text_named(&self.cites, name)
     }
+
+    /// The text of the set of periods with this name, commas between them.
+    pub fn trigger(&self, name: &str) -> Option<&str>
+        ensures { option_map (λ text. text.now) result ≡ text_named self.now.triggers name.now }
+    {
+        text_named(&self.triggers, name)
+    }
 }
 
-/// The names that a document gives to periods, in its table `periods`. Passed over are an entry whose name isn't one of 1 to 32 letters,
+/// The names that a document gives to periods, in its table `periods`, and to sets of them, in its table `triggers`. Passed over are an entry whose name isn't one of 1 to 32 letters,
 /// digits, `-`, `_` and `.`, and one whose value is no text, is empty or has an ASCII control character. `OutOfMemory` where memory
 /// ran out, and no other fault.
-#[tactic(auto, unfolding(crate::specs::PeriodNames::period_names))]
 pub fn period_names(alloc: Global, document: &Table) -> Result<PeriodNames, CourtFault>
     ensures { Gives (λ names. names) result (Ok (period_names (table_view document.now))) }
 {
-    match period_names_if(alloc, table_at(document, "periods")) {
+    match names_in(alloc, document) {
         Ok(names) => Ok(names),
         Err(_) => Err(CourtFault::OutOfMemory),
     }
 }
 
-// The names in a table of periods, where there is one.
-fn period_names_if(alloc: Global, table: Option<&Table>) -> Result<PeriodNames, AllocError>
-    ensures { IfOk result (λ names. names ≡ period_names_if (option_map (λ table. table_view table.now) table)) }
+// The same, where memory alone may run out.
+#[tactic(auto, unfolding(crate::specs::PeriodNames::period_names))]
+fn names_in(alloc: Global, document: &Table) -> Result<PeriodNames, AllocError>
+    ensures { IfOk result (λ names. names ≡ period_names (table_view document.now)) }
+{
+    let periods = table_at(document, "periods");
+    let texts = texts_if(alloc, periods)?;
+    let cites = cites_if(alloc, periods)?;
+    let triggers = texts_if(alloc, table_at(document, "triggers"))?;
+    Ok(PeriodNames {
+        texts,
+        cites,
+        triggers,
+    })
+}
+
+// Where the periods of a table are from, where there is one.
+fn cites_if(alloc: Global, table: Option<&Table>) -> Result<Vec<NamedText>, AllocError>
+    ensures { IfOk result (λ cites. cites.items ≡ cites_if (option_map (λ table. table_view table.now) table)) }
 {
     match table {
-        Some(table) => {
-            let texts = texts_in(alloc, table)?;
-            let cites = texts_if(alloc, table_at(table, "cite"))?;
-            Ok(PeriodNames { texts, cites })
-        }
-        None => Ok(PeriodNames::none(alloc)),
+        Some(table) => texts_if(alloc, table_at(table, "cite")),
+        None => Ok(Vec::new(alloc)),
     }
 }
 

@@ -1,9 +1,9 @@
-//! The lines of warnings about the names that a file gives to periods.
+//! The lines of warnings about the names that a file gives to periods, and to sets of them.
 
 use crate::places::place_at;
 use crate::report::sheet::{Sheet, shown};
 use court_file_text::{is_name, is_printed};
-use row_fields::{Said, folded, section_said};
+use row_fields::{Said, cut_line, folded, section_said};
 use std::alloc::AllocError;
 use toml::{Table, Value};
 
@@ -11,6 +11,9 @@ use toml::{Table, Value};
 const PERIODS: &str = "periods";
 
 const CITE: &str = "cite";
+
+/// The table that has sets of periods.
+const TRIGGERS: &str = "triggers";
 
 /// Adds a line for each entry of the table of periods that no row can name.
 pub(crate) fn push_periods(sheet: &mut Sheet<'_>, file: &Table) -> Result<(), AllocError> {
@@ -29,6 +32,62 @@ pub(crate) fn push_periods(sheet: &mut Sheet<'_>, file: &Table) -> Result<(), Al
         }
     }
     Ok(())
+}
+
+/// Adds a line for each set of periods that no row can name, or of which one is none.
+pub(crate) fn push_triggers(sheet: &mut Sheet<'_>, file: &Table) -> Result<(), AllocError> {
+    let Some(value) = file.get(TRIGGERS) else {
+        return Ok(());
+    };
+    let Some(table) = value.as_table() else {
+        begin(sheet, "", TRIGGERS)?;
+        return sheet.end("this is no table, and nothing reads it; write [triggers] in a line, and below it a line such as judgment = \"50b, 59e\"");
+    };
+    for (name, value) in table.iter() {
+        push_set(sheet, file, name.as_str(), value)?;
+    }
+    Ok(())
+}
+
+/// Adds a line for a set that no row can name, or of which a period is none.
+fn push_set(
+    sheet: &mut Sheet<'_>,
+    file: &Table,
+    name: &str,
+    value: &Value,
+) -> Result<(), AllocError> {
+    let Some(text) = value.as_str() else {
+        begin(sheet, "[triggers]", name)?;
+        return sheet.end("this is no text, and nothing reads it; a set is written as \"50b, 59e\"");
+    };
+    if !is_name(name) || !is_printed(text) {
+        begin(sheet, "[triggers]", name)?;
+        return sheet.end("nothing reads this; a name is of 1 to 32 letters, digits, -, _ and ., and a set is written as \"50b, 59e\"");
+    }
+    let periods = cut_line(sheet.alloc(), text, b',')?;
+    for i in 0..periods.len() {
+        let period = periods.get(i).unwrap_or("");
+        if !is_period(period) && !is_known(sheet, file, period)? {
+            begin(sheet, "[triggers]", name)?;
+            let shown = shown(period.as_bytes(), 0, period.len());
+            write!(sheet.text, "{shown} is no period")?;
+            sheet.end(", and rows that name this set are faults; its periods are as rows name them, with commas between them")?;
+        }
+    }
+    Ok(())
+}
+
+/// Whether a text names a period: a section that sets one, or a name of the file.
+fn is_known(sheet: &Sheet<'_>, file: &Table, text: &str) -> Result<bool, AllocError> {
+    let word = folded(sheet.alloc(), text)?;
+    match section_said(word.as_str()) {
+        Said::Clear(_) => Ok(true),
+        Said::Unclear(_, _) => Ok(false),
+        Said::Unknown => match file.get(PERIODS).and_then(Value::as_table) {
+            Some(table) => Ok(table.get(text).is_some()),
+            None => Ok(false),
+        },
+    }
 }
 
 /// Adds a line for a period that no row can name.
@@ -89,7 +148,12 @@ fn begin(sheet: &mut Sheet<'_>, header: &str, name: &str) -> Result<(), AllocErr
     } else {
         "a name"
     };
-    write!(sheet.text, "warning: periods: {name}: ")
+    let table = if header == "[triggers]" || name == TRIGGERS {
+        TRIGGERS
+    } else {
+        PERIODS
+    };
+    write!(sheet.text, "warning: {table}: {name}: ")
 }
 
 /// How many bytes come before the first line that begins with the name, below a line with this header.
