@@ -190,7 +190,7 @@ def of_deadline(court, rows, row, filed, today):
     if runs_from_event(row) and row.filed is not None and row.filed.day < starts(row):
         lines.append(note(row.filed.day, "the act was done before its event"))
     if row.filed is not None and row.period.text.split("/")[-1] in MOVES_APPEAL:
-        lines.append(note(row.filed.day, "if timely, appeal runs from its order: FRAP 4(a)(4)"))
+        lines.append(note(row.filed.day, "if timely, the time to appeal moves: FRAP 4(a)(4)"))
     return lines
 
 

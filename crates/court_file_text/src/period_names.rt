@@ -138,7 +138,7 @@ fn names_in(alloc: Global, document: &Table) -> Result<PeriodNames, AllocError>
 
 // Where the periods of a table are from, where there is one.
 fn cites_if(alloc: Global, table: Option<&Table>) -> Result<Vec<NamedText>, AllocError>
-    ensures { IfOk result (λ cites. cites.items ≡ cites_if (option_map (λ table. table_view table.now) table)) }
+    ensures { IfOk result (λ cites. cites.items ≡ cites_if (option_map (λ found. table_view found.now) table)) }
 {
     match table {
         Some(table) => texts_if(alloc, table_at(table, "cite")),
@@ -148,7 +148,7 @@ fn cites_if(alloc: Global, table: Option<&Table>) -> Result<Vec<NamedText>, Allo
 
 // The table at a key, where there is one.
 fn table_at<'a>(table: &'a Table, key: &str) -> Option<&'a Table>
-    ensures { option_map (λ table. table_view table.now) result ≡ table_at key.now (table_view table.now) }
+    ensures { option_map (λ found. table_view found.now) result ≡ table_at key.now (table_view table.now) }
 {
     match table.get(key) {
         Some(value) => value.as_table(),
@@ -158,7 +158,7 @@ fn table_at<'a>(table: &'a Table, key: &str) -> Option<&'a Table>
 
 // What a table names, where there is one.
 fn texts_if(alloc: Global, table: Option<&Table>) -> Result<Vec<NamedText>, AllocError>
-    ensures { IfOk result (λ texts. texts.items ≡ texts_if (option_map (λ table. table_view table.now) table)) }
+    ensures { IfOk result (λ texts. texts.items ≡ texts_if (option_map (λ found. table_view found.now) table)) }
 {
     match table {
         Some(table) => texts_in(alloc, table),

@@ -9,9 +9,9 @@ use Rattle.rule6.specs.declared.timeliness.Shown.{Shown}
 use Rattle.rule_periods.specs.declared.grant.Grant.{Grant}
 use Rattle.rule_periods.specs.declared.grant.Request.{Request}
 use Rattle.rule_periods.specs.declared.mark.Mark.{Mark}
-use Rattle.rule_periods.specs.declared.mark.Mark.TheVariants as mark
+use Rattle.rule_periods.specs.declared.mark.Mark.TheVariants.{Rule50b, Rule52b, Rule59b as Mark59b, Rule59e as Mark59e}
 use Rattle.rule_periods.specs.declared.period.Period.{Period}
-use Rattle.rule_periods.specs.declared.period.Period.TheVariants as period
+use Rattle.rule_periods.specs.declared.period.Period.TheVariants.{Rule as OfRule, Entered as OfText}
 use Rattle.rule_periods.specs.declared.rule.RulePeriod.{RulePeriod}
 use Rattle.rule_periods.specs.declared.rule.RulePeriod.TheVariants.{Rule59b, Rule59e}
 use Rattle.rule_periods.specs.Words.{DeadlineRowView, direction_of, is_asked_in_time, is_in_hours, is_order, is_set, runs_from}
@@ -106,21 +106,21 @@ is_of_judgment Rule59e = true
 is_of_judgment rule = false
 
 abbrev pub marks_judgment : Mark → Bool
-marks_judgment mark.Rule50b = true
-marks_judgment mark.Rule52b = true
-marks_judgment mark.Rule59b = true
-marks_judgment mark.Rule59e = true
+marks_judgment Rule50b = true
+marks_judgment Rule52b = true
+marks_judgment Mark59b = true
+marks_judgment Mark59e = true
 marks_judgment other = false
 
 abbrev pub moves_appeal : Period → Bool
-moves_appeal (period.Rule rule) = is_of_judgment rule
-moves_appeal (period.Entered entered) = marks_judgment entered.mark
+moves_appeal (OfRule rule) = is_of_judgment rule
+moves_appeal (OfText entered) = marks_judgment entered.mark
 
 -- such a motion that was made
 abbrev pub appeal_begins : Period → (act : Option Filing) → List ℕ
 appeal_begins p None = []
 appeal_begins p (Some filing) =
-    if moves_appeal p then note (Some filing.day) (codes "if timely, appeal runs from its order: FRAP 4(a)(4)") else []
+    if moves_appeal p then note (Some filing.day) (codes "if timely, the time to appeal moves: FRAP 4(a)(4)") else []
 
 -- the notes on an act, if there is one
 abbrev pub notes_of_act : Period → (start : ℤ) → (act : Option Filing) → List ℕ

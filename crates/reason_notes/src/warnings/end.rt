@@ -77,7 +77,7 @@ fn push_appeal_begins(
         Some(filing) if moves_appeal(period) => push_note(
             text,
             Some(filing.day),
-            "if timely, appeal runs from its order: FRAP 4(a)(4)",
+            "if timely, the time to appeal moves: FRAP 4(a)(4)",
             "note",
         ),
         _ => Ok(()),
