@@ -69,8 +69,8 @@ fn push_set(
         let period = periods.get(i).unwrap_or("");
         if !is_period(period) && !is_known(sheet, file, period)? {
             begin(sheet, "[triggers]", name)?;
-            let shown = shown(period.as_bytes(), 0, period.len());
-            write!(sheet.text, "{shown} is no period")?;
+            let part = shown(period.as_bytes(), 0, period.len());
+            write!(sheet.text, "{part} is no period")?;
             sheet.end(", and rows that name this set are faults; its periods are as rows name them, with commas between them")?;
         }
     }
