@@ -4,6 +4,8 @@ use Rattle.toml.specs.Data.{Data, Members, get_member}
 use Rattle.court_file_text.specs.declared.fault.CourtFault.{CourtFault}
 use Rattle.court_file_text.specs.declared.fault.CourtFault.TheVariants.{NotToml}
 use Rattle.court_file_text.specs.declared.key.Key.TheVariants as key
+use Rattle.court_clock.specs.Words.{Zone}
+use Rattle.court_days.specs.Days.{DaysView}
 use Rattle.court_days.specs.Court.{CourtFile, DeskReadsAlike, court_in, court_of, days_at, desk_court_in, desk_court_of, hours_at, with_minute, with_names, zone_at}
 use Rattle.court_file_text.specs.Words.{◌>>=◌, if_there, key_name, PeriodNamesView, minute_at, minute_if_there, names_at, no_period_names, period_names, toml_of}
 use Rattle.court_days.proofs.CourtLemmas.OpeningLemmas.{steps}
@@ -21,20 +23,28 @@ office_without_names document file e =
     let same : read ≡ file = cc rooms.2 in
     sym (ap (λ (f : CourtFile). f.periods) same)
 
--- a file that has these names already
-same_names : (names : PeriodNamesView) (file : CourtFile) → file.periods ≡ names → with_names names file ≡ file
-same_names names file has = rw (← has) refl
+-- what clerk_office reads, from what it reads at its keys
+abbrev office_read : Result Zone CourtFault → Result (ℕ × ℕ) CourtFault → Result DaysView CourtFault → (judges rooms : Result (List (List ℕ)) CourtFault) → Result CourtFile CourtFault
+office_read z h d j r =
+    z >>= λ zone. h >>= λ hours. d >>= λ days. j >>= λ judges. r >>= λ rooms.
+    Ok (record { zone = zone; opens = hours.0; closes = hours.1; efiling_until = None; days = days; judges = judges; rooms = rooms; periods = no_period_names })
 
--- a file whose minute isn't there, and which has these names, is the file
-none_more : (names : PeriodNamesView) (read : Result CourtFile CourtFault) → ((file : CourtFile) → read ≡ Ok file → file.periods ≡ names) → (read >>= λ file. Ok (with_names names (with_minute None file))) ≡ read
-none_more names (Ok file) has = ap Ok (same_names names file (has file refl))
-none_more names (Err fault) has = refl
+-- without a minute and without names that stays
+none_more : (z : Result Zone CourtFault) (h : Result (ℕ × ℕ) CourtFault) (d : Result DaysView CourtFault) (j r : Result (List (List ℕ)) CourtFault)
+    → (office_read z h d j r >>= λ file. Ok (with_names no_period_names (with_minute None file))) ≡ office_read z h d j r
+none_more (Err fault) h d j r = refl
+none_more (Ok zone) (Err fault) d j r = refl
+none_more (Ok zone) (Ok hours) (Err fault) j r = refl
+none_more (Ok zone) (Ok hours) (Ok days) (Err fault) r = refl
+none_more (Ok zone) (Ok hours) (Ok days) (Ok judges) (Err fault) = refl
+none_more (Ok zone) (Ok hours) (Ok days) (Ok judges) (Ok rooms) = refl
 
 without : (document : Members) → get_member (key_name key.EfilingUntil) document ≡ None → period_names document ≡ no_period_names → desk_court_of document ≡ court_of document
-unfolding desk_court_of minute_if_there
+unfolding desk_court_of minute_if_there court_of
 without document lacks none =
     ap (λ (there : Option Data). court_of document >>= λ file. if_there there (minute_at key.EfilingUntil document) >>= λ minute. Ok (with_names (period_names document) (with_minute minute file))) lacks
-    ∙ none_more (period_names document) (court_of document) (λ file read. office_without_names document file read ∙ sym none)
+    ∙ ap (λ (names : PeriodNamesView). court_of document >>= λ file. Ok (with_names names (with_minute None file))) none
+    ∙ none_more (zone_at document) (hours_at document) (days_at document) (names_at key.Judges document) (names_at key.Rooms document)
 
 -- the minute, the names and the rest of a document
 pub desk_parts : (document : Members) (file : CourtFile) → desk_court_of document ≡ Ok file
