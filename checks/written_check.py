@@ -25,7 +25,7 @@ from lib.desk import Desk, FAULTS, SHORT_COURT, told_of
 from lib.programs import TOP, programs_of, seed_and_count
 from lib.spoiled_lines import spoiled
 from lib.written_fields import ENTERED as SECTIONS, spelled as spelled_section
-from lib.written_trials import check_broken, check_misspelt, check_sections
+from lib.written_trials import check_broken, check_misspelt, check_sections, check_triggers
 
 SAID = TOP / "runs" / "written" / "said.txt"
 COURT = SHORT_COURT.replace(b'["Ames", "Brandt"]', b'["Ames", "Brandt", "OBrien", "Smith-Jones", "J.Kaplan"]').replace(
@@ -379,6 +379,7 @@ def main(words):
         print("{} of {} fields with blanks and dots in them are read, and the others are faults".format(check_broken(desk, draw, count, JUDGES, ROOMS), count))
         print("{} misspelt periods, each with its suggestion or with none".format(check_misspelt(desk, draw, count // 10)))
         print("{} sections whose periods are entered, each read as its text or said to be one of two".format(check_sections(desk, draw)))
+        print("{} triggers, each written out as the rows that it starts".format(check_triggers(desk)))
         check_entering(desk)
         check_names(desk)
         check_lines(desk)

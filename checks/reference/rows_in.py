@@ -8,6 +8,7 @@ from collections import namedtuple
 from .civil import CannotTell, day_of_text, minute_of_text
 from .periods import Event, Grant, Request, period_of_text, set_to
 from .rule6 import Filing
+from .sections import CODES
 
 NUMBERS = {"BadClerk": 1, "UnknownCommand": 2, "WrongCount": 3, "BadField": 4, "NotText": 5, "TooManyRows": 6}
 MOST_ROWS = 100000
@@ -153,6 +154,16 @@ def period(text, court):
     return period_of_text(text)
 
 
+def period_or_code(text, court):
+    """A period as the desk takes it, also by the code of the section that sets it, or by the court's own name for it."""
+    return period_of_text(text) or entered(CODES.get(text) or court.periods.get(text, ""))
+
+
+def entered(text):
+    """The period that a text enters, and not one of the Rules."""
+    return period_of_text(text) if "/" in text else None
+
+
 def grant(text, court):
     if text[:1] == "+" and text[-1:] in ("d", "h"):
         count = number_of(text[1:-1])
@@ -203,7 +214,8 @@ def only(values):
     return values[0] if values else None
 
 
-PERIOD_COLUMNS = [period, date, time_or_none, date_or_none, kind]
+EVENT_COLUMNS = [date, time_or_none, date_or_none, kind]
+PERIOD_COLUMNS = [period] + EVENT_COLUMNS
 HEARING_COLUMNS = [number, number, panel, room, date, quarter, slots, date]
 FINDING = one_of("yes", "no")
 COLUMNS = {
@@ -225,9 +237,11 @@ TEXT_BYTES = 200
 # A control character, of ASCII or after it.
 CONTROL = re.compile("[\x00-\x1f\x7f-\x9f]")
 WHY = one_of("moot", "vacated", "stayed", "suspended", "withdrawn")
-# The forms that the desk alone takes.
+# The forms of the desk: those of clerk_office, where a period may be named by its section's code, and its own.
 DESK_COLUMNS = {
     **COLUMNS,
+    "start": [number, period_or_code] + EVENT_COLUMNS,
+    "compute": [period_or_code] + EVENT_COLUMNS,
     "set": [number, date, given_time, one_of("filing", "service")],
     "reset": [number, number, date, given_time, date],
     "end": [number, number, WHY, date],

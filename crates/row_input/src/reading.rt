@@ -51,7 +51,7 @@ fn push_ended(rows: &mut Vec<u8>, text: &[u8]) -> Result<(), AllocError>
 }
 
 // A text without an end of its line.
-fn unended(text: &[u8]) -> &[u8]
+pub(crate) fn unended(text: &[u8]) -> &[u8]
     ensures { result.now ≡ unended text.now }
 {
     if text.ends_with(b"\n") {

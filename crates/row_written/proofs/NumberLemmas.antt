@@ -15,7 +15,7 @@ use Rattle.row_fields.specs.Words.{bare, date_said, folded, numbers_in, rule_sai
 use Rattle.row_fields.specs.Choices.{one_rule_said}
 use Rattle.row_fields.proofs.CallerLemmas.{numbers_stay_whole_lem}
 use Rattle.row_forms.specs.declared.headings.columns.Column.TheVariants.{Case, Period, Need}
-use Rattle.row_written.specs.Fields.{clear_if, deadline_said, field_said, filled_said, grant_said, is_quarters, motion_said, number_said, period_said, shown_said, slots_said, word_said}
+use Rattle.row_written.specs.Fields.{clear_if, deadline_said, field_said, filled_said, grant_said, is_quarters, motion_said, number_said, or_own, period_said, shown_said, slots_said, word_said}
 use Rattle.row_written.specs.Laws.{LengthsKeepTheirNumbers, NumbersAreTheirFields}
 
 same_text : (a b : List ℕ) → ◌≡◌ {A = Said (List ℕ)} (Clear a) (Clear b) → a ≡ b
@@ -119,6 +119,6 @@ pub lengths_keep_their_numbers_lem : LengthsKeepTheirNumbers
 unfolding field_said
 lengths_keep_their_numbers_lem names order text plain = record {
   slots = λ said. slots_are text plain (is_number text) (not_empty (length text == 0) (slots_said text) (Clear plain) said);
-  entered = λ so said. bare_is text plain (list_any (λ b. nat_eq b 47) text) (word_said Period text) so (not_empty (length text == 0) (period_said text) (Clear plain) said);
+  entered = λ so said. bare_is text plain (list_any (λ b. nat_eq b 47) text) (or_own names.periods text (word_said Period text)) so (not_empty (length text == 0) (period_said names text) (Clear plain) said);
   extended = λ so said. bare_is text plain (starts_with nat_eq (bare text) (codes "+")) (said_map day_text (date_said order text)) so (not_empty (length text == 0) (grant_said order text) (Clear plain) said);
 }

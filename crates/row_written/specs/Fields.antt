@@ -1,12 +1,14 @@
 -- What a field says, by what its column holds, as a plain row writes it.
 use Rattle.std.specs.Prelude.{ℕ, ◌-◌, ◌==◌, ◌&&◌, nat_eq, Bool, true, false, List, [], codes, length, take, Option, Some, None, if◌then◌else◌}
 use Rattle.std.specs.List.{ends_with, list_any, starts_with}
+use Rattle.std.specs.Option.{is_some}
 use Rattle.std.specs.Str.{bytes_eq}
 use Rattle.case_numbers.specs.Words.{NameView, case_read}
 use Rattle.court_clock.specs.Words.{day_text, minute_text}
+use Rattle.court_file_text.specs.Words.{NamedTextView, text_named}
 use Rattle.row_forms.specs.Words.{CourtNames, is_number}
 use Rattle.row_fields.specs.declared.said.Said.{Said}
-use Rattle.row_fields.specs.declared.said.Said.TheVariants.{Unknown, Clear}
+use Rattle.row_fields.specs.declared.said.Said.TheVariants.{Unknown, Clear, Unclear}
 use Rattle.row_fields.specs.declared.dates.DateOrder.{DateOrder}
 use Rattle.row_fields.specs.Words.{act_said, answer_said, bare, closing_said, counted_said, date_said, folded, list_said, means_said, rule_said, ruling_said, said_map, section_said, service_said, time_said, why_said}
 use Rattle.row_forms.specs.declared.headings.columns.Column.{Column}
@@ -80,9 +82,16 @@ word_in _ word = section_said word
 abbrev pub word_said : Column → List ℕ → Said (List ℕ)
 word_said column text = word_in column (folded text)
 
--- a period: the number of a section of the Rules or of a statute, or one with slashes, which a court enters
-abbrev pub period_said : List ℕ → Said (List ℕ)
-period_said text = if list_any (λ b. nat_eq b 47) text then Clear (bare text) else word_said Period text
+-- a name that the court's file gives to a period, where a field says nothing else
+abbrev pub or_own : (own : List NamedTextView) → (text : List ℕ) → Said (List ℕ) → Said (List ℕ)
+or_own own text Unknown = clear_if (is_some (text_named own text)) text
+or_own own text (Clear plain) = Clear plain
+or_own own text (Unclear one other) = Unclear one other
+
+-- a period: the number of a section of the Rules or of a statute, the court's own name for one, or one with slashes, which a court enters
+abbrev pub period_said : CourtNames → List ℕ → Said (List ℕ)
+period_said names text =
+    if list_any (λ b. nat_eq b 47) text then Clear (bare text) else or_own names.periods text (word_said Period text)
 
 -- an extension: a plus and a length, or a date
 abbrev pub grant_said : Option DateOrder → List ℕ → Said (List ℕ)
@@ -109,7 +118,7 @@ filled_said names order Command text = Clear (folded text)
 filled_said names order Case text = case_said text
 filled_said names order Deadline text = deadline_said text
 filled_said names order Motion text = motion_said text
-filled_said names order Period text = period_said text
+filled_said names order Period text = period_said names text
 filled_said names order Date text = said_map day_text (date_said order text)
 filled_said names order Time text = time_if (time_said text)
 filled_said names order Start text = time_if (time_said text)

@@ -3,11 +3,13 @@
 ghost use Rattle.std.specs.Prelude.{◌≡◌, ◌++◌, ◌<◌, IfOk, OnOk, string_bytes};
 ghost use Rattle.std.specs.Char.{is_ascii_digit};
 ghost use Rattle.std.specs.List.{list_all};
+ghost use Rattle.std.specs.Option.{is_some};
+ghost use Rattle.court_file_text.specs.Words.{text_named};
 ghost use Rattle.jiff_fmt.specs.Text.{pad2};
 ghost use Rattle.court_clock.specs.Words.{day_text};
 ghost use Rattle.row_forms.specs.Words.{is_number, names_of};
 ghost use Rattle.row_fields.specs.Words.{date_said, said_map, time_said};
-ghost use Rattle.row_written.specs.Fields.{case_said, deadline_said, ending_said, field_said, filled_said, grant_said, has_mark, is_quarters, may_be_empty, motion_said, need_said, number_said, period_said, slots_said, text_said, time_if, word_said};
+ghost use Rattle.row_written.specs.Fields.{case_said, clear_if, deadline_said, ending_said, field_said, filled_said, grant_said, has_mark, is_quarters, may_be_empty, motion_said, need_said, number_said, or_own, period_said, slots_said, text_said, time_if, word_said};
 
 use crate::names::{Named, name_said, owned, panel_said};
 use case_numbers::case_read;
@@ -209,14 +211,42 @@ fn word_said(alloc: Global, column: Column, text: &str) -> Result<Said<String>, 
     owned(alloc, said)
 }
 
-// A period: the number of a section of the Rules or of a statute, or one with slashes, which a court enters.
-fn period_said(alloc: Global, text: &str) -> Result<Said<String>, AllocError>
-    ensures { IfOk result (λ said. said_map string_bytes said ≡ period_said text.now) }
+// A period: the number of a section of the Rules or of a statute, the court's own name for one, or one with slashes, which a court
+// enters.
+fn period_said(alloc: Global, court: &Court, text: &str) -> Result<Said<String>, AllocError>
+    ensures { IfOk result (λ said. said_map string_bytes said ≡ period_said (names_of court.now) text.now) }
 {
     if text.as_bytes().contains(&b'/') {
         Ok(Said::Clear(bare(alloc, text)?))
     } else {
-        word_said(alloc, Column::Period, text)
+        let said = word_said(alloc, Column::Period, text)?;
+        or_own(alloc, court, text, said)
+    }
+}
+
+// A name that the court's file gives to a period, where a field says nothing else.
+fn or_own(
+    alloc: Global,
+    court: &Court,
+    text: &str,
+    said: Said<String>,
+) -> Result<Said<String>, AllocError>
+    ensures { IfOk result (λ found. said_map string_bytes found ≡ or_own court.now.periods.texts text.now (said_map string_bytes said)) }
+{
+    match said {
+        Said::Unknown => own_said(alloc, court, text),
+        Said::Clear(plain) => Ok(Said::Clear(plain)),
+        Said::Unclear(one, other) => Ok(Said::Unclear(one, other)),
+    }
+}
+
+// A name that the court's file gives to a period.
+fn own_said(alloc: Global, court: &Court, text: &str) -> Result<Said<String>, AllocError>
+    ensures { IfOk result (λ said. said_map string_bytes said ≡ clear_if (is_some (text_named court.now.periods.texts text.now)) text.now) }
+{
+    match court.period_text(text) {
+        Some(_) => Ok(Said::Clear(String::from_str(alloc, text)?)),
+        None => Ok(Said::Unknown),
     }
 }
 
@@ -285,7 +315,7 @@ fn filled_said(
             minute_said(alloc, text)
         }
         Column::To => ending_said(alloc, text),
-        Column::Period => period_said(alloc, text),
+        Column::Period => period_said(alloc, court, text),
         Column::ServiceOrNone
         | Column::Means
         | Column::ByMotion

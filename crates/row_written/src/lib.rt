@@ -12,6 +12,7 @@ mod rows;
 
 pub use fault::{Fault, Flaw};
 pub use fields::field_said;
+pub use headings::word_at;
 pub use laws::{
     lengths_keep_their_numbers, numbers_are_their_fields, plain_rows_stay, rows_are_plain,
 };
