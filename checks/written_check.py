@@ -323,6 +323,14 @@ def check_names(desk):
     said = [b" ended\n", b" filed timely\n", b" fault 4 BadField 4: no deadline of the case under 59b is pending: name one by its number\n", b" resumed last "]
     assert all(words in line for words, line in zip(said, tried.output.splitlines(True))), tried
     assert len(tried.output.splitlines()) == len(said) and desk.journal.read_bytes() == before, tried
+    # By its label any is named, also one that is ended; by one that two have none is, and by one that begins with a digit none in a written row.
+    labels = b"1,label,21,deadline,1,answer of Acme\n1,label,21,motion,2,to amend\n1,label,21,deadline,3,reply\n1,label,21,deadline,2,reply\n"
+    rows = b"1,end,21,answer of Acme,Moot,2025-09-10\n1, file, 21, answer of Acme, 2025-09-10, 9:00 AM, ECF\n1,rule,21,to amend,Granted,2025-09-10\n1,end,21,reply,Moot,2025-09-10\n1,cancel,21,reply\n"
+    tried = desk.call("try", "--as-written", given=labels + rows)
+    said = [b" labelled\n"] * 4 + [b" ended\n", b" filed timely\n", b" ruled\n", b" fault 4 BadField 4: deadlines 2 and 3 of the case are called so: name one by its number\n",
+                                    b" fault 4 BadField 4: no motion of the case is called so: name one by its number\n"]
+    assert all(words in line for words, line in zip(said, tried.output.splitlines(True))), tried
+    assert len(tried.output.splitlines()) == len(said) and desk.journal.read_bytes() == before, tried
 
 
 def check_cases(desk, draw):

@@ -12,8 +12,8 @@ use Rattle.row_forms.specs.declared.line.line.Line.{Line}
 use Rattle.row_forms.specs.declared.line.line.Line.TheVariants as line
 use Rattle.row_forms.specs.Line.Words.{fields_read, line_read}
 use Rattle.desk_register.specs.declared.standing.Standing.{Standing}
-use Rattle.desk_register.specs.Words.{most_clerks}
-use Rattle.desk_entries.specs.Export.{before_number, number_asked, row_placed, row_written, rows_written, said_placed, shown_as}
+use Rattle.desk_register.specs.Words.{before_number, most_clerks}
+use Rattle.desk_entries.specs.Export.{number_asked, row_placed, row_written, rows_written, said_placed, shown_as}
 use Rattle.desk_entries.specs.Laws.{RowsAreWrittenAsTheyAre}
 
 same_number : (n : ℕ) → nat_eq n n ≡ true

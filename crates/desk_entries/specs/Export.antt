@@ -5,9 +5,7 @@ use Rattle.std.specs.Fmt.{decimal}
 use Rattle.csv.specs.Writing.{default_writer, row_text}
 use Rattle.case_numbers.specs.Words.{after_name}
 use Rattle.docket_rows.specs.declared.command.Command.{Command as CommandOf}
-use Rattle.docket_rows.specs.declared.command.Command.TheVariants as command
 use Rattle.docket_rows.specs.declared.command.Subject.{Subject}
-use Rattle.docket_rows.specs.declared.fact.Fact.TheVariants.{Labelled}
 use Rattle.docket_rows.specs.Words.{subject_of}
 use Rattle.row_forms.specs.declared.row.Work.{Work}
 use Rattle.row_forms.specs.declared.row.Work.TheVariants.{Command, Query}
@@ -19,7 +17,7 @@ use Rattle.row_forms.specs.declared.line.line.Line.TheVariants as line
 use Rattle.row_forms.specs.Line.Words.{fields_read, line_read}
 use Rattle.desk_numbers.specs.Strikes.Words.{is_struck}
 use Rattle.desk_register.specs.declared.standing.Standing.{Standing}
-use Rattle.desk_register.specs.Words.{most_clerks}
+use Rattle.desk_register.specs.Words.{before_number, most_clerks}
 
 -- the number of the deadline or the motion that a command names
 abbrev pub number_in : CommandOf → Option ℕ
@@ -28,15 +26,6 @@ number_in command = option_map (λ (s : Subject). s.number) (subject_of command)
 abbrev pub number_asked : Work → Option ℕ
 number_asked (Command command) = number_in command
 number_asked (Query query) = None
-
--- how many fields of a row come before that number: a row that says what one is called says before it which of the two it is
-abbrev pub before_in : CommandOf → ℕ
-before_in (command.Fact case (Labelled counted number)) = 4
-before_in command = 3
-
-abbrev pub before_number : Work → ℕ
-before_number (Command command) = before_in command
-before_number (Query query) = 3
 
 -- A row with these fields that names this number after so many of them, where what has the number is at this place: with the place
 -- in the number's field, where it is another. A number that nothing has any more is at a place apart, and its row, which was

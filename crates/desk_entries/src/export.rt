@@ -1,13 +1,13 @@
 //! Rows as they are written for other programs.
 ghost use Rattle.std.specs.Prelude.{◌≡◌, ◌++◌, OnOk};
 ghost use Rattle.csv.specs.Records.{fields_of};
-ghost use Rattle.desk_entries.specs.Export.{before_in, before_number, number_asked, number_in, row_placed, row_written, said_placed};
+ghost use Rattle.desk_entries.specs.Export.{number_asked, number_in, row_placed, row_written, said_placed};
 
 use case_numbers::after_name;
 use csv::StringRecord;
 use desk_numbers::{MovedNumbers, is_apart};
-use desk_register::{MOST_CLERKS, RowTypes, Standing, with_field};
-use docket_rows::{Command, Fact};
+use desk_register::{MOST_CLERKS, RowTypes, Standing, before_number, with_field};
+use docket_rows::Command;
 use row_forms::{Line, Work, push_row_text, read_line};
 use std::alloc::{AllocError, Global};
 
@@ -28,29 +28,6 @@ fn number_asked(work: &Work) -> Option<u32>
     match work {
         Work::Command(command) => number_in(command),
         Work::Query(_) => None,
-    }
-}
-
-// How many fields of the row of a command come before that number.
-fn before_in(command: &Command) -> u8
-    ensures { result ≡ before_in command.now }
-{
-    match command {
-        Command::Fact {
-            fact: Fact::Labelled { .. },
-            ..
-        } => 4,
-        _ => 3,
-    }
-}
-
-// How many fields of a row come before that number.
-fn before_number(work: &Work) -> u8
-    ensures { result ≡ before_number work.now }
-{
-    match work {
-        Work::Command(command) => before_in(command),
-        Work::Query(_) => 3,
     }
 }
 

@@ -114,4 +114,4 @@ fault_words cause line = if is_utf8 line then line_words cause line else not_tex
 abbrev pub cause_words : LineCause → List ℕ → List ℕ
 cause_words (lines.Row cause) line = fault_words cause line
 cause_words lines.TooManyCases line = too_many_words
-cause_words (lines.NotFound why) line = unfound_words why
+cause_words (lines.NotFound unfound) line = unfound_words unfound

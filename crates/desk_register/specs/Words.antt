@@ -11,7 +11,9 @@ pub use Rattle.desk_register.specs.Shifts.{OthersAreToldTheirAnswers, RefusedAre
 unfoldable pub use Rattle.desk_register.specs.Shifts.{told}
 pub use Rattle.desk_register.specs.CaseLines.{Reading, as_it_is, lacks_field}
 unfoldable pub use Rattle.desk_register.specs.CaseLines.{opens_too_many, reading_of}
+pub use Rattle.desk_register.specs.Subjects.{before_number}
 unfoldable pub use Rattle.desk_register.specs.Subjects.{named_in}
+pub use Rattle.desk_register.specs.Called.{called_standing}
 pub use Rattle.desk_register.specs.LineCauses.{cause_as, fault_told, line_cause_text, unfound_words}
 unfoldable pub use Rattle.desk_register.specs.LineCauses.{too_many_words}
 pub use Rattle.desk_register.specs.History.{CanBe, IsHistory, MayFollow, SaysCourt, SaysNumbers, StandsAfter}

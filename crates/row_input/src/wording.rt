@@ -10,8 +10,8 @@ fn held(column: Column) -> &'static str {
         Column::Command => "a command word",
         Column::Case => "a number, as 7, or a case number, as 1:25-cv-01234",
         Column::Deadline =>
-            "a deadline's number, as 1, or the rule of one that is pending, as 59(e)",
-        Column::Motion => "a motion's number, as 1, or last for the newest",
+            "a deadline's number, as 1, the rule of one that is pending, as 59(e), or what it is called",
+        Column::Motion => "a motion's number, as 1, last for the newest, or what it is called",
         Column::Period => "a period, as 59(e) or 14d/after/filing/event/plain",
         Column::Date => "a date, as 2025-09-02",
         Column::Time | Column::Start | Column::From => "a time of day, as 09:30 or 9:30 AM",

@@ -1,12 +1,10 @@
 -- The laws of lines.
 use Rattle.std.proofs.Common.{◌≡◌, ◌∙◌, inl, inr, ℕ, Bool, true, false, List, [], ◌∷◌, ◌++◌, refl, sym, ap}
-use Rattle.std.specs.Prelude.{IsSome, Option, Some, None, codes, is_some, map, if◌then◌else◌}
-use Rattle.std.proofs.lemmas.Slice.Eq.{bytes_eq-Decides}
-use Rattle.rule_periods.specs.Words.{rule_of_code}
+use Rattle.std.specs.Prelude.{IsSome, Option, Some, None, is_some, map, not, if◌then◌else◌}
 use Rattle.csv.specs.Writing.{default_writer, row_text}
 use Rattle.case_numbers.specs.Words.{NameView, case_read}
 use Rattle.row_forms.specs.declared.row.Row.{Row}
-use Rattle.row_forms.specs.Words.{CourtNames}
+use Rattle.row_forms.specs.Words.{CourtNames, is_number}
 use Rattle.row_forms.specs.declared.line.line.Line.{Line}
 use Rattle.row_forms.specs.declared.line.line.Line.TheVariants as line
 use Rattle.row_forms.specs.Line.Words.{line_read}
@@ -53,14 +51,14 @@ read_there true (Some name) found = search
 read_there true None found = cc found
 read_there false read found = cc found
 
-some_there : {A : Type 0} (a : Option A) → is_some a ≡ true → IsSome a
-some_there (Some x) so = search
-some_there None so = cc so
-
 -- a name of a deadline or a motion
+not_so : (so : Bool) → not so ≡ true → so ≡ false
+not_so true is = cc is
+not_so false is = refl
+
 subject_there : (column : Column) (field : List ℕ) → is_subject_name column field ≡ true → IsSubjectName field
-subject_there Deadline field so = inl (some_there (rule_of_code field) so)
-subject_there Motion field so = inr ((bytes_eq-Decides field (codes "last")).0 so)
+subject_there Deadline field so = not_so (is_number field) so
+subject_there Motion field so = not_so (is_number field) so
 subject_there _ field so = cc so
 
 -- the text of a row that is taken

@@ -7,7 +7,7 @@ ghost use Rattle.jiff_fmt.specs.Text.{pad2};
 ghost use Rattle.court_clock.specs.Words.{day_text};
 ghost use Rattle.row_forms.specs.Words.{is_number, names_of};
 ghost use Rattle.row_fields.specs.Words.{date_said, said_map, time_said};
-ghost use Rattle.row_written.specs.Fields.{case_said, deadline_said, ending_said, field_said, filled_said, grant_said, has_mark, is_quarters, may_be_empty, motion_said, need_said, number_said, period_said, slots_said, text_said, time_if, word_said};
+ghost use Rattle.row_written.specs.Fields.{case_said, begins_number, deadline_said, ending_said, field_said, filled_said, grant_said, has_mark, is_quarters, label_said, may_be_empty, motion_said, need_said, number_or_label, number_said, period_said, rule_or_label, slots_said, text_said, time_if, word_said};
 
 use crate::names::{Named, name_said, owned, panel_said};
 use case_numbers::case_read;
@@ -82,7 +82,43 @@ fn case_said(alloc: Global, text: &str) -> Result<Said<String>, AllocError>
     }
 }
 
-// A deadline: its number, or a Rule's number.
+// Whether a field begins with a digit: then it is a slip of a number, or of a Rule's number, and not what something is called.
+fn begins_number(text: &[u8]) -> bool
+    ensures { result ≡ begins_number text.now }
+{
+    match text {
+        [] => false,
+        [byte, ..] => byte.is_ascii_digit(),
+    }
+}
+
+// What a deadline or a motion is called: the field as it is.
+fn label_said(alloc: Global, text: &str) -> Result<Said<String>, AllocError>
+    ensures { IfOk result (λ said. said_map string_bytes said ≡ label_said text.now) }
+{
+    if begins_number(text.as_bytes()) {
+        Ok(Said::Unknown)
+    } else {
+        text_said(alloc, text)
+    }
+}
+
+// A Rule's number, or what a deadline is called where the field is none.
+fn rule_or_label(
+    alloc: Global,
+    said: Said<String>,
+    text: &str,
+) -> Result<Said<String>, AllocError>
+    ensures { IfOk result (λ then. said_map string_bytes then ≡ rule_or_label (said_map string_bytes said) text.now) }
+{
+    match said {
+        Said::Unknown => label_said(alloc, text),
+        Said::Clear(code) => Ok(Said::Clear(code)),
+        Said::Unclear(one, other) => Ok(Said::Unclear(one, other)),
+    }
+}
+
+// A deadline: its number, a Rule's number, or what it is called.
 fn deadline_said(alloc: Global, text: &str) -> Result<Said<String>, AllocError>
     ensures { IfOk result (λ said. said_map string_bytes said ≡ deadline_said text.now) }
 {
@@ -90,11 +126,23 @@ fn deadline_said(alloc: Global, text: &str) -> Result<Said<String>, AllocError>
         Ok(Said::Clear(String::from_str(alloc, text)?))
     } else {
         let word = folded(alloc, text)?;
-        owned(alloc, rule_said(word.as_str()))
+        let said = owned(alloc, rule_said(word.as_str()))?;
+        rule_or_label(alloc, said, text)
     }
 }
 
-// A motion: its number, or the last.
+// A motion: its number, or what it is called.
+fn number_or_label(alloc: Global, text: &str) -> Result<Said<String>, AllocError>
+    ensures { IfOk result (λ said. said_map string_bytes said ≡ number_or_label text.now) }
+{
+    if is_number(text.as_bytes()) {
+        Ok(Said::Clear(String::from_str(alloc, text)?))
+    } else {
+        label_said(alloc, text)
+    }
+}
+
+// A motion: its number, the last, or what it is called.
 fn motion_said(alloc: Global, text: &str) -> Result<Said<String>, AllocError>
     ensures { IfOk result (λ said. said_map string_bytes said ≡ motion_said text.now) }
 {
@@ -102,7 +150,7 @@ fn motion_said(alloc: Global, text: &str) -> Result<Said<String>, AllocError>
     if word.as_str() == "last" {
         Ok(Said::Clear(word))
     } else {
-        number_said(alloc, text)
+        number_or_label(alloc, text)
     }
 }
 

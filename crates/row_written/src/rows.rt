@@ -381,7 +381,8 @@ fn stays(
 
 /// Reads a line as people write it as a plain row, in a file whose columns have these headings, or none. A line that is a
 /// plain row already stays as it is, where there are no headings; any other is one if each of its fields says one thing. A case
-/// number stays in the row, as it is shown, and so does a deadline's rule, as its code, and the word `last` for the newest motion.
+/// number stays in the row, as it is shown, and so does a deadline's rule, as its code, the word `last` for the newest motion, and what
+/// either is called.
 /// `Err` says that memory ran out.
 #[tactic(auto, unfolding(crate::specs::Rows::read_as))]
 pub fn read_written(

@@ -3,7 +3,7 @@ use Rattle.docket_rows.specs.declared.refusal.Refusal.{Refusal}
 use Rattle.docket_rows.specs.Words.{CourtSetup, parts_of, refusal}
 use Rattle.docket_laws.proofs.CallerLemmas.{same_refusal}
 use Rattle.docket_core.specs.Words.{parts_held}
-use Rattle.desk_entries.proofs.called.is_command_refused.Goals as goal
+use Rattle.desk_register.proofs.called.is_command_refused.Goals as goal
 
 pub returns : goal.returns
 returns c = λ setup docketed holds.

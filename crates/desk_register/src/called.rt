@@ -1,19 +1,21 @@
 //! What rows that stand call cases, deadlines and motions.
-ghost use Rattle.std.specs.Prelude.{◌≡◌, IfOk, OnOk, is_some};
+ghost use Rattle.std.specs.Prelude.{◌≡◌, ℕ, List, IfOk, OnOk, is_some};
 ghost use Rattle.csv.specs.Records.{fields_of};
 ghost use Rattle.docket_rows.specs.declared.command.Command.TheVariants as commands;
-ghost use Rattle.docket_rows.specs.Words.{CourtSetup, Rows, parts_of, refusal};
+ghost use Rattle.docket_rows.specs.Words.{CourtSetup, Rows, parts_of, refusal, setup_of};
 ghost use Rattle.row_forms.specs.declared.row.Work.TheVariants as works;
 ghost use Rattle.office_texts.specs.Run.Words.{Holds};
 ghost use Rattle.desk_numbers.specs.Words.{calls};
-ghost use Rattle.desk_entries.specs.Called.{called_then, is_refused, said_called};
+ghost use Rattle.desk_register.specs.declared.standing.Standing.{Standing as StandingOf};
+ghost use Rattle.desk_register.specs.Called.{called_standing, is_refused, newly_called, unless_refused, with_newly};
+ghost use Rattle.desk_register.specs.Run.{docketed_by, run_by};
 
+use crate::register::DocketRegister;
 use csv::StringRecord;
 use desk_numbers::{Called, CalledTexts, MovedNumbers};
-use desk_register::RowTypes;
 use docket_core::Docket;
 use docket_rows::{Command, Fact};
-use row_forms::{Line, Work, column};
+use row_forms::{Row, Work, column};
 use std::alloc::{AllocError, Global};
 
 // What a fact of that case calls something, whose row has these fields, if it does.
@@ -70,41 +72,67 @@ fn is_refused(alloc: Global, docket: &Docket, asked: &Work) -> Result<bool, Allo
     }
 }
 
-// Adds what a row that comes next, asks for this and has these fields calls something, if it does and isn't refused.
-fn note_asked(
+// What is so called by a row that comes next and asks for this, in which things are named by their places, unless it is refused.
+fn unless_refused(
+    alloc: Global,
+    docket: &Docket,
+    asked: &Work,
+    called: Option<Called>,
+) -> Result<Option<Called>, AllocError>
+    ensures { (setup : CourtSetup) (docketed : Rows) → Holds setup docket.now docketed → IfOk result (λ newly. newly ≡ unless_refused setup docketed asked.now called) }
+{
+    let Some(called) = called else {
+        return Ok(None);
+    };
+    if is_refused(alloc, docket, asked)? {
+        return Ok(None);
+    }
+    Ok(Some(called))
+}
+
+// What a row that comes next, asks for this and has these fields calls something, if it does and isn't refused.
+pub(crate) fn newly_called(
     alloc: Global,
     docket: &Docket,
     moved: &MovedNumbers,
     asked: &Work,
     fields: &StringRecord,
-    texts: &mut CalledTexts,
-) -> Result<(), AllocError>
-    ensures { (setup : CourtSetup) (docketed : Rows) → Holds setup docket.now docketed → OnOk result (texts.new ≡ called_then setup docketed moved.now texts.old asked.now (calls asked.now (fields_of fields.now))) }
+) -> Result<Option<Called>, AllocError>
+    ensures { (setup : CourtSetup) (docketed : Rows) → Holds setup docket.now docketed → IfOk result (λ newly. newly ≡ newly_called setup docketed moved.now asked.now (fields_of fields.now)) }
 {
-    let Some(called) = called_in(alloc, asked, fields)? else {
-        return Ok(());
-    };
-    let placed = moved.place(asked);
-    if is_refused(alloc, docket, &placed)? {
-        return Ok(());
-    }
-    texts.add(alloc, called)
+    let called = called_in(alloc, asked, fields)?;
+    unless_refused(alloc, docket, &moved.place(asked), called)
 }
 
-// Adds what a line that comes next, says this and has these fields calls something, if its row does and isn't refused.
-pub(crate) fn note_said(
+// Adds what a row calls something, if it does.
+pub(crate) fn add_newly(
     alloc: Global,
-    docket: &Docket,
-    moved: &MovedNumbers,
-    said: &Line,
-    fields: &StringRecord,
     texts: &mut CalledTexts,
+    newly: Option<Called>,
 ) -> Result<(), AllocError>
-    ensures { (setup : CourtSetup) (docketed : Rows) → Holds setup docket.now docketed → OnOk result (texts.new ≡ said_called setup docketed moved.now texts.old said.now (fields_of fields.now)) }
+    ensures { OnOk result (texts.new ≡ with_newly texts.old newly) }
 {
-    let _types: RowTypes = None;
-    match said {
-        Line::Row(row) => note_asked(alloc, docket, moved, &row.work, fields, texts),
-        _ => Ok(()),
+    match newly {
+        Some(called) => texts.add(alloc, called),
+        None => Ok(()),
+    }
+}
+
+impl DocketRegister {
+    ghost use Rattle.desk_register.specs.Register.{StandsAt};
+
+    // What the row that comes next calls something, if it does and isn't refused.
+    pub(crate) fn newly(&self, alloc: Global, row: &Row) -> Result<Option<Called>, AllocError>
+        ensures { (under : StandingOf) (kept : List (List ℕ)) → StandsAt under self.now kept → IfOk result (λ newly. newly ≡ newly_called (setup_of under.court) (docketed_by under kept) (run_by under kept).numbers.moved row.now.work (fields_of self.now.fields)) }
+    {
+        let moved = self.numbers.moved();
+        newly_called(alloc, &self.docket, moved, &row.work, &self.fields)
+    }
+
+    /// What rows call cases, deadlines and motions, by the numbers that these have for the office.
+    pub fn into_called(self) -> CalledTexts
+        ensures { (under : StandingOf) (kept : List (List ℕ)) → StandsAt under self kept → result ≡ called_standing under kept }
+    {
+        self.called
     }
 }
