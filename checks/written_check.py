@@ -72,7 +72,7 @@ FORMS = {
     "set": "clerk command case date time? act",
     "reset": "clerk command case deadline date time? dated",
     "end": "clerk command case deadline why dated",
-    "resume": "clerk command case deadline date! dated",
+    "resume": "clerk command case deadline date? dated",
     "close": "clerk command case why. dated",
     "reopen": "clerk command case dated",
     "rule": "clerk command case motion ruling dated",
@@ -116,7 +116,7 @@ def drawn(draw, column, clear):
         "need": lambda: draw.choice(["14", "7", "exparte"]), "judge": lambda: "+".join(draw.sample(JUDGES, draw.randint(1, 3))),
         "judge.": lambda: draw.choice(JUDGES), "referred?": lambda: draw.choice(JUDGES), "room": lambda: draw.choice(ROOMS), "slots": lambda: draw.choice(["2", "3q", "1"]),
         "list": lambda: draw.choice(["federal", "state"]), "act": lambda: draw.choice(["filing", "service"]),
-        "date!": lambda: "",
+        "date?": lambda: a_date(draw, clear),
         "why": lambda: draw.choice(["moot", "vacated", "stayed", "suspended", "withdrawn"]),
         "ruling": lambda: draw.choice(["granted", "denied", "in part", "moot", "withdrawn", "reserved"]),
         "title": lambda: draw.choice(CALLED), "label": lambda: draw.choice(CALLED), "of": lambda: draw.choice(["deadline", "motion"]),
@@ -164,7 +164,7 @@ def loosened(draw, style, column, text):
     """A field as people write it."""
     if not text:
         return text
-    if column in ("date", "notice", "second?", "dated") or column == "grant" and not text.startswith("+"):
+    if column in ("date", "date?", "notice", "second?", "dated") or column == "grant" and not text.startswith("+"):
         return date_in(style, draw, text)
     if column in ("time", "time?", "from", "to"):
         return time_in(draw, text)

@@ -139,6 +139,11 @@ def shown(days, clock, deadline):
     return Shown("until" if ends_at_instant(deadline.period) else "last", end)
 
 
+def anew(deadline, day):
+    """The deadline as it runs anew from a day, at the time of day of its event: no extension counts any more."""
+    return deadline._replace(event=deadline.event._replace(day=day), second=None if deadline.second is None else day, grants=[])
+
+
 def granted(deadline, grant):
     return deadline._replace(grants=deadline.grants + [grant])
 

@@ -122,11 +122,6 @@ def quarter(text, court):
     return minute // 15 if minute is not None and minute % 15 == 0 else None
 
 
-def no_day(text, court):
-    """The day of a deadline that is resumed as it was."""
-    return [] if text == "" else None
-
-
 def date_or_none(text, court):
     if text == "":
         return []
@@ -231,7 +226,7 @@ DESK_COLUMNS = {
     "set": [number, date, given_time, one_of("filing", "service")],
     "reset": [number, number, date, given_time, date],
     "end": [number, number, WHY, date],
-    "resume": [number, number, no_day, date],
+    "resume": [number, number, date_or_none, date],
     "close": [number, one_of("dismissed", "judgment", "settled", "transferred", "remanded", "otherwise"), date],
     "reopen": [number, date],
     "rule": [number, number, one_of("granted", "denied", "in part", "moot", "withdrawn", "reserved"), date],
@@ -256,7 +251,7 @@ WORKS = {
     "set": lambda case, day, minute, act: ("start", case, set_to(act, bool(minute)), Event(day, only(minute) or 0), None, None),
     "reset": lambda case, deadline, day, minute, dated: ("extend", case, deadline, order(reset_to(day, minute), dated)),
     "end": lambda case, deadline, why, dated: ("end", case, deadline, why, dated),
-    "resume": lambda case, deadline, day, dated: ("resume", case, deadline, dated),
+    "resume": lambda case, deadline, day, dated: ("resume", case, deadline, only(day), dated),
     "close": lambda case, why, dated: ("close", case, why, dated),
     "reopen": lambda case, dated: ("reopen", case, dated),
     "rule": lambda case, motion, ruling, dated: ("rule", case, motion, ruling, dated),

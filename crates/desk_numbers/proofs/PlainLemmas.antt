@@ -40,7 +40,7 @@ same_command (command.Book s) = ap (λ n. command.Book (record s { motion = n })
 same_command (command.MoveHearing s) = ap (λ n. command.MoveHearing (record s { motion = n })) (same_place s.case Motion s.motion)
 same_command (command.Cancel case motion) = ap (λ n. command.Cancel case n) (same_place case Motion motion)
 same_command (command.Fact case (Ended deadline why dated)) = ap (λ n. command.Fact case (Ended n why dated)) (same_place case Deadline deadline)
-same_command (command.Fact case (Resumed deadline dated)) = ap (λ n. command.Fact case (Resumed n dated)) (same_place case Deadline deadline)
+same_command (command.Fact case (Resumed deadline day dated)) = ap (λ n. command.Fact case (Resumed n day dated)) (same_place case Deadline deadline)
 same_command (command.Fact case (Closed why dated)) = refl
 same_command (command.Fact case (Reopened dated)) = refl
 same_command (command.Fact case (Ruled motion how dated)) = ap (λ n. command.Fact case (Ruled n how dated)) (same_place case Motion motion)

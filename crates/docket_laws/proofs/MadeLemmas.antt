@@ -96,8 +96,8 @@ can_record setup parts case (Ended deadline why dated) h kept =
     let n = none_of (end_checks parts case deadline dated) h in
     let full = when-None _ _ n.1.1.1.1.1.1.0 in
     grind (arith, nat_tests)
-can_record setup parts case (Resumed deadline dated) h kept =
-    let n = none_of (resume_checks setup parts case deadline dated) h in
+can_record setup parts case (Resumed deadline day dated) h kept =
+    let n = none_of (resume_checks setup parts case deadline day dated) h in
     let full = when-None _ _ n.1.1.1.1.1.1.1.0 in
     grind (arith, nat_tests)
 can_record setup parts case (Closed why dated) h kept =

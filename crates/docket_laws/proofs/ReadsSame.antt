@@ -153,9 +153,9 @@ module _ (setup : CourtSetup) (p q : Parts) where
     | inr fails ↦ rw fails refl
   ]
 
-  resume_rests : (case deadline : ℕ) (dated : ℤ) → AgreeOn (about_case case (Court ∷ [])) → resume_refusal setup p case deadline dated ≡ resume_refusal setup q case deadline dated
+  resume_rests : (case deadline : ℕ) (since : Option ℤ) (dated : ℤ) → AgreeOn (about_case case (Court ∷ [])) → resume_refusal setup p case deadline since dated ≡ resume_refusal setup q case deadline since dated
   unfolding resume_refusal
-  resume_rests case deadline dated agree = elim (cases_Bool (is_case_number case)) [
+  resume_rests case deadline since dated agree = elim (cases_Bool (is_case_number case)) [
     | inl numbered ↦ rw (days_agree case [] numbered agree, case_agrees case (Court ∷ []) numbered agree) refl
     | inr fails ↦ rw fails refl
   ]
@@ -276,7 +276,7 @@ module _ (setup : CourtSetup) (p q : Parts) where
   refusal_rests (Holiday day list) from to agree = holiday_rests day list agree
   refusal_rests (Inaccessible day begins ends) from to agree = outage_rests day begins ends agree
   refusal_rests (Fact case (Ended deadline why dated)) from to agree = end_rests case deadline dated agree
-  refusal_rests (Fact case (Resumed deadline dated)) from to agree = resume_rests case deadline dated agree
+  refusal_rests (Fact case (Resumed deadline day dated)) from to agree = resume_rests case deadline day dated agree
   refusal_rests (Fact case (Closed why dated)) from to agree = close_rests case dated agree
   refusal_rests (Fact case (Reopened dated)) from to agree = reopen_rests case dated agree
   refusal_rests (Fact case (Ruled motion how dated)) from to agree = rule_rests case motion dated (calendars_now setup q case motion) agree

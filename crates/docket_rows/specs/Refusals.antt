@@ -10,7 +10,7 @@ use Rattle.rule6.specs.declared.service.ServiceKind.{ServiceKind}
 use Rattle.rule6.specs.declared.timeliness.Filing.{Filing}
 use Rattle.rule_periods.specs.declared.period.Period.{Period}
 use Rattle.rule_periods.specs.declared.grant.Request.{Request}
-use Rattle.rule_periods.specs.Words.{EventView, when, first_of, start_refusal, extension_refusal, is_beyond}
+use Rattle.rule_periods.specs.Words.{EventView, anew_if, when, first_of, start_refusal, extension_refusal, is_beyond, is_covered_if_given}
 use Rattle.hearing_slots.specs.declared.booking.Booking.{Booking}
 use Rattle.hearing_slots.specs.declared.need.Need.{Need}
 use Rattle.hearing_slots.specs.Words.{is_on}
@@ -89,16 +89,17 @@ end_checks parts case deadline dated =
     ∷ when (nat_le most_facts (length (facts_in parts case))) Full
     ∷ [])
 
-abbrev pub resume_checks : CourtSetup → Parts → (case deadline : ℕ) → (dated : ℤ) → List (Option Refusal)
-resume_checks setup parts case deadline dated =
+-- the deadline has its days as before, or runs anew from a day
+abbrev pub resume_checks : CourtSetup → Parts → (case deadline : ℕ) → (from : Option ℤ) → (dated : ℤ) → List (Option Refusal)
+resume_checks setup parts case deadline from dated =
     let row = deadline_in parts case deadline in
     (when (not (has_case parts case)) NoSuchCase
     ∷ when (is_closed parts case) CaseIsClosed
     ∷ when (is_none row) NoSuchDeadline
-    ∷ when (not (is_covered parts.days dated)) BadDay
+    ∷ when (not (is_covered parts.days dated && is_covered_if_given parts.days from)) BadDay
     ∷ when (has_one (λ row. is_some row.filed) row) AlreadyMet
     ∷ when (is_none (ending_in (facts_in parts case) deadline)) NotEnded
-    ∷ when (has_one (λ row. is_beyond (shown_now setup parts row)) row) Beyond
+    ∷ when (has_one (λ row. is_beyond (shown_now setup parts (anew_if row from))) row) Beyond
     ∷ when (nat_le most_facts (length (facts_in parts case))) Full
     ∷ [])
 
@@ -266,8 +267,8 @@ extend_refusal setup parts case deadline request = first_of (extend_checks setup
 unfoldable pub end_refusal : Parts → (case deadline : ℕ) → (dated : ℤ) → Option Refusal
 end_refusal parts case deadline dated = first_of (end_checks parts case deadline dated)
 
-unfoldable pub resume_refusal : CourtSetup → Parts → (case deadline : ℕ) → (dated : ℤ) → Option Refusal
-resume_refusal setup parts case deadline dated = first_of (resume_checks setup parts case deadline dated)
+unfoldable pub resume_refusal : CourtSetup → Parts → (case deadline : ℕ) → (from : Option ℤ) → (dated : ℤ) → Option Refusal
+resume_refusal setup parts case deadline from dated = first_of (resume_checks setup parts case deadline from dated)
 
 unfoldable pub close_refusal : Parts → (case : ℕ) → (dated : ℤ) → Option Refusal
 close_refusal parts case dated = first_of (close_checks parts case dated)
@@ -317,7 +318,7 @@ refusal setup parts (Cancel case motion) = cancel_refusal parts case motion
 refusal setup parts (Holiday day list) = holiday_refusal setup parts day list
 refusal setup parts (Inaccessible day from to) = outage_refusal parts day from to
 refusal setup parts (Fact case (Ended deadline why dated)) = end_refusal parts case deadline dated
-refusal setup parts (Fact case (Resumed deadline dated)) = resume_refusal setup parts case deadline dated
+refusal setup parts (Fact case (Resumed deadline day dated)) = resume_refusal setup parts case deadline day dated
 refusal setup parts (Fact case (Closed why dated)) = close_refusal parts case dated
 refusal setup parts (Fact case (Reopened dated)) = reopen_refusal parts case dated
 refusal setup parts (Fact case (Ruled motion how dated)) = rule_refusal parts case motion dated

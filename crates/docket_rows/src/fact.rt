@@ -98,10 +98,12 @@ pub enum Fact {
         /// The day of the order or the paper that says so.
         dated: Day,
     },
-    /// A deadline that was ended is due again, on its days as before.
+    /// A deadline that was ended is due again.
     Resumed {
         /// The number of the deadline in its case.
         deadline: u32,
+        /// The day from which it runs anew; without one it has its days as before.
+        from: Option<Day>,
         /// The day of the order or the paper that says so.
         dated: Day,
     },
@@ -221,8 +223,9 @@ impl Fact {
                 why,
                 dated,
             },
-            Fact::Resumed { dated, .. } => Fact::Resumed {
+            Fact::Resumed { from, dated, .. } => Fact::Resumed {
                 deadline: number,
+                from,
                 dated,
             },
             Fact::Closed { .. } | Fact::Reopened { .. } => *self,
@@ -260,8 +263,7 @@ fn closed_then(before: Option<Closure>, fact: Fact) -> Option<Closure>
         Fact::Ended { .. } | Fact::Resumed { .. } => before,
         Fact::Ruled { .. } => before,
         Fact::Assigned { .. } => before,
-        Fact::Titled => before,
-        Fact::Labelled { .. } => before,
+        Fact::Titled | Fact::Labelled { .. } => before,
     }
 }
 
@@ -304,8 +306,7 @@ fn ended_then(number: u32, before: Option<Ending>, fact: Fact) -> Option<Ending>
         Fact::Closed { .. } | Fact::Reopened { .. } => before,
         Fact::Ruled { .. } => before,
         Fact::Assigned { .. } => before,
-        Fact::Titled => before,
-        Fact::Labelled { .. } => before,
+        Fact::Titled | Fact::Labelled { .. } => before,
     }
 }
 
@@ -341,8 +342,7 @@ fn ruled_then(number: u32, before: Option<DatedRuling>, fact: Fact) -> Option<Da
         Fact::Ended { .. } | Fact::Resumed { .. } => before,
         Fact::Closed { .. } | Fact::Reopened { .. } => before,
         Fact::Assigned { .. } => before,
-        Fact::Titled => before,
-        Fact::Labelled { .. } => before,
+        Fact::Titled | Fact::Labelled { .. } => before,
     }
 }
 
@@ -382,8 +382,7 @@ fn assigned_then(before: Option<Assignment>, fact: Fact) -> Option<Assignment>
         Fact::Ended { .. } | Fact::Resumed { .. } => before,
         Fact::Closed { .. } | Fact::Reopened { .. } => before,
         Fact::Ruled { .. } => before,
-        Fact::Titled => before,
-        Fact::Labelled { .. } => before,
+        Fact::Titled | Fact::Labelled { .. } => before,
     }
 }
 

@@ -35,7 +35,7 @@ fn held(column: Column) -> &'static str {
         Column::Dated => "the day of the order, as 2025-09-02",
         Column::Why => "moot, vacated, stayed, suspended or withdrawn",
         Column::Closing => "dismissed, judgment, settled, transferred, remanded or otherwise",
-        Column::ResumeDay => "nothing, since the deadline has its days as before",
+        Column::ResumeDay => "the day from which it runs anew, as 2025-09-02, or nothing",
         Column::Ruling => "granted, denied, in part, moot, withdrawn or reserved",
         Column::JudgeOrNone => "a judge of the court's file, or nothing",
         Column::Title =>

@@ -152,8 +152,7 @@ filled_said names order Act text = word_said Act text
 filled_said names order Dated text = said_map day_text (date_said order text)
 filled_said names order Why text = word_said Why text
 filled_said names order Closing text = word_said Closing text
--- a deadline that is resumed has its days as before
-filled_said names order ResumeDay text = Unknown
+filled_said names order ResumeDay text = said_map day_text (date_said order text)
 filled_said names order Ruling text = word_said Ruling text
 filled_said names order JudgeOrNone text = name_said names.judges text
 filled_said names order Counted text = word_said Counted text

@@ -326,9 +326,8 @@ fn filled_said(
         Column::Deadline => deadline_said(alloc, text),
         Column::Motion => motion_said(alloc, text),
         Column::Case => case_said(alloc, text),
-        Column::Date | Column::SecondOrNone | Column::Notice | Column::Dated => {
-            day_said(alloc, order, text)
-        }
+        Column::Date | Column::Notice | Column::Dated => day_said(alloc, order, text),
+        Column::SecondOrNone | Column::ResumeDay => day_said(alloc, order, text),
         Column::Time | Column::Start | Column::TimeOrNone | Column::From => {
             minute_said(alloc, text)
         }
@@ -351,8 +350,6 @@ fn filled_said(
         Column::Judges => panel_said(alloc, court, text),
         Column::Room => name_said(alloc, court, Named::Rooms, text),
         Column::Slots => slots_said(alloc, text),
-        // A deadline that is resumed has its days as before.
-        Column::ResumeDay => Ok(Said::Unknown),
         Column::Number => number_said(alloc, text),
         Column::Title | Column::Label => text_said(alloc, text),
     }

@@ -30,8 +30,8 @@ returns-in_ok-found-in-Some c = λ kept cases_are moved_are called_are holds.
     let there : c.in_ok-found-in-Some.found ≡ found_at under kept text c.in-Some.named =
     c.in_ok-found-in-Some.ensures (setup_of under.court) (docketed_by under kept) holds
     ∙ found_alike under kept c.args.moved.now c.args.called.now c.in-Some.named before text moved_are called_are fields in
-    c.unfound_there-in-Some.ensures
-    ∙ ap (unfound_there c.in-Some.named.at) (c.unfound_as-in-Some.ensures)
+    c.unfound_there.ensures
+    ∙ ap (unfound_there c.in-Some.named.at) c.unfound_as.ensures
     ∙ ap (λ (f : Found). unfound_there c.in-Some.named.at (unfound_as c.in-Some.named.name f)) there
     ∙ sym (ap (unfound_of under kept text) named)
 
