@@ -185,9 +185,11 @@ def extend(court, rows, case, number, request):
 
 
 def end(court, rows, case, number, why, dated):
-    old = deadline_for_fact(rows, case, number, dated)
+    word, motion = why
+    old = deadline_for_fact(rows, case, number, dated, motion=motion)
     refuse(ending_of(rows, case, number) is not None, 33)
-    return with_fact(rows, Fact(case, old.number, why, dated)), ("ended",)
+    text = word if motion is None else "{} by motion {}".format(word, motion)
+    return with_fact(rows, Fact(case, old.number, text, dated)), ("ended",)
 
 
 def resume(court, rows, case, number, day, dated):
@@ -200,11 +202,12 @@ def resume(court, rows, case, number, day, dated):
     return with_fact(rows, Fact(case, old.number, None, dated)), ("resumed", now)
 
 
-def deadline_for_fact(rows, case, number, dated, day=None):
-    """The deadline that a fact is about: one without an act. It may begin anew from a day."""
+def deadline_for_fact(rows, case, number, dated, day=None, motion=None):
+    """The deadline that a fact is about: one without an act. It may begin anew from a day, and a motion may suspend it."""
     refuse_shut(rows, case)
     old = deadline_of(rows, case, number)
     refuse(old is None, 3)
+    refuse(motion is not None and motion_of(rows, case, motion) is None, 4)
     refuse(not covered(rows.days, dated) or day is not None and not covered(rows.days, day), 5)
     refuse(old.row.filed is not None, 9)
     return old

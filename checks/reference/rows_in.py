@@ -219,13 +219,24 @@ COLUMNS = {
 TEXT_BYTES = 200
 # A control character, of ASCII or after it.
 CONTROL = re.compile("[\x00-\x1f\x7f-\x9f]")
-WHY = one_of("moot", "vacated", "stayed", "suspended", "withdrawn")
+WHY = ("moot", "vacated", "stayed", "suspended", "withdrawn")
+
+
+def why(text, court):
+    """Why a deadline is ended, and the number of the motion that suspends it, or None."""
+    word, colon, motion = text.partition(":")
+    found = number_of(motion) if colon else None
+    if word not in WHY or colon and (word != "suspended" or found is None):
+        return None
+    return word, found
+
+
 # The forms that the desk alone takes.
 DESK_COLUMNS = {
     **COLUMNS,
     "set": [number, date, given_time, one_of("filing", "service")],
     "reset": [number, number, date, given_time, date],
-    "end": [number, number, WHY, date],
+    "end": [number, number, why, date],
     "resume": [number, number, date_or_none, date],
     "close": [number, one_of("dismissed", "judgment", "settled", "transferred", "remanded", "otherwise"), date],
     "reopen": [number, date],

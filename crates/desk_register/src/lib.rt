@@ -20,7 +20,7 @@ mod standing;
 mod striking;
 mod subject;
 
-pub use case_line::with_field;
+pub use case_line::{with_field, with_suspender};
 pub use cause::{LineCause, Unfound, UnfoundCause, push_unfound, too_many_words};
 pub use differences::{Difference, decide_entry};
 pub use entry::{court_entry, is_row, later_file, standing_file};

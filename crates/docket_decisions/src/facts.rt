@@ -4,16 +4,16 @@ ghost use Rattle.std.specs.Prelude.{◌≡◌, ◌<◌, ◌≤◌, ◌+◌, true
 ghost use Rattle.std.specs.Option.{option_map_or};
 ghost use Rattle.docket_rows.specs.declared.command.Command.TheVariants as command;
 ghost use Rattle.docket_rows.specs.declared.hearing.Hearing.{Hearing};
-ghost use Rattle.docket_rows.specs.Words.{add_fact, answer_if_made, are_judges, assign_refusal, changed_by_fact, close_refusal, end_refusal, ending_in, facts_in, first_ahead, has_one, hearing_ahead, hearing_set, is_kept, is_named_twice, most_facts, motions_in, numbered_motions, refusal, reopen_refusal, rule_refusal, without_ahead};
+ghost use Rattle.docket_rows.specs.Words.{add_fact, answer_if_made, are_judges, assign_refusal, changed_by_fact, close_refusal, end_refusal, ending_in, facts_in, first_ahead, has_one, hearing_ahead, hearing_set, is_kept, is_named_twice, most_facts, motions_in, no_suspender, numbered_motions, refusal, reopen_refusal, rule_refusal, without_ahead};
 
-use crate::called::{label_refusal, title_refusal};
+use crate::called::{label_refusal, not_counted, title_refusal};
 use crate::resumed::{resume_refusal, run_if_anew, shown_if_resumed};
 use crate::rules::DocketRules;
 use crate::seen::{deadline_in, has_case, hearing_in, if_ahead, is_closed, motion_in};
 use crate::sight::Sight;
 use court_clock::Day;
 use docket_rows::{
-    Answer, CaseRecord, Ending, Fact, Hearing, MOST_FACTS, MotionRecord, Refusal, ending_in,
+    Answer, CaseRecord, Counted, Ending, Fact, Hearing, MOST_FACTS, MotionRecord, Refusal, ending_in,
 };
 use std::alloc::{AllocError, Global};
 
@@ -87,9 +87,9 @@ pub(crate) fn fact_refusal<S: Sight>(
     match *fact {
         Fact::Ended {
             deadline,
+            why,
             dated,
-            ..
-        } => end_refusal(sight, case, deadline, dated),
+        } => end_refusal(sight, case, deadline, why, dated),
         Fact::Resumed {
             deadline,
             from,
@@ -108,10 +108,26 @@ pub(crate) fn fact_refusal<S: Sight>(
     }
 }
 
+/// Why the case has no motion of that number to suspend a deadline, if it has none.
+fn no_suspender<S: Sight>(sight: &S, case: u32, why: Ending) -> Option<Refusal>
+    ensures { result ≡ no_suspender (S.parts sight.now) case why }
+{
+    match why.suspended_by() {
+        Some(motion) => not_counted(sight, case, Counted::Motion, motion),
+        None => None,
+    }
+}
+
 /// Why the deadline can't be ended, if it can't.
 #[tactic(auto, unfolding(docket_rows::specs::Words::end_refusal))]
-fn end_refusal<S: Sight>(sight: &S, case: u32, deadline: u32, dated: Day) -> Option<Refusal>
-    ensures { result ≡ end_refusal (S.parts sight.now) case deadline dated }
+fn end_refusal<S: Sight>(
+    sight: &S,
+    case: u32,
+    deadline: u32,
+    why: Ending,
+    dated: Day,
+) -> Option<Refusal>
+    ensures { result ≡ end_refusal (S.parts sight.now) case deadline why dated }
 {
     if !has_case(sight, case) {
         return Some(Refusal::NoSuchCase);
@@ -122,6 +138,9 @@ fn end_refusal<S: Sight>(sight: &S, case: u32, deadline: u32, dated: Day) -> Opt
     let Some(row) = deadline_in(sight, case, deadline) else {
         return Some(Refusal::NoSuchDeadline);
     };
+    if let Some(refusal) = no_suspender(sight, case, why) {
+        return Some(refusal);
+    }
     if !sight.days().covered(dated) {
         return Some(Refusal::BadDay);
     }

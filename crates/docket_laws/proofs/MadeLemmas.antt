@@ -93,8 +93,8 @@ can_enter parts case served need h =
 pub can_record : (setup : CourtSetup) (parts : Parts) (case : ℕ) (fact : Fact) → refusal setup parts (command.Fact case fact) ≡ None → is_kept fact ≡ true → length (facts_in parts case) < most_facts
 unfolding end_refusal resume_refusal close_refusal reopen_refusal rule_refusal assign_refusal
 can_record setup parts case (Ended deadline why dated) h kept =
-    let n = none_of (end_checks parts case deadline dated) h in
-    let full = when-None _ _ n.1.1.1.1.1.1.0 in
+    let n = none_of (end_checks parts case deadline why dated) h in
+    let full = when-None _ _ n.1.1.1.1.1.1.1.0 in
     grind (arith, nat_tests)
 can_record setup parts case (Resumed deadline day dated) h kept =
     let n = none_of (resume_checks setup parts case deadline day dated) h in

@@ -9,7 +9,7 @@ use Rattle.docket_rows.specs.declared.fact.Closing.TheVariants.{Dismissed, Judgm
 use Rattle.docket_rows.specs.declared.fact.Closure.{Closure}
 use Rattle.docket_rows.specs.declared.fact.DatedRuling.{DatedRuling}
 use Rattle.docket_rows.specs.declared.fact.Ending.{Ending}
-use Rattle.docket_rows.specs.declared.fact.Ending.TheVariants.{Moot, Vacated, Stayed, Suspended, Withdrawn, CaseClosed}
+use Rattle.docket_rows.specs.declared.fact.Ending.TheVariants.{Moot, Vacated, Stayed, Suspended, SuspendedBy, Withdrawn, CaseClosed}
 use Rattle.docket_rows.specs.declared.fact.Fact.{Fact}
 use Rattle.docket_rows.specs.declared.fact.Fact.TheVariants.{Ended, Resumed, Closed, Reopened, Ruled, Assigned, Titled, Labelled}
 use Rattle.docket_rows.specs.declared.fact.Ruling.{Ruling}
@@ -110,8 +110,19 @@ ending_word Moot = codes "moot"
 ending_word Vacated = codes "vacated"
 ending_word Stayed = codes "stayed"
 ending_word Suspended = codes "suspended"
+ending_word (SuspendedBy motion) = codes "suspended"
 ending_word Withdrawn = codes "withdrawn"
 ending_word CaseClosed = codes "case closed"
+
+-- the motion that suspends a deadline, where its number is known
+abbrev pub suspended_by : Ending → Option ℕ
+suspended_by (SuspendedBy motion) = Some motion
+suspended_by why = None
+
+-- the same with that number of the motion that suspends it, where one does
+abbrev pub ending_naming : Ending → (number : ℕ) → Ending
+ending_naming (SuspendedBy motion) number = SuspendedBy number
+ending_naming why number = why
 
 -- the word by which texts name how a case was closed
 abbrev pub closing_word : Closing → List ℕ

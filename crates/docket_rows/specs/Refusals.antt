@@ -18,6 +18,7 @@ use Rattle.docket_rows.specs.declared.command.Command.{Command}
 use Rattle.docket_rows.specs.declared.command.Command.TheVariants.{OpenCase, Start, FileAct, Extend, Motion, Book, MoveHearing, Cancel, Holiday, Inaccessible, Fact}
 use Rattle.docket_rows.specs.declared.command.Counted.{Counted}
 use Rattle.docket_rows.specs.declared.command.Counted.TheVariants as counted
+use Rattle.docket_rows.specs.declared.fact.Ending.{Ending}
 use Rattle.docket_rows.specs.declared.fact.Fact.TheVariants.{Ended, Resumed, Closed, Reopened, Ruled, Assigned, Titled, Labelled}
 use Rattle.docket_rows.specs.declared.hearing.Setting.{Setting}
 use Rattle.docket_rows.specs.declared.query.Query.{Query}
@@ -25,7 +26,7 @@ use Rattle.docket_rows.specs.declared.query.Query.TheVariants.{Sheet, JudgeDay, 
 use Rattle.docket_rows.specs.declared.refusal.Refusal.{Refusal}
 use Rattle.docket_rows.specs.declared.refusal.Refusal.TheVariants.{NoSuchCase, CaseIsOpen, NoSuchDeadline, NoSuchMotion, BadDay, BadLength, Beyond, AlreadyMet, AlreadySet, NotSet, NotACourtDay, OutsideHours, ShortNotice, JudgeBusy, RoomBusy, AlreadyHoliday, HearingThatDay, NoticeLost, Full, NoSuchJudge, NoSuchRoom, BadPanel, CaseIsClosed, NotClosed, HearingAhead, AlreadyEnded, NotEnded}
 use Rattle.docket_rows.specs.CourtSetup.{CourtSetup}
-use Rattle.docket_rows.specs.Facts.{ending_in}
+use Rattle.docket_rows.specs.Facts.{ending_in, suspended_by}
 use Rattle.docket_rows.specs.Hearings.{hearing_asked, has_judges, is_panel, fits_day, is_court_day, is_within_hours, is_need, lacks_last_service, missed_service, judge_clash, room_clash, all_booked, least, lacks_notice}
 use Rattle.docket_rows.specs.Limits.{most_deadlines, most_motions, most_facts, most_grants, most_dates, most_outages}
 use Rattle.docket_rows.specs.Parts.{Parts}
@@ -76,13 +77,18 @@ extend_checks setup parts case deadline request =
     ∷ when (has_one (λ row. nat_le most_grants (length row.grants)) row) Full
     ∷ [])
 
+-- the case has no motion of that number to suspend a deadline
+abbrev pub no_suspender : Parts → (case : ℕ) → Ending → Option Refusal
+no_suspender parts case why = option_and_then (λ motion. when (is_none (motion_in parts case motion)) NoSuchMotion) (suspended_by why)
+
 -- no act is recorded for the deadline, and it isn't ended
-abbrev pub end_checks : Parts → (case deadline : ℕ) → (dated : ℤ) → List (Option Refusal)
-end_checks parts case deadline dated =
+abbrev pub end_checks : Parts → (case deadline : ℕ) → Ending → (dated : ℤ) → List (Option Refusal)
+end_checks parts case deadline why dated =
     let row = deadline_in parts case deadline in
     (when (not (has_case parts case)) NoSuchCase
     ∷ when (is_closed parts case) CaseIsClosed
     ∷ when (is_none row) NoSuchDeadline
+    ∷ no_suspender parts case why
     ∷ when (not (is_covered parts.days dated)) BadDay
     ∷ when (has_one (λ row. is_some row.filed) row) AlreadyMet
     ∷ when (is_some (ending_in (facts_in parts case) deadline)) AlreadyEnded
@@ -264,8 +270,8 @@ file_act_refusal setup parts case deadline filing = first_of (file_act_checks se
 unfoldable pub extend_refusal : CourtSetup → Parts → (case deadline : ℕ) → Request → Option Refusal
 extend_refusal setup parts case deadline request = first_of (extend_checks setup parts case deadline request)
 
-unfoldable pub end_refusal : Parts → (case deadline : ℕ) → (dated : ℤ) → Option Refusal
-end_refusal parts case deadline dated = first_of (end_checks parts case deadline dated)
+unfoldable pub end_refusal : Parts → (case deadline : ℕ) → Ending → (dated : ℤ) → Option Refusal
+end_refusal parts case deadline why dated = first_of (end_checks parts case deadline why dated)
 
 unfoldable pub resume_refusal : CourtSetup → Parts → (case deadline : ℕ) → (from : Option ℤ) → (dated : ℤ) → Option Refusal
 resume_refusal setup parts case deadline from dated = first_of (resume_checks setup parts case deadline from dated)
@@ -317,7 +323,7 @@ refusal setup parts (MoveHearing s) = move_refusal setup parts s
 refusal setup parts (Cancel case motion) = cancel_refusal parts case motion
 refusal setup parts (Holiday day list) = holiday_refusal setup parts day list
 refusal setup parts (Inaccessible day from to) = outage_refusal parts day from to
-refusal setup parts (Fact case (Ended deadline why dated)) = end_refusal parts case deadline dated
+refusal setup parts (Fact case (Ended deadline why dated)) = end_refusal parts case deadline why dated
 refusal setup parts (Fact case (Resumed deadline day dated)) = resume_refusal setup parts case deadline day dated
 refusal setup parts (Fact case (Closed why dated)) = close_refusal parts case dated
 refusal setup parts (Fact case (Reopened dated)) = reopen_refusal parts case dated

@@ -102,6 +102,10 @@ word_said column text = word_in column (folded text)
 abbrev pub period_said : List ℕ → Said (List ℕ)
 period_said text = if list_any (λ b. nat_eq b 47) text then Clear (bare text) else word_said Period text
 
+-- why a deadline is due no more: a word, or one with a colon and the number of the motion that suspends it
+abbrev pub ending_why_said : List ℕ → Said (List ℕ)
+ending_why_said text = if list_any (λ b. nat_eq b 58) text then Clear (bare text) else word_said Why text
+
 -- an extension: a plus and a length, or a date
 abbrev pub grant_said : Option DateOrder → List ℕ → Said (List ℕ)
 grant_said order text =
@@ -150,7 +154,7 @@ filled_said names order Slots text = slots_said text
 filled_said names order Notice text = said_map day_text (date_said order text)
 filled_said names order Act text = word_said Act text
 filled_said names order Dated text = said_map day_text (date_said order text)
-filled_said names order Why text = word_said Why text
+filled_said names order Why text = ending_why_said text
 filled_said names order Closing text = word_said Closing text
 filled_said names order ResumeDay text = said_map day_text (date_said order text)
 filled_said names order Ruling text = word_said Ruling text

@@ -7,7 +7,7 @@ ghost use Rattle.jiff_fmt.specs.Text.{pad2};
 ghost use Rattle.court_clock.specs.Words.{day_text};
 ghost use Rattle.row_forms.specs.Words.{is_number, names_of};
 ghost use Rattle.row_fields.specs.Words.{date_said, said_map, time_said};
-ghost use Rattle.row_written.specs.Fields.{case_said, begins_number, deadline_said, ending_said, field_said, filled_said, grant_said, has_mark, is_quarters, label_said, may_be_empty, motion_said, need_said, number_or_label, number_said, period_said, rule_or_label, slots_said, text_said, time_if, word_said};
+ghost use Rattle.row_written.specs.Fields.{case_said, begins_number, deadline_said, ending_said, ending_why_said, field_said, filled_said, grant_said, has_mark, is_quarters, label_said, may_be_empty, motion_said, need_said, number_or_label, number_said, period_said, rule_or_label, slots_said, text_said, time_if, word_said};
 
 use crate::names::{Named, name_said, owned, panel_said};
 use case_numbers::case_read;
@@ -268,6 +268,17 @@ fn period_said(alloc: Global, text: &str) -> Result<Said<String>, AllocError>
     }
 }
 
+// Why a deadline is due no more: a word, or one with a colon and the number of the motion that suspends it.
+fn ending_why_said(alloc: Global, text: &str) -> Result<Said<String>, AllocError>
+    ensures { IfOk result (λ said. said_map string_bytes said ≡ ending_why_said text.now) }
+{
+    if text.as_bytes().contains(&b':') {
+        Ok(Said::Clear(bare(alloc, text)?))
+    } else {
+        word_said(alloc, Column::Why, text)
+    }
+}
+
 // An extension: a plus and a length, or a date.
 fn grant_said(
     alloc: Global,
@@ -333,6 +344,7 @@ fn filled_said(
         }
         Column::To => ending_said(alloc, text),
         Column::Period => period_said(alloc, text),
+        Column::Why => ending_why_said(alloc, text),
         Column::ServiceOrNone
         | Column::Means
         | Column::ByMotion
@@ -340,7 +352,6 @@ fn filled_said(
         | Column::Neglect
         | Column::Holidays
         | Column::Act
-        | Column::Why
         | Column::Closing
         | Column::Ruling
         | Column::Counted => word_said(alloc, column, text),

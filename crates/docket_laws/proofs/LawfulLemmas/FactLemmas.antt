@@ -16,7 +16,7 @@ use Rattle.docket_laws.proofs.LawfulLemmas.SeenLemmas.{IsOpen, is_open_of}
 fact_open : (setup : CourtSetup) (rows : Rows) (case : ℕ) (fact : Fact) → refusal setup (parts_of rows) (command.Fact case fact) ≡ None → IsOpen rows case
 unfolding end_refusal resume_refusal close_refusal reopen_refusal rule_refusal assign_refusal title_refusal label_refusal
 fact_open setup rows case (Ended deadline why dated) h =
-    is_open_of rows case (when-not-None _ _ (none_of (end_checks (parts_of rows) case deadline dated) h).0)
+    is_open_of rows case (when-not-None _ _ (none_of (end_checks (parts_of rows) case deadline why dated) h).0)
 fact_open setup rows case (Resumed deadline day dated) h =
     is_open_of rows case (when-not-None _ _ (none_of (resume_checks setup (parts_of rows) case deadline day dated) h).0)
 fact_open setup rows case (Closed why dated) h =
