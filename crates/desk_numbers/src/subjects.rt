@@ -1,8 +1,9 @@
 //! Deadlines and motions that a row names without their numbers.
 ghost use Rattle.std.specs.Prelude.{◌≡◌, ◌++◌, ◌∷◌, [], filter, map};
-ghost use Rattle.desk_numbers.specs.Subjects.{deadline_number, found_among, found_in, found_on, is_called, is_called_deadline, is_called_motion, is_pending_under, is_under, motion_number, newest_of, with_found};
+ghost use Rattle.desk_numbers.specs.Subjects.{deadline_number, found_among, found_in, found_made, found_on, is_called, is_called_deadline, is_called_motion, is_pending_under, is_under, motion_number, newest_of, with_found};
 
 use crate::called::CalledTexts;
+use crate::given::Given;
 use docket_rows::{Counted, Sheet, SheetDeadline, SheetMotion, State, View};
 use rule_periods::{Period, RulePeriod};
 
@@ -13,6 +14,8 @@ pub enum SubjectName {
     Under(RulePeriod),
     /// The newest motion.
     Newest,
+    /// The deadline that the row before started, or the motion that it entered.
+    Made(Counted),
     /// The deadline, or the motion, that rows call so as the row says.
     Called(Counted),
 }
@@ -145,15 +148,39 @@ fn motion_called(called: &CalledTexts, case: u32, label: &str, motions: &[SheetM
     found
 }
 
+// What the row before gave, where it is of that case and kind.
+fn found_made(made: Option<Given>, case: u32, counted: Counted) -> Found
+    ensures { result ≡ found_made made case counted }
+{
+    match made {
+        Some(given) => {
+            if given.is_of(case, counted) {
+                Found::One(given.number)
+            } else {
+                Found::None
+            }
+        }
+        None => Found::None,
+    }
+}
+
 impl SubjectName {
-    // What has this name on a sheet, where things are called by these texts, and the row says this where a number would be.
-    fn found_on(self, called: &CalledTexts, field: &str, sheet: &Sheet) -> Found
-        ensures { result ≡ found_on self called.now field.now sheet.now }
+    // What has this name on a sheet, where things are called by these texts, the row before gave this, and the row says that where a
+    // number would be.
+    fn found_on(
+        self,
+        called: &CalledTexts,
+        made: Option<Given>,
+        field: &str,
+        sheet: &Sheet,
+    ) -> Found
+        ensures { result ≡ found_on self called.now made field.now sheet.now }
     {
         let (deadlines, motions) = (sheet.deadlines.as_slice(), sheet.motions.as_slice());
         match self {
             SubjectName::Under(rule) => deadline_under(rule, deadlines),
             SubjectName::Newest => newest_of(motions),
+            SubjectName::Made(counted) => found_made(made, sheet.case, counted),
             SubjectName::Called(Counted::Deadline) => {
                 deadline_called(called, sheet.case, field, deadlines)
             }
@@ -163,13 +190,19 @@ impl SubjectName {
         }
     }
 
-    /// What has this name in a case whose sheet was asked for, where things are called by these texts, and the row says `field` where a
-    /// number would be: nothing where there is no sheet.
-    pub fn found_in(self, called: &CalledTexts, field: &str, shown: &View) -> Found
-        ensures { result ≡ found_in self called.now field.now shown.now }
+    /// What has this name in a case whose sheet was asked for, where things are called by these texts, the row before gave `made`, and
+    /// the row says `field` where a number would be: nothing where there is no sheet.
+    pub fn found_in(
+        self,
+        called: &CalledTexts,
+        made: Option<Given>,
+        field: &str,
+        shown: &View,
+    ) -> Found
+        ensures { result ≡ found_in self called.now made field.now shown.now }
     {
         match shown {
-            View::Sheet(sheet) => self.found_on(called, field, sheet),
+            View::Sheet(sheet) => self.found_on(called, made, field, sheet),
             _ => Found::None,
         }
     }

@@ -10,8 +10,7 @@ use Rattle.row_forms.specs.Words.{CourtNames, column, names_of}
 use Rattle.row_forms.specs.declared.line.line.Line.{Line}
 use Rattle.row_forms.specs.declared.line.line.Line.TheVariants as line
 use Rattle.row_forms.specs.Line.Words.{fields_read, line_read}
-use Rattle.desk_numbers.specs.declared.moved.Moved.{Moved}
-use Rattle.desk_numbers.specs.Words.{TextsView}
+use Rattle.desk_numbers.specs.Words.{NumbersView, TextsView}
 use Rattle.desk_numbers.specs.declared.subjects.Found.{Found}
 use Rattle.desk_numbers.specs.declared.subjects.Found.TheVariants as found
 use Rattle.desk_register.specs.declared.standing.Standing.{Standing}
@@ -59,14 +58,14 @@ named_lacks names text named is = by (lacks_field 4 (line_read most_clerks names
     by false false fourth fifth is = cc is
 
 -- what is found, by what was read and what is held
-pub found_alike : (under : Standing) (kept : List (List ℕ)) (moved : List Moved) (texts : TextsView) (named : Named) (fields : List (List ℕ)) (text : List ℕ) → moved ≡ (run_by under kept).numbers.moved → texts ≡ called_standing under kept → fields ≡ fields_read text
-    → found_for (setup_of under.court) (docketed_by under kept) moved texts named (column fields named.at) ≡ found_at under kept text named
-found_alike under kept moved texts named fields text moved_are texts_are fields_are =
+pub found_alike : (under : Standing) (kept : List (List ℕ)) (numbers : NumbersView) (texts : TextsView) (named : Named) (fields : List (List ℕ)) (text : List ℕ) → numbers ≡ (run_by under kept).numbers → texts ≡ called_standing under kept → fields ≡ fields_read text
+    → found_for (setup_of under.court) (docketed_by under kept) numbers texts named (column fields named.at) ≡ found_at under kept text named
+found_alike under kept numbers texts named fields text numbers_are texts_are fields_are =
     let setup = setup_of under.court in
     let docketed = docketed_by under kept in
-    ap (λ (m : List Moved). found_for setup docketed m texts named (column fields named.at)) moved_are
-    ∙ ap (λ (t : TextsView). found_for setup docketed (run_by under kept).numbers.moved t named (column fields named.at)) texts_are
-    ∙ ap (λ (f : List (List ℕ)). found_for setup docketed (run_by under kept).numbers.moved (called_standing under kept) named (column f named.at)) fields_are
+    ap (λ (n : NumbersView). found_for setup docketed n texts named (column fields named.at)) numbers_are
+    ∙ ap (λ (t : TextsView). found_for setup docketed (run_by under kept).numbers t named (column fields named.at)) texts_are
+    ∙ ap (λ (f : List (List ℕ)). found_for setup docketed (run_by under kept).numbers (called_standing under kept) named (column f named.at)) fields_are
 
 -- how a line is read whose plain text names nothing
 pub reads_none : (under : Standing) (kept : List (List ℕ)) (bytes : List ℕ) (fields : List (List ℕ)) (read : Line × Option NameView) → IsRead (names_of under.court) (cases_of under kept) bytes fields read

@@ -21,7 +21,7 @@ use Rattle.row_forms.specs.declared.fault.RowCause.{RowCause}
 use Rattle.desk_numbers.specs.declared.subjects.Found.{Found}
 use Rattle.desk_numbers.specs.declared.subjects.Found.TheVariants as found
 use Rattle.desk_numbers.specs.declared.subjects.SubjectName.{SubjectName}
-use Rattle.desk_numbers.specs.declared.subjects.SubjectName.TheVariants.{Called, Newest, Under}
+use Rattle.desk_numbers.specs.declared.subjects.SubjectName.TheVariants.{Called, Made, Newest, Under}
 use Rattle.desk_register.specs.declared.cause.LineCause.{LineCause}
 use Rattle.desk_register.specs.declared.cause.LineCause.TheVariants.{NotFound, TooManyCases}
 use Rattle.desk_register.specs.declared.subject.Named.{Named}
@@ -181,6 +181,7 @@ lacks_it number kept (line.Row row) then is none = refl
 one_found : (name : SubjectName) (number : ℕ) → unfound_as name (found.One number) ≡ None
 one_found (Under rule) number = refl
 one_found Newest number = refl
+one_found (Made counted) number = refl
 one_found (Called counted) number = refl
 
 all_found : (under : Standing) (kept : List (List ℕ)) (text : List ℕ) (named : Option Named) → named_in (names_of under.court) text ≡ named → lacks_field 4 (line_read most_clerks (names_of under.court) (found_text under kept text named)) ≡ false

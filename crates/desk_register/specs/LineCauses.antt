@@ -9,13 +9,13 @@ use Rattle.desk_register.specs.declared.cause.LineCause.{LineCause}
 use Rattle.desk_register.specs.declared.cause.LineCause.TheVariants.{NotFound, Row, TooManyCases}
 use Rattle.desk_register.specs.declared.cause.Unfound.{Unfound}
 use Rattle.desk_register.specs.declared.cause.UnfoundCause.{UnfoundCause}
-use Rattle.desk_register.specs.declared.cause.UnfoundCause.TheVariants.{NoDeadline, NoMotion, NoneCalled, TwoCalled, TwoDeadlines}
+use Rattle.desk_register.specs.declared.cause.UnfoundCause.TheVariants.{NoDeadline, NoMotion, NoneCalled, NoneMade, TwoCalled, TwoDeadlines}
 use Rattle.docket_rows.specs.declared.command.Counted.{Counted}
 use Rattle.docket_rows.specs.declared.command.Counted.TheVariants.{Deadline, Motion}
 use Rattle.desk_numbers.specs.declared.subjects.Found.{Found}
 use Rattle.desk_numbers.specs.declared.subjects.Found.TheVariants as found
 use Rattle.desk_numbers.specs.declared.subjects.SubjectName.{SubjectName}
-use Rattle.desk_numbers.specs.declared.subjects.SubjectName.TheVariants.{Called, Newest, Under}
+use Rattle.desk_numbers.specs.declared.subjects.SubjectName.TheVariants.{Called, Made, Newest, Under}
 use Rattle.desk_register.specs.Entries.{most_clerks}
 
 -- what is wrong with a line that says no row for this cause, and that opens a case too many or not
@@ -34,6 +34,8 @@ unfound_as (Under rule) found.None = Some (NoDeadline rule)
 unfound_as (Under rule) (found.Two number other) = Some (TwoDeadlines rule number other)
 unfound_as Newest found.None = Some NoMotion
 unfound_as Newest (found.Two number other) = None
+unfound_as (Made counted) found.None = Some (NoneMade counted)
+unfound_as (Made counted) (found.Two number other) = None
 unfound_as (Called counted) found.None = Some (NoneCalled counted)
 unfound_as (Called counted) (found.Two number other) = Some (TwoCalled counted number other)
 
@@ -75,10 +77,14 @@ none_called_words counted = codes "no " ++ counted_word counted ++ codes " of th
 abbrev pub two_called_words : Counted → (number other : ℕ) → List ℕ
 two_called_words counted number other = counted_word counted ++ codes "s " ++ decimal number ++ codes " and " ++ decimal other ++ codes " of the case are called so"
 
+abbrev pub none_made_words : Counted → List ℕ
+none_made_words counted = codes "the row before made no " ++ counted_word counted ++ codes " in the case"
+
 abbrev pub cause_words : UnfoundCause → List ℕ
 cause_words (NoDeadline rule) = none_words (rule_code rule) ++ by_number
 cause_words (TwoDeadlines rule number other) = first_words number ++ second_words other ++ rule_code rule ++ by_number
 cause_words NoMotion = codes "the case has no motion"
+cause_words (NoneMade counted) = none_made_words counted ++ by_number
 cause_words (NoneCalled counted) = none_called_words counted ++ by_number
 cause_words (TwoCalled counted number other) = two_called_words counted number other ++ by_number
 

@@ -97,7 +97,7 @@ cased_at under kept line = reading_of (names_of under.court) (cases_of under kep
 
 -- what has that name in what entries docketed, which a plain text says
 abbrev pub found_at : Standing → (kept : List (List ℕ)) → (text : List ℕ) → Named → Found
-found_at under kept text named = found_for (setup_of under.court) (docketed_by under kept) (run_by under kept).numbers.moved (called_standing under kept) named (name_said text named)
+found_at under kept text named = found_for (setup_of under.court) (docketed_by under kept) (run_by under kept).numbers (called_standing under kept) named (name_said text named)
 
 -- a plain text, with a number in place of what it names, where just one is so named
 abbrev pub found_text : Standing → (kept : List (List ℕ)) → (text : List ℕ) → Option Named → List ℕ

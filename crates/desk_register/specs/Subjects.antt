@@ -19,12 +19,11 @@ use Rattle.row_forms.specs.declared.line.line.Line.{Line}
 use Rattle.row_forms.specs.declared.line.line.Line.TheVariants as line
 use Rattle.row_forms.specs.Words.{CourtNames, column, is_text}
 use Rattle.row_forms.specs.Line.Words.{fields_read, line_read}
-use Rattle.desk_numbers.specs.declared.moved.Moved.{Moved}
 use Rattle.desk_numbers.specs.declared.subjects.Found.{Found}
 use Rattle.desk_numbers.specs.declared.subjects.Found.TheVariants as found
 use Rattle.desk_numbers.specs.declared.subjects.SubjectName.{SubjectName}
-use Rattle.desk_numbers.specs.declared.subjects.SubjectName.TheVariants.{Under, Newest, Called}
-use Rattle.desk_numbers.specs.Words.{TextsView, found_in, numbered_view}
+use Rattle.desk_numbers.specs.declared.subjects.SubjectName.TheVariants.{Under, Newest, Made, Called}
+use Rattle.desk_numbers.specs.Words.{NumbersView, TextsView, found_in, last_given, numbered_view}
 use Rattle.desk_register.specs.declared.subject.Named.{Named}
 use Rattle.desk_register.specs.CaseLines.{Reading, lacks_field, reading_of, with_number}
 use Rattle.desk_register.specs.Entries.{most_clerks}
@@ -58,10 +57,14 @@ abbrev pub under_or : Option RulePeriod → (field : List ℕ) → Option Subjec
 under_or (Some rule) field = Some (Under rule)
 under_or None field = called_by Deadline field
 
--- The name that a field is in place of a number: of a deadline its rule's code, of a motion `last`, and of both else what it is called.
+-- The name that a field is in place of a number: of a deadline its rule's code, of a motion `last`, of both `new`, for what the row before
+-- made, and else what it is called.
+abbrev pub other_name : Counted → (field : List ℕ) → Option SubjectName
+other_name Deadline field = under_or (rule_of_code field) field
+other_name Motion field = if bytes_eq field (codes "last") then Some Newest else called_by Motion field
+
 abbrev pub name_for : Counted → (field : List ℕ) → Option SubjectName
-name_for Deadline field = under_or (rule_of_code field) field
-name_for Motion field = if bytes_eq field (codes "last") then Some Newest else called_by Motion field
+name_for counted field = if bytes_eq field (codes "new") then Some (Made counted) else other_name counted field
 
 -- what a row names in the field of that column, that would name this with a number there
 abbrev pub named_as : (at : ℕ) → Option Subject → (field : List ℕ) → Option Named
@@ -84,9 +87,10 @@ named_in names text = if lacks_field 4 (line_read most_clerks names text) then n
 abbrev pub name_said : (text : List ℕ) → Named → List ℕ
 name_said text named = column (fields_read text) named.at
 
--- what has that name, which a row says so, in what is docketed, where things are called by these texts
-abbrev pub found_for : CourtSetup → (docketed : Rows) → List Moved → TextsView → Named → (field : List ℕ) → Found
-found_for setup docketed moved texts named field = found_in named.name texts field (numbered_view moved (view_of setup docketed (Sheet named.case)))
+-- what has that name, which a row says so, in what is docketed, with these numbers, where things are called by these texts
+abbrev pub found_for : CourtSetup → (docketed : Rows) → NumbersView → TextsView → Named → (field : List ℕ) → Found
+found_for setup docketed numbers texts named field =
+    found_in named.name texts (last_given numbers.given) field (numbered_view numbers.moved (view_of setup docketed (Sheet named.case)))
 
 -- the text of a plain line with the number of what was found in place of its name, in that column
 abbrev pub with_found : (at : ℕ) → (text : List ℕ) → Found → List ℕ

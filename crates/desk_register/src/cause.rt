@@ -1,6 +1,6 @@
 //! What is wrong with a line, and what is said of it.
 ghost use Rattle.std.specs.Prelude.{◌≡◌, ◌++◌, ◌∷◌, [], OnOk};
-ghost use Rattle.desk_register.specs.LineCauses.{by_number, cause_as, cause_words, clerk_in, clerk_text, counted_word, fault_front, fault_rest, fault_told, first_words, none_called_words, none_words, second_words, too_many_words, two_called_words, unfound_as, unfound_there, unfound_words};
+ghost use Rattle.desk_register.specs.LineCauses.{by_number, cause_as, cause_words, clerk_in, clerk_text, counted_word, fault_front, fault_rest, fault_told, first_words, none_called_words, none_made_words, none_words, second_words, too_many_words, two_called_words, unfound_as, unfound_there, unfound_words};
 
 use crate::register::MOST_CLERKS;
 use desk_numbers::{Found, SubjectName};
@@ -19,6 +19,8 @@ pub enum UnfoundCause {
     TwoDeadlines(RulePeriod, u32, u32),
     /// The case has no motion.
     NoMotion,
+    /// The row before made no deadline, or no motion, in the case.
+    NoneMade(Counted),
     /// No deadline, or no motion, of the case is called as the row says.
     NoneCalled(Counted),
     /// Two or more are, and these are the numbers of the first two.
@@ -92,11 +94,12 @@ pub(crate) fn unfound_as(name: SubjectName, found: Found) -> Option<UnfoundCause
         Found::None => match name {
             SubjectName::Under(rule) => Some(UnfoundCause::NoDeadline(rule)),
             SubjectName::Newest => Some(UnfoundCause::NoMotion),
+            SubjectName::Made(counted) => Some(UnfoundCause::NoneMade(counted)),
             SubjectName::Called(counted) => Some(UnfoundCause::NoneCalled(counted)),
         },
         Found::Two(number, other) => match name {
             SubjectName::Under(rule) => Some(UnfoundCause::TwoDeadlines(rule, number, other)),
-            SubjectName::Newest => None,
+            SubjectName::Newest | SubjectName::Made(_) => None,
             SubjectName::Called(counted) => Some(UnfoundCause::TwoCalled(counted, number, other)),
         },
     }
@@ -207,6 +210,15 @@ fn push_none_called(
     text.extend_from_slice(words.as_bytes())
 }
 
+// Adds that the row before made nothing of the kind.
+fn push_none_made(alloc: Global, text: &mut Vec<u8>, counted: Counted) -> Result<(), AllocError>
+    ensures { OnOk result (text.new.items ≡ text.old.items ++ none_made_words counted) }
+{
+    let word = counted_word(counted);
+    let words = format!(in alloc; "the row before made no {word} in the case")?;
+    text.extend_from_slice(words.as_bytes())
+}
+
 // Adds that two are called so.
 fn push_two_called(
     alloc: Global,
@@ -238,6 +250,10 @@ fn push_why(alloc: Global, text: &mut Vec<u8>, why: UnfoundCause) -> Result<(), 
             push_by_number(text)
         }
         UnfoundCause::NoMotion => text.extend_from_slice(b"the case has no motion"),
+        UnfoundCause::NoneMade(counted) => {
+            push_none_made(alloc, text, counted)?;
+            push_by_number(text)
+        }
         UnfoundCause::NoneCalled(counted) => {
             push_none_called(alloc, text, counted)?;
             push_by_number(text)

@@ -22,7 +22,7 @@ use crate::subject::{found_for, named_in};
 use case_numbers::{CaseName, Cases};
 use court_days::Court;
 use csv::StringRecord;
-use desk_numbers::{CalledTexts, Found, MovedNumbers};
+use desk_numbers::{CalledTexts, Found, RowNumbers};
 use docket_core::Docket;
 use row_forms::{Line, read_line};
 use std::alloc::{AllocError, Global};
@@ -53,19 +53,19 @@ pub(crate) fn read_next(
     alloc: Global,
     under: &Standing,
     docket: &Docket,
-    moved: &MovedNumbers,
+    numbers: &RowNumbers,
     called: &CalledTexts,
     cases: &Cases,
     line: &[u8],
     fields: &mut StringRecord,
 ) -> Result<(Line, Option<CaseName>), AllocError>
-    ensures { (kept : List (List ℕ)) → cases.now ≡ cases_of under.now kept → moved.now ≡ (run_by under.now kept).numbers.moved → called.now ≡ called_standing under.now kept → Holds (setup_of under.now.court) docket.now (docketed_by under.now kept) → IfOk result (IsReadAt under.now kept line.now (fields_of fields.new)) }
+    ensures { (kept : List (List ℕ)) → cases.now ≡ cases_of under.now kept → numbers.now ≡ (run_by under.now kept).numbers → called.now ≡ called_standing under.now kept → Holds (setup_of under.now.court) docket.now (docketed_by under.now kept) → IfOk result (IsReadAt under.now kept line.now (fields_of fields.new)) }
 {
     let _types: RowTypes = None;
     let (said, name) = read_named(alloc, &under.court, cases, line, fields)?;
     match named_in(alloc, &under.court, &said, fields)? {
         Some(named) => {
-            let found = found_for(alloc, docket, moved, called, &named, fields)?;
+            let found = found_for(alloc, docket, numbers, called, &named, fields)?;
             let said = said_with(alloc, &under.court, said, named.at, found, fields)?;
             Ok((said, name))
         }
@@ -99,19 +99,19 @@ pub(crate) fn unfound_in(
     alloc: Global,
     under: &Standing,
     docket: &Docket,
-    moved: &MovedNumbers,
+    numbers: &RowNumbers,
     called: &CalledTexts,
     cases: &Cases,
     line: &[u8],
 ) -> Result<Option<Unfound>, AllocError>
-    ensures { (kept : List (List ℕ)) → cases.now ≡ cases_of under.now kept → moved.now ≡ (run_by under.now kept).numbers.moved → called.now ≡ called_standing under.now kept → Holds (setup_of under.now.court) docket.now (docketed_by under.now kept) → IfOk result (λ why. why ≡ unfound_at under.now kept line.now) }
+    ensures { (kept : List (List ℕ)) → cases.now ≡ cases_of under.now kept → numbers.now ≡ (run_by under.now kept).numbers → called.now ≡ called_standing under.now kept → Holds (setup_of under.now.court) docket.now (docketed_by under.now kept) → IfOk result (λ why. why ≡ unfound_at under.now kept line.now) }
 {
     let _types: RowTypes = None;
     let mut fields = StringRecord::new(alloc);
     let (said, _name) = read_named(alloc, &under.court, cases, line, &mut fields)?;
     match named_in(alloc, &under.court, &said, &fields)? {
         Some(named) => {
-            let found = found_for(alloc, docket, moved, called, &named, &fields)?;
+            let found = found_for(alloc, docket, numbers, called, &named, &fields)?;
             Ok(unfound_there(named.at, unfound_as(named.name, found)))
         }
         None => Ok(None),

@@ -124,7 +124,7 @@ impl DocketRegister {
             alloc,
             under,
             &self.docket,
-            self.numbers.moved(),
+            &self.numbers,
             &self.called,
             &self.cases,
             line,
@@ -145,9 +145,8 @@ impl DocketRegister {
         if opens_too_many(alloc, &under.court, &self.cases, line)? {
             return Ok(LineCause::TooManyCases);
         }
-        let moved = self.numbers.moved();
         let (docket, called) = (&self.docket, &self.called);
-        match unfound_in(alloc, under, docket, moved, called, &self.cases, line)? {
+        match unfound_in(alloc, under, docket, &self.numbers, called, &self.cases, line)? {
             Some(why) => Ok(LineCause::NotFound(why)),
             None => Ok(LineCause::Row(cause)),
         }
@@ -277,9 +276,17 @@ impl DocketRegister {
     ) -> Result<(Line, Option<CaseName>), AllocError>
         ensures { (kept : List (List ℕ)) → StandsAt under.now self.now kept → IfOk result (IsReadAt under.now kept line.now (fields_of fields.new)) }
     {
-        let moved = self.numbers.moved();
         let (docket, called) = (&self.docket, &self.called);
-        read_next(alloc, under, docket, moved, called, &self.cases, line, fields)
+        read_next(
+            alloc,
+            under,
+            docket,
+            &self.numbers,
+            called,
+            &self.cases,
+            line,
+            fields,
+        )
     }
 
     /// How many entries there are, the court's file and corrections among them.

@@ -8,13 +8,13 @@ ghost use Rattle.row_forms.specs.declared.fault.RowCause.TheVariants.{BadField};
 ghost use Rattle.row_forms.specs.declared.line.line.Line.TheVariants as says;
 ghost use Rattle.row_forms.specs.Line.Words.{fields_read, line_read};
 ghost use Rattle.desk_register.specs.Entries.{most_clerks};
-ghost use Rattle.desk_register.specs.Subjects.{asked_by, asked_in, before_in, before_number, called_by, found_for, name_for, named_as, named_by, named_fifth, named_in, under_or};
+ghost use Rattle.desk_register.specs.Subjects.{asked_by, asked_in, before_in, before_number, called_by, found_for, name_for, named_as, named_by, named_fifth, named_in, other_name, under_or};
 
 use crate::case_line::{field_at, lacks_field, numbered};
 use crate::register::{MOST_CLERKS, RowTypes};
 use court_days::Court;
 use csv::StringRecord;
-use desk_numbers::{CalledTexts, Found, MovedNumbers, SubjectName};
+use desk_numbers::{CalledTexts, Found, RowNumbers, SubjectName};
 use docket_core::Docket;
 use docket_rows::{Command, Counted, Fact, Query, Subject};
 use row_forms::{Line, Work, is_text, read_line};
@@ -103,9 +103,10 @@ fn under_or(rule: Option<RulePeriod>, field: &str) -> Option<SubjectName>
     }
 }
 
-// The name that a field is in place of a number: of a deadline its rule's code, of a motion `last`, and of both else what it is called.
-fn name_for(counted: Counted, field: &str) -> Option<SubjectName>
-    ensures { result ≡ name_for counted field.now }
+// The name that a field is in place of a number, which isn't `new`: of a deadline its rule's code, of a motion `last`, and of both else
+// what it is called.
+fn other_name(counted: Counted, field: &str) -> Option<SubjectName>
+    ensures { result ≡ other_name counted field.now }
 {
     match counted {
         Counted::Deadline => under_or(RulePeriod::from_code(field), field),
@@ -116,6 +117,17 @@ fn name_for(counted: Counted, field: &str) -> Option<SubjectName>
                 called_by(Counted::Motion, field)
             }
         }
+    }
+}
+
+// The name that a field is in place of a number: `new` names what the row before made.
+fn name_for(counted: Counted, field: &str) -> Option<SubjectName>
+    ensures { result ≡ name_for counted field.now }
+{
+    if field == "new" {
+        Some(SubjectName::Made(counted))
+    } else {
+        other_name(counted, field)
     }
 }
 
@@ -183,18 +195,20 @@ pub(crate) fn named_in(
     }
 }
 
-// What has that name, which a row with these fields says, in what is docketed, where things are called by these texts.
+// What has that name, which a row with these fields says, in what is docketed, with these numbers, where things are called by these
+// texts.
 pub(crate) fn found_for(
     alloc: Global,
     docket: &Docket,
-    moved: &MovedNumbers,
+    numbers: &RowNumbers,
     called: &CalledTexts,
     named: &Named,
     fields: &StringRecord,
 ) -> Result<Found, AllocError>
-    ensures { (setup : CourtSetup) (docketed : Rows) → Holds setup docket.now docketed → IfOk result (λ found. found ≡ found_for setup docketed moved.now called.now named.now (column (fields_of fields.now) named.now.at)) }
+    ensures { (setup : CourtSetup) (docketed : Rows) → Holds setup docket.now docketed → IfOk result (λ found. found ≡ found_for setup docketed numbers.now called.now named.now (column (fields_of fields.now) named.now.at)) }
 {
     let shown = docket.show(alloc, &Query::Sheet(named.case))?;
     let field = field_in(fields, named.at);
-    Ok(named.name.found_in(called, field, &moved.number_view(shown)))
+    let view = numbers.moved().number_view(shown);
+    Ok(named.name.found_in(called, numbers.last(), field, &view))
 }

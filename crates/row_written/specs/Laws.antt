@@ -1,5 +1,5 @@
 -- What the definitions come to.
-use Rattle.std.specs.Prelude.{◌≡◌, ◌⊎◌, ℕ, nat_eq, true, false, IsSome, List, codes, Option, None}
+use Rattle.std.specs.Prelude.{◌≡◌, ◌⊎◌, ℕ, nat_eq, true, false, IsSome, List, codes, Option, None, Some}
 use Rattle.std.specs.List.{list_any, starts_with}
 use Rattle.csv.specs.Writing.{default_writer, row_text}
 use Rattle.case_numbers.specs.Words.{case_read}
@@ -17,7 +17,7 @@ use Rattle.row_written.specs.Cases.{with_one}
 use Rattle.row_written.specs.Fields.{field_said}
 use Rattle.row_written.specs.Headings.{word_at}
 use Rattle.row_written.specs.Known.{names_known}
-use Rattle.row_written.specs.Rows.{read_as}
+use Rattle.row_written.specs.Rows.{plain_of, read_as}
 
 -- a text is a plain row as the office reads it, whose judges and room the court has
 pub record IsPlainRow (clerks : ℕ) (names : CourtNames) (text : List ℕ) (row : Row) : Type 0 where
@@ -54,7 +54,7 @@ PlainRowsStay = (clerks : ℕ) (names : CourtNames) (order : Option DateOrder) (
 -- What a line is read as, if it is read as a row, is a plain row, or one with a case number, or a deadline's rule, `last` or what is called
 -- so, in place of a number.
 abbrev pub RowsArePlain : Type 0
-RowsArePlain = (clerks : ℕ) (names : CourtNames) (order : Option DateOrder) (header : Option (List (List ℕ))) (line text : List ℕ) → read_as clerks names order header line ≡ Plain text
+RowsArePlain = (clerks : ℕ) (names : CourtNames) (order : Option DateOrder) (header : Option (List (List ℕ))) (line text : List ℕ) → plain_of (read_as clerks names order header line) ≡ Some text
     → (row : Row) × IsRow clerks names text row
 
 -- fields of that court, with dates in that order

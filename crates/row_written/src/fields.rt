@@ -51,7 +51,7 @@ fn number_said(alloc: Global, text: &str) -> Result<Said<String>, AllocError>
 }
 
 // Whether a text has a question mark, which may stand for a letter that plain keys don't type.
-fn has_mark(text: &[u8]) -> bool
+pub(crate) fn has_mark(text: &[u8]) -> bool
     ensures { result ≡ has_mark text.now }
 {
     text.iter().any(|byte| *byte == b'?')

@@ -13,7 +13,7 @@ use Rattle.desk_register.proofs.NextLineLemmas.{found_alike, named_lacks, reads_
 use Rattle.desk_register.proofs.next_line.read_next.Goals as goal
 
 pub returns-in_ok-said-in-Some : goal.returns-in_ok-said-in-Some
-returns-in_ok-said-in-Some c = λ kept cases_are moved_are called_are holds.
+returns-in_ok-said-in-Some c = λ kept cases_are numbers_are called_are holds.
     let under = c.args.under.now in
     let names = names_of under.court in
     let line = c.args.line.now in
@@ -25,12 +25,12 @@ returns-in_ok-said-in-Some c = λ kept cases_are moved_are called_are holds.
     let fields : before ≡ fields_read text = read.lacking_are place (read.said ∙ lacks) in
     let there : c.in_ok-found-in-Some.found ≡ found_at under kept text c.in-Some.named =
     c.in_ok-found-in-Some.ensures (setup_of under.court) (docketed_by under kept) holds
-    ∙ found_alike under kept c.args.moved.now c.args.called.now c.in-Some.named before text moved_are called_are fields in
+    ∙ found_alike under kept c.args.numbers.now c.args.called.now c.in-Some.named before text numbers_are called_are fields in
     reads_some under kept line (fields_of c.said_with.new.fields) c.in_ok-said-in-Some.said c.in_ok-said.name c.in-Some.named c.in_ok-found-in-Some.found named there
     (c.in_ok-said-in-Some.ensures.said text read.said fields) (c.in_ok-said-in-Some.ensures.fields text read.said fields) read.name
 
 pub returns-in-None : goal.returns-in-None
-returns-in-None c = λ kept cases_are moved_are called_are holds.
+returns-in-None c = λ kept cases_are numbers_are called_are holds.
     let under = c.args.under.now in
     let names = names_of under.court in
     let line = c.args.line.now in

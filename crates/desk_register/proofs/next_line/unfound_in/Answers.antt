@@ -17,7 +17,7 @@ use Rattle.desk_register.proofs.NextLineLemmas.{found_alike, named_lacks}
 use Rattle.desk_register.proofs.next_line.unfound_in.Goals as goal
 
 pub returns-in_ok-found-in-Some : goal.returns-in_ok-found-in-Some
-returns-in_ok-found-in-Some c = λ kept cases_are moved_are called_are holds.
+returns-in_ok-found-in-Some c = λ kept cases_are numbers_are called_are holds.
     let under = c.args.under.now in
     let names = names_of under.court in
     let line = c.args.line.now in
@@ -29,14 +29,14 @@ returns-in_ok-found-in-Some c = λ kept cases_are moved_are called_are holds.
     let fields : before ≡ fields_read text = read.lacking_are place (read.said ∙ lacks) in
     let there : c.in_ok-found-in-Some.found ≡ found_at under kept text c.in-Some.named =
     c.in_ok-found-in-Some.ensures (setup_of under.court) (docketed_by under kept) holds
-    ∙ found_alike under kept c.args.moved.now c.args.called.now c.in-Some.named before text moved_are called_are fields in
+    ∙ found_alike under kept c.args.numbers.now c.args.called.now c.in-Some.named before text numbers_are called_are fields in
     c.unfound_there.ensures
     ∙ ap (unfound_there c.in-Some.named.at) c.unfound_as.ensures
     ∙ ap (λ (f : Found). unfound_there c.in-Some.named.at (unfound_as c.in-Some.named.name f)) there
     ∙ sym (ap (unfound_of under kept text) named)
 
 pub returns-in-None : goal.returns-in-None
-returns-in-None c = λ kept cases_are moved_are called_are holds.
+returns-in-None c = λ kept cases_are numbers_are called_are holds.
     let under = c.args.under.now in
     let names = names_of under.court in
     let line = c.args.line.now in

@@ -3,7 +3,7 @@ use Rattle.std.specs.Prelude.{option_map}
 use Rattle.csv.specs.Records.{fields_of}
 use Rattle.row_written.specs.Fault.{fault_in}
 use Rattle.row_written.specs.Rows.{excess_faults}
-use Rattle.row_written.proofs.rows.push_excesses.Given as goal
+use Rattle.row_written.proofs.excess.push_excesses.Given as goal
 
 abbrev pub invariant-loop-i : goal.invariant-loop-i
 invariant-loop-i l =

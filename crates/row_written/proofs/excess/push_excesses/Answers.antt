@@ -5,7 +5,7 @@ use Rattle.row_written.specs.Fault.{fault_in}
 use Rattle.row_written.specs.Headings.{word_at}
 use Rattle.row_written.specs.Rows.{excess_fault, excess_faults}
 use Rattle.row_written.proofs.RowLemmas.{excess_next, excess_past, found_all, found_more}
-use Rattle.row_written.proofs.rows.push_excesses.Goals as goal
+use Rattle.row_written.proofs.excess.push_excesses.Goals as goal
 
 pub loop-i-preserved : goal.loop-i-preserved
 loop-i-preserved c =
