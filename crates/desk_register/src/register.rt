@@ -276,17 +276,9 @@ impl DocketRegister {
     ) -> Result<(Line, Option<CaseName>), AllocError>
         ensures { (kept : List (List ℕ)) → StandsAt under.now self.now kept → IfOk result (IsReadAt under.now kept line.now (fields_of fields.new)) }
     {
-        let (docket, called) = (&self.docket, &self.called);
-        read_next(
-            alloc,
-            under,
-            docket,
-            &self.numbers,
-            called,
-            &self.cases,
-            line,
-            fields,
-        )
+        let (docket, numbers) = (&self.docket, &self.numbers);
+        let (called, cases) = (&self.called, &self.cases);
+        read_next(alloc, under, docket, numbers, called, cases, line, fields)
     }
 
     /// How many entries there are, the court's file and corrections among them.
