@@ -180,7 +180,7 @@ def fact_rows(draw, rows, cases, faulty=True):
     rows = list(rows)
     for _ in range(draw.randint(1, 12)):
         subject, dated = b"%d,%d" % (draw.choice(cases), draw.randint(1, 4)), draw.choice(days)
-        day = dated if faulty and draw.random() < 0.1 else b""
+        day = draw.choice(days + [b"9/7/25"] * faulty) if draw.random() < 0.3 else b""
         row = draw.choice([b"1,end,%s,%s,%s\n" % (subject, draw.choice(reasons), dated), b"1,resume,%s,%s,%s\n" % (subject, day, dated)])
         rows.insert(draw.randint(min(len(rows), 4), len(rows)), row)
     rulings = [b"granted", b"denied", b"in part", b"moot", b"withdrawn", b"reserved"] + [b"vacated"] * faulty

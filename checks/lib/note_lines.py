@@ -368,7 +368,7 @@ REFUSED = {
     25: by_command(MOST),
     26: alone("the court's file names no such judge", "ours"),
     27: alone("the court's file names no such room", "ours"),
-    28: by_grant("hours are extended by hours, days by days", "a day is reset to a day, an hour to an hour", "ours"),
+    28: alone("hours are extended by hours, days by days", "ours"),
     29: by_command(PANELS),
     30: alone("the case is closed; `reopen` opens it again", "ours"),
     31: alone("the case isn't closed; `close` closes one", "ours"),

@@ -81,6 +81,7 @@ def spoiled():
         way(name + " as why a deadline is ended", put(end, "moot", why))
     way("a day of an order that is none", put(end, "2025-10-06", "9/31/2025"))
     way("a day for a deadline that is resumed", put(resume, ",,", ",2025-11-03,"))
+    way("no date for a deadline that is resumed", put(resume, ",,", ",soon,"))
     way("the day of an order in the place before it", put(resume, ",,", ","))
     # cases that are closed
     close = "1,close,12,settled,2025-11-03"

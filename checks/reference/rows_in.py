@@ -123,11 +123,6 @@ def quarter(text, court):
     return minute // 15 if minute is not None and minute % 15 == 0 else None
 
 
-def no_day(text, court):
-    """The day of a deadline that is resumed as it was."""
-    return [] if text == "" else None
-
-
 def date_or_none(text, court):
     if text == "":
         return []
@@ -236,7 +231,18 @@ COLUMNS = {
 TEXT_BYTES = 200
 # A control character, of ASCII or after it.
 CONTROL = re.compile("[\x00-\x1f\x7f-\x9f]")
-WHY = one_of("moot", "vacated", "stayed", "suspended", "withdrawn")
+WHY = ("moot", "vacated", "stayed", "suspended", "withdrawn")
+
+
+def why(text, court):
+    """Why a deadline is ended, and the number of the motion that suspends it, or None."""
+    word, colon, motion = text.partition(":")
+    found = number_of(motion) if colon else None
+    if word not in WHY or colon and (word != "suspended" or found is None):
+        return None
+    return word, found
+
+
 # The forms of the desk: those of clerk_office, where a period may be named by its section's code, and its own.
 DESK_COLUMNS = {
     **COLUMNS,
@@ -244,8 +250,8 @@ DESK_COLUMNS = {
     "compute": [period_or_code] + EVENT_COLUMNS,
     "set": [number, date, given_time, one_of("filing", "service")],
     "reset": [number, number, date, given_time, date],
-    "end": [number, number, WHY, date],
-    "resume": [number, number, no_day, date],
+    "end": [number, number, why, date],
+    "resume": [number, number, date_or_none, date],
     "close": [number, one_of("dismissed", "judgment", "settled", "transferred", "remanded", "otherwise"), date],
     "reopen": [number, date],
     "rule": [number, number, one_of("granted", "denied", "in part", "moot", "withdrawn", "reserved"), date],
@@ -270,7 +276,7 @@ WORKS = {
     "set": lambda case, day, minute, act: ("start", case, set_to(act, bool(minute)), Event(day, only(minute) or 0), None, None),
     "reset": lambda case, deadline, day, minute, dated: ("extend", case, deadline, order(reset_to(day, minute), dated)),
     "end": lambda case, deadline, why, dated: ("end", case, deadline, why, dated),
-    "resume": lambda case, deadline, day, dated: ("resume", case, deadline, dated),
+    "resume": lambda case, deadline, day, dated: ("resume", case, deadline, only(day), dated),
     "close": lambda case, why, dated: ("close", case, why, dated),
     "reopen": lambda case, dated: ("reopen", case, dated),
     "rule": lambda case, motion, ruling, dated: ("rule", case, motion, ruling, dated),

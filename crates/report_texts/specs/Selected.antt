@@ -9,16 +9,22 @@ use Rattle.docket_selection.specs.declared.pending.PendingItem.{PendingItem}
 use Rattle.docket_rows.specs.declared.command.Counted.{Counted}
 use Rattle.docket_rows.specs.declared.command.Counted.TheVariants.{Deadline, Motion}
 use Rattle.desk_numbers.specs.declared.moved.Moved.{Moved}
-use Rattle.desk_numbers.specs.Words.{number_in, numbered_booking}
+use Rattle.desk_numbers.specs.Words.{number_in, numbered_booking, numbered_ended}
 
 -- what the number of an item is the number of
 abbrev pub counted_in : Matter → Counted
 counted_in (matter.Deadline d) = Deadline
 counted_in (matter.Hearing h) = Motion
 
+-- what there is, with the number of the motion that suspends its deadline
+abbrev pub numbered_matter : List Moved → (case : ℕ) → Matter → Matter
+numbered_matter moved case (matter.Deadline d) = matter.Deadline (record d { ended = numbered_ended moved case d.ended })
+numbered_matter moved case (matter.Hearing h) = matter.Hearing h
+
 -- an item with the number of its deadline or its motion
 abbrev pub numbered_item : List Moved → DueItem → DueItem
-numbered_item moved item = record item { number = number_in moved item.case (counted_in item.matter) item.number }
+numbered_item moved item =
+    record item { number = number_in moved item.case (counted_in item.matter) item.number; matter = numbered_matter moved item.case item.matter }
 
 -- the bookings of a judge, and those on a day, with the numbers of their motions
 abbrev pub numbered_calendar : List Moved → JudgeCalendar → JudgeCalendar

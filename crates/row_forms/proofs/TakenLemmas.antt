@@ -13,7 +13,7 @@ use Rattle.row_forms.specs.declared.row.Work.{Work}
 use Rattle.row_forms.specs.Columns.{◌>>=◌, column, day_in, number_in}
 use Rattle.row_forms.specs.CourtNames.{CourtNames, office_names}
 use Rattle.row_forms.specs.Fields.Choices.{kind_if_given}
-use Rattle.row_forms.specs.Fields.Times.{day_anew, day_if_given, minute_or_midnight}
+use Rattle.row_forms.specs.Fields.Times.{day_if_given, minute_or_midnight}
 use Rattle.row_forms.specs.Forms.{fields_as, office_work_of, work_as, work_of}
 use Rattle.row_forms.specs.Forms.Periods.{measured_from}
 use Rattle.row_forms.specs.Forms.Settings.{setting_in}
@@ -83,7 +83,7 @@ rows_follow_the_table_lem = record {
 }
 
 pub empty_fields_are_taken_lem : EmptyFieldsAreTaken
-unfolding minute_or_midnight day_if_given kind_if_given day_anew
+unfolding minute_or_midnight day_if_given kind_if_given
 empty_fields_are_taken_lem TimeOrNone clerks names e = refl
 empty_fields_are_taken_lem SecondOrNone clerks names e = refl
 empty_fields_are_taken_lem ServiceOrNone clerks names e = refl

@@ -27,7 +27,7 @@ use Rattle.row_forms.specs.Fields.Choices.{closing_of, counted_of, ending_of, is
 use Rattle.row_forms.specs.Fields.Grants.{grant_of, need_of, order_dated, reset_to}
 use Rattle.row_forms.specs.Fields.Period.{act_of}
 use Rattle.row_forms.specs.Fields.Texts.{text_length}
-use Rattle.row_forms.specs.Fields.Times.{day_anew, ending_minute, minute_or_midnight}
+use Rattle.row_forms.specs.Fields.Times.{day_if_given, ending_minute, minute_or_midnight}
 use Rattle.row_forms.specs.CourtNames.{CourtNames, number_if_named, number_named, office_names}
 use Rattle.row_forms.specs.Forms.Periods.{measured_from}
 use Rattle.row_forms.specs.Forms.Settings.{setting_in}
@@ -149,14 +149,14 @@ end_row fields = do
   dated ← day_in fields 6
   Ok (Command (command.Fact case (Ended deadline why dated)))
 
--- a row of `resume`: a deadline that was ended is due again
+-- a row of `resume`: a deadline that was ended is due again, as before or anew from a day
 abbrev pub resume_row : List (List ℕ) → Result Work RowCause
 resume_row fields = do
   case ← number_in fields 3
   deadline ← number_in fields 4
-  _ ← in_column 5 (day_anew (column fields 5))
+  day ← in_column 5 (day_if_given (column fields 5))
   dated ← day_in fields 6
-  Ok (Command (command.Fact case (Resumed deadline dated)))
+  Ok (Command (command.Fact case (Resumed deadline day dated)))
 
 -- a row of `close`: a case is closed
 abbrev pub close_row : List (List ℕ) → Result Work RowCause
@@ -269,7 +269,7 @@ form_asking (Command (command.Cancel case motion)) = Cancel
 form_asking (Command (command.Holiday day list)) = Holiday
 form_asking (Command (command.Inaccessible day from to)) = Inaccessible
 form_asking (Command (command.Fact case (Ended deadline why dated))) = End
-form_asking (Command (command.Fact case (Resumed deadline dated))) = Resume
+form_asking (Command (command.Fact case (Resumed deadline day dated))) = Resume
 form_asking (Command (command.Fact case (Closed why dated))) = Close
 form_asking (Command (command.Fact case (Reopened dated))) = Reopen
 form_asking (Command (command.Fact case (Ruled motion how dated))) = Rule

@@ -17,7 +17,7 @@ use Rattle.row_forms.specs.Fields.Hearings.{panel_named, slots_of}
 use Rattle.row_forms.specs.Fields.Numbers.{number_of}
 use Rattle.row_forms.specs.Fields.Period.{act_of, period_in}
 use Rattle.row_forms.specs.Fields.Texts.{text_length}
-use Rattle.row_forms.specs.Fields.Times.{day_anew, day_if_given, ending_minute, minute_or_midnight, slot_at}
+use Rattle.row_forms.specs.Fields.Times.{day_if_given, ending_minute, minute_or_midnight, slot_at}
 use Rattle.row_forms.specs.Forms.Table.{columns_of_form, form_of, office_form_of}
 use Rattle.row_forms.specs.Headings.Columns.{mark_of, may_be_empty}
 use Rattle.row_forms.specs.Rows.{clerk_of, office_row_of, row_of}
@@ -54,7 +54,7 @@ takes clerks names Act field = is_some (act_of field)
 takes clerks names Dated field = is_some (day_of_text field)
 takes clerks names Why field = is_some (ending_of field)
 takes clerks names Closing field = is_some (closing_of field)
-takes clerks names ResumeDay field = is_some (day_anew field)
+takes clerks names ResumeDay field = is_some (day_if_given field)
 takes clerks names Ruling field = is_some (ruling_of field)
 takes clerks names JudgeOrNone field = true
 takes clerks names Title field = is_some (text_length field)

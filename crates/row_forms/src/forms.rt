@@ -14,7 +14,7 @@ use crate::fields::grants::{grant_of, need_of, order_dated, reset_to};
 use crate::fields::hearings::{judge_if_named, judge_named};
 use crate::fields::period::act_of;
 use crate::fields::texts::text_length;
-use crate::fields::times::{day_anew, ending_minute, minute_or_midnight};
+use crate::fields::times::{day_if_given, ending_minute, minute_or_midnight};
 use crate::row::Work;
 use court_clock::{Direction, minute_from_text};
 use court_days::Court;
@@ -278,15 +278,19 @@ fn end_row(fields: &StringRecord) -> Result<Work, RowCause>
     Ok(Work::Command(Command::Fact { case, fact }))
 }
 
-// A deadline that was ended is due again.
+// A deadline that was ended is due again, as before or anew from a day.
 fn resume_row(fields: &StringRecord) -> Result<Work, RowCause>
     ensures { result ≡ resume_row (fields_of fields.now) }
 {
     let case = number_in(fields, 3)?;
     let deadline = number_in(fields, 4)?;
-    day_anew(column(fields, 5)).ok_or(RowCause::BadField(5))?;
+    let from = day_if_given(column(fields, 5)).ok_or(RowCause::BadField(5))?;
     let dated = day_in(fields, 6)?;
-    let fact = Fact::Resumed { deadline, dated };
+    let fact = Fact::Resumed {
+        deadline,
+        from,
+        dated,
+    };
     Ok(Work::Command(Command::Fact { case, fact }))
 }
 

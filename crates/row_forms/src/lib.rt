@@ -15,6 +15,7 @@ mod row;
 pub use columns::column;
 pub use fault::{RowCause, RowError};
 pub use fields::numbers::is_number;
+pub use fields::texts::is_text;
 pub use forms::{COMMANDS, columns_of, commands, commands_listed};
 pub use headings::{Column, column_at, mark_of, may_be_empty, name_of};
 pub use laws::{

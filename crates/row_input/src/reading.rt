@@ -90,6 +90,15 @@ impl Reading {
                 self.placed.extend_from_slice(mark)?;
                 self.placed.extend_from_slice(unended(&text))?;
             }
+            Written::Labelled(text, label) => {
+                self.rows.extend_from_slice(mark)?;
+                push_ended(&mut self.rows, &text)?;
+                push_ended(&mut self.rows, &label)?;
+                self.placed.extend_from_slice(mark)?;
+                self.placed.extend_from_slice(unended(&text))?;
+                self.placed.push(b'\r')?;
+                self.placed.extend_from_slice(unended(&label))?;
+            }
             Written::Faulty(faults) => {
                 let line = Vec::from_slice(alloc, line)?;
                 self.faulty.push(FaultyLine {

@@ -1,9 +1,8 @@
--- Names in place of numbers, in the fields of rows: case numbers as courts write them, deadlines by their rule and the newest
--- motion. The office reads none, so it is asked about the row with the number 1 in place of each.
-use Rattle.std.specs.Prelude.{ℕ, ◌+◌, Bool, true, false, List, ◌∷◌, ◌++◌, codes, drop, is_some, take, Option, None, if◌then◌else◌}
-use Rattle.std.specs.Str.{bytes_eq}
+-- Names in place of numbers, in the fields of rows: case numbers as courts write them, deadlines by their rule, the newest motion, and
+-- what deadlines and motions are called. The office reads none, so it is asked about the row with the number 1 in place of each.
+use Rattle.std.specs.Prelude.{ℕ, ◌+◌, Bool, true, false, List, ◌∷◌, ◌++◌, codes, drop, is_some, not, take, Option, None, if◌then◌else◌}
 use Rattle.case_numbers.specs.Words.{NameView, case_read}
-use Rattle.rule_periods.specs.Words.{rule_of_code}
+use Rattle.row_forms.specs.Words.{is_number}
 use Rattle.row_forms.specs.declared.headings.columns.Column.{Column}
 use Rattle.row_forms.specs.declared.headings.columns.Column.TheVariants.{Case, Deadline, Motion}
 use Rattle.row_forms.specs.Headings.Words.{column_at}
@@ -18,10 +17,10 @@ is_case _ = false
 abbrev pub name_in : List Column → (fields : List (List ℕ)) → Option NameView
 name_in columns fields = if is_case (column_at columns 2) then case_read (word_at fields 2) else None
 
--- a field of this column is a name in place of a number: of a deadline its rule's code, of a motion `last`
+-- a field of this column is a name in place of a number: of a deadline its rule's code, of a motion `last`, and of both what they are called
 abbrev pub is_subject_name : Column → List ℕ → Bool
-is_subject_name Deadline field = is_some (rule_of_code field)
-is_subject_name Motion field = bytes_eq field (codes "last")
+is_subject_name Deadline field = not (is_number field)
+is_subject_name Motion field = not (is_number field)
 is_subject_name _ field = false
 
 -- a row with these columns names its deadline or its motion so, in the fourth field

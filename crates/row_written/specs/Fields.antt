@@ -1,5 +1,6 @@
 -- What a field says, by what its column holds, as a plain row writes it.
-use Rattle.std.specs.Prelude.{ℕ, ◌-◌, ◌==◌, ◌&&◌, nat_eq, Bool, true, false, List, [], codes, length, take, Option, Some, None, if◌then◌else◌}
+use Rattle.std.specs.Prelude.{ℕ, ◌-◌, ◌==◌, ◌&&◌, nat_eq, Bool, true, false, List, [], ◌∷◌, codes, length, take, Option, Some, None, if◌then◌else◌}
+use Rattle.std.specs.Char.{is_ascii_digit}
 use Rattle.std.specs.List.{ends_with, list_any, starts_with}
 use Rattle.std.specs.Option.{is_some}
 use Rattle.std.specs.Str.{bytes_eq}
@@ -30,13 +31,30 @@ has_mark text = list_any (λ b. b == 63) text
 abbrev pub text_said : List ℕ → Said (List ℕ)
 text_said text = if has_mark text then Unknown else Clear text
 
--- a deadline: its number, or a Rule's number
-abbrev pub deadline_said : List ℕ → Said (List ℕ)
-deadline_said text = if is_number text then Clear text else rule_said (folded text)
+-- What a deadline or a motion is called: the field as it is. What begins with a digit is a slip of a number, or of a Rule's number.
+abbrev pub begins_number : List ℕ → Bool
+begins_number [] = false
+begins_number (byte ∷ rest) = is_ascii_digit byte
 
--- a motion: its number, or the last
+abbrev pub label_said : List ℕ → Said (List ℕ)
+label_said text = if begins_number text then Unknown else text_said text
+
+-- a Rule's number, or what a deadline is called where the field is none
+abbrev pub rule_or_label : Said (List ℕ) → (text : List ℕ) → Said (List ℕ)
+rule_or_label Unknown text = label_said text
+rule_or_label (Clear code) text = Clear code
+rule_or_label (Unclear one other) text = Unclear one other
+
+-- a deadline: its number, a Rule's number, or what it is called
+abbrev pub deadline_said : List ℕ → Said (List ℕ)
+deadline_said text = if is_number text then Clear text else rule_or_label (rule_said (folded text)) text
+
+abbrev pub number_or_label : List ℕ → Said (List ℕ)
+number_or_label text = if is_number text then Clear text else label_said text
+
+-- a motion: its number, the last, or what it is called
 abbrev pub motion_said : List ℕ → Said (List ℕ)
-motion_said text = if bytes_eq (folded text) (codes "last") then Clear (codes "last") else number_said text
+motion_said text = if bytes_eq (folded text) (codes "last") then Clear (codes "last") else number_or_label text
 
 -- a case number as it is shown
 abbrev pub shown_said : Option NameView → Said (List ℕ)
@@ -93,6 +111,10 @@ abbrev pub period_said : CourtNames → List ℕ → Said (List ℕ)
 period_said names text =
     if list_any (λ b. nat_eq b 47) text then Clear (bare text) else or_own names.periods text (word_said Period text)
 
+-- why a deadline is due no more: a word, or one with a colon and the number of the motion that suspends it
+abbrev pub ending_why_said : List ℕ → Said (List ℕ)
+ending_why_said text = if list_any (λ b. nat_eq b 58) text then Clear (bare text) else word_said Why text
+
 -- an extension: a plus and a length, or a date
 abbrev pub grant_said : Option DateOrder → List ℕ → Said (List ℕ)
 grant_said order text =
@@ -141,10 +163,9 @@ filled_said names order Slots text = slots_said text
 filled_said names order Notice text = said_map day_text (date_said order text)
 filled_said names order Act text = word_said Act text
 filled_said names order Dated text = said_map day_text (date_said order text)
-filled_said names order Why text = word_said Why text
+filled_said names order Why text = ending_why_said text
 filled_said names order Closing text = word_said Closing text
--- a deadline that is resumed has its days as before
-filled_said names order ResumeDay text = Unknown
+filled_said names order ResumeDay text = said_map day_text (date_said order text)
 filled_said names order Ruling text = word_said Ruling text
 filled_said names order JudgeOrNone text = name_said names.judges text
 filled_said names order Counted text = word_said Counted text

@@ -4,6 +4,7 @@ pub mod Known
 pub mod Fault
 pub mod Headings
 pub mod Cases
+pub mod Labels
 pub mod Rows
 pub mod Laws
 pub mod Words

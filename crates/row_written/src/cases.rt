@@ -1,5 +1,5 @@
-//! Names in place of numbers, in the fields of rows: case numbers as courts write them, deadlines by their rule and the newest
-//! motion.
+//! Names in place of numbers, in the fields of rows: case numbers as courts write them, deadlines by their rule, the newest motion, and
+//! what deadlines and motions are called.
 
 ghost use Rattle.std.specs.Prelude.{◌≡◌, IfOk, is_some};
 ghost use Rattle.csv.specs.Records.{fields_of};
@@ -9,8 +9,7 @@ ghost use Rattle.row_written.specs.Cases.{asked, is_case, is_subject_name, name_
 use crate::headings::word_at;
 use case_numbers::case_read;
 use csv::StringRecord;
-use row_forms::{Column, column_at, push_row_text};
-use rule_periods::RulePeriod;
+use row_forms::{Column, column_at, is_number, push_row_text};
 use std::alloc::{AllocError, Global};
 
 // Whether it is the column of a case.
@@ -31,13 +30,13 @@ fn has_name(alloc: Global, columns: &[Column], fields: &StringRecord) -> Result<
     }
 }
 
-// Whether a field of this column is a name in place of a number: of a deadline its rule's code, of a motion `last`.
+// Whether a field of this column is a name in place of a number: of a deadline its rule's code, of a motion `last`, and of both what they
+// are called.
 fn is_subject_name(column: Column, field: &str) -> bool
     ensures { result ≡ is_subject_name column field.now }
 {
     match column {
-        Column::Deadline => RulePeriod::from_code(field).is_some(),
-        Column::Motion => field == "last",
+        Column::Deadline | Column::Motion => !is_number(field.as_bytes()),
         _ => false,
     }
 }

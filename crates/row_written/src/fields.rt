@@ -9,7 +9,7 @@ ghost use Rattle.jiff_fmt.specs.Text.{pad2};
 ghost use Rattle.court_clock.specs.Words.{day_text};
 ghost use Rattle.row_forms.specs.Words.{is_number, names_of};
 ghost use Rattle.row_fields.specs.Words.{date_said, said_map, time_said};
-ghost use Rattle.row_written.specs.Fields.{case_said, clear_if, deadline_said, ending_said, field_said, filled_said, grant_said, has_mark, is_quarters, may_be_empty, motion_said, need_said, number_said, or_own, period_said, slots_said, text_said, time_if, word_said};
+ghost use Rattle.row_written.specs.Fields.{begins_number, case_said, clear_if, deadline_said, ending_said, ending_why_said, field_said, filled_said, grant_said, has_mark, is_quarters, label_said, may_be_empty, motion_said, need_said, number_or_label, number_said, or_own, period_said, rule_or_label, slots_said, text_said, time_if, word_said};
 
 use crate::names::{Named, name_said, owned, panel_said};
 use case_numbers::case_read;
@@ -53,7 +53,7 @@ fn number_said(alloc: Global, text: &str) -> Result<Said<String>, AllocError>
 }
 
 // Whether a text has a question mark, which may stand for a letter that plain keys don't type.
-fn has_mark(text: &[u8]) -> bool
+pub(crate) fn has_mark(text: &[u8]) -> bool
     ensures { result ≡ has_mark text.now }
 {
     text.iter().any(|byte| *byte == b'?')
@@ -84,7 +84,43 @@ fn case_said(alloc: Global, text: &str) -> Result<Said<String>, AllocError>
     }
 }
 
-// A deadline: its number, or a Rule's number.
+// Whether a field begins with a digit: then it is a slip of a number, or of a Rule's number, and not what something is called.
+fn begins_number(text: &[u8]) -> bool
+    ensures { result ≡ begins_number text.now }
+{
+    match text {
+        [] => false,
+        [byte, ..] => byte.is_ascii_digit(),
+    }
+}
+
+// What a deadline or a motion is called: the field as it is.
+fn label_said(alloc: Global, text: &str) -> Result<Said<String>, AllocError>
+    ensures { IfOk result (λ said. said_map string_bytes said ≡ label_said text.now) }
+{
+    if begins_number(text.as_bytes()) {
+        Ok(Said::Unknown)
+    } else {
+        text_said(alloc, text)
+    }
+}
+
+// A Rule's number, or what a deadline is called where the field is none.
+fn rule_or_label(
+    alloc: Global,
+    said: Said<String>,
+    text: &str,
+) -> Result<Said<String>, AllocError>
+    ensures { IfOk result (λ then. said_map string_bytes then ≡ rule_or_label (said_map string_bytes said) text.now) }
+{
+    match said {
+        Said::Unknown => label_said(alloc, text),
+        Said::Clear(code) => Ok(Said::Clear(code)),
+        Said::Unclear(one, other) => Ok(Said::Unclear(one, other)),
+    }
+}
+
+// A deadline: its number, a Rule's number, or what it is called.
 fn deadline_said(alloc: Global, text: &str) -> Result<Said<String>, AllocError>
     ensures { IfOk result (λ said. said_map string_bytes said ≡ deadline_said text.now) }
 {
@@ -92,11 +128,23 @@ fn deadline_said(alloc: Global, text: &str) -> Result<Said<String>, AllocError>
         Ok(Said::Clear(String::from_str(alloc, text)?))
     } else {
         let word = folded(alloc, text)?;
-        owned(alloc, rule_said(word.as_str()))
+        let said = owned(alloc, rule_said(word.as_str()))?;
+        rule_or_label(alloc, said, text)
     }
 }
 
-// A motion: its number, or the last.
+// A motion: its number, or what it is called.
+fn number_or_label(alloc: Global, text: &str) -> Result<Said<String>, AllocError>
+    ensures { IfOk result (λ said. said_map string_bytes said ≡ number_or_label text.now) }
+{
+    if is_number(text.as_bytes()) {
+        Ok(Said::Clear(String::from_str(alloc, text)?))
+    } else {
+        label_said(alloc, text)
+    }
+}
+
+// A motion: its number, the last, or what it is called.
 fn motion_said(alloc: Global, text: &str) -> Result<Said<String>, AllocError>
     ensures { IfOk result (λ said. said_map string_bytes said ≡ motion_said text.now) }
 {
@@ -104,7 +152,7 @@ fn motion_said(alloc: Global, text: &str) -> Result<Said<String>, AllocError>
     if word.as_str() == "last" {
         Ok(Said::Clear(word))
     } else {
-        number_said(alloc, text)
+        number_or_label(alloc, text)
     }
 }
 
@@ -250,6 +298,17 @@ fn own_said(alloc: Global, court: &Court, text: &str) -> Result<Said<String>, Al
     }
 }
 
+// Why a deadline is due no more: a word, or one with a colon and the number of the motion that suspends it.
+fn ending_why_said(alloc: Global, text: &str) -> Result<Said<String>, AllocError>
+    ensures { IfOk result (λ said. said_map string_bytes said ≡ ending_why_said text.now) }
+{
+    if text.as_bytes().contains(&b':') {
+        Ok(Said::Clear(bare(alloc, text)?))
+    } else {
+        word_said(alloc, Column::Why, text)
+    }
+}
+
 // An extension: a plus and a length, or a date.
 fn grant_said(
     alloc: Global,
@@ -308,14 +367,14 @@ fn filled_said(
         Column::Deadline => deadline_said(alloc, text),
         Column::Motion => motion_said(alloc, text),
         Column::Case => case_said(alloc, text),
-        Column::Date | Column::SecondOrNone | Column::Notice | Column::Dated => {
-            day_said(alloc, order, text)
-        }
+        Column::Date | Column::Notice | Column::Dated => day_said(alloc, order, text),
+        Column::SecondOrNone | Column::ResumeDay => day_said(alloc, order, text),
         Column::Time | Column::Start | Column::TimeOrNone | Column::From => {
             minute_said(alloc, text)
         }
         Column::To => ending_said(alloc, text),
         Column::Period => period_said(alloc, court, text),
+        Column::Why => ending_why_said(alloc, text),
         Column::ServiceOrNone
         | Column::Means
         | Column::ByMotion
@@ -323,7 +382,6 @@ fn filled_said(
         | Column::Neglect
         | Column::Holidays
         | Column::Act
-        | Column::Why
         | Column::Closing
         | Column::Ruling
         | Column::Counted => word_said(alloc, column, text),
@@ -333,8 +391,6 @@ fn filled_said(
         Column::Judges => panel_said(alloc, court, text),
         Column::Room => name_said(alloc, court, Named::Rooms, text),
         Column::Slots => slots_said(alloc, text),
-        // A deadline that is resumed has its days as before.
-        Column::ResumeDay => Ok(Said::Unknown),
         Column::Number => number_said(alloc, text),
         Column::Title | Column::Label => text_said(alloc, text),
     }

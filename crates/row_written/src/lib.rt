@@ -2,10 +2,12 @@
 #![tactic(auto)]
 
 mod cases;
+mod excess;
 mod fault;
 mod fields;
 mod headings;
 mod known;
+mod labels;
 mod laws;
 mod names;
 mod rows;
