@@ -15,7 +15,8 @@ use Rattle.row_fields.specs.Words.{bare, date_said, folded, numbers_in, rule_sai
 use Rattle.row_fields.specs.Choices.{one_rule_said}
 use Rattle.row_fields.proofs.CallerLemmas.{numbers_stay_whole_lem}
 use Rattle.row_forms.specs.declared.headings.columns.Column.TheVariants.{Case, Period, Need}
-use Rattle.row_written.specs.Fields.{begins_number, clear_if, deadline_said, field_said, filled_said, grant_said, has_mark, is_quarters, label_said, motion_said, number_or_label, number_said, or_own, period_said, rule_or_label, shown_said, slots_said, text_said, word_said}
+use Rattle.row_written.specs.Fields.{field_said, filled_said, grant_said, is_quarters, or_own, period_said, slots_said, word_said}
+use Rattle.row_written.specs.Subjects.{clear_if, deadline_said, has_mark, label_said, may_be_label, motion_said, number_or_label, number_said, rule_or_label, shown_said, text_said}
 use Rattle.row_written.specs.Laws.{LengthsKeepTheirNumbers, NumbersAreTheirFields}
 
 same_text : (a b : List ℕ) → ◌≡◌ {A = Said (List ℕ)} (Clear a) (Clear b) → a ≡ b
@@ -90,12 +91,12 @@ text_is : (text number : List ℕ) (so : Bool) → either so Unknown (Clear text
 text_is text number true said = cc said
 text_is text number false said = sym (same_text text number said)
 
-label_is : (text number : List ℕ) (so : Bool) → either so Unknown (text_said text) ≡ Clear number → number ≡ text
-label_is text number true said = cc said
-label_is text number false said = text_is text number (has_mark text) said
+label_is : (text number : List ℕ) (so : Bool) → either so (text_said text) Unknown ≡ Clear number → number ≡ text
+label_is text number true said = text_is text number (has_mark text) said
+label_is text number false said = cc said
 
 rule_is : (text number : List ℕ) (rule : Said (List ℕ)) → (rule ≡ Clear number → is_number number ≡ true → ⊥) → rule_or_label rule text ≡ Clear number → is_number number ≡ true → number ≡ text
-rule_is text number Unknown none said digits = label_is text number (begins_number text) said
+rule_is text number Unknown none said digits = label_is text number (may_be_label text) said
 rule_is text number (Clear code) none said digits = absurd (none said digits)
 rule_is text number (Unclear one other) none said digits = cc said
 
@@ -105,7 +106,7 @@ deadline_is text number false said digits = rule_is text number (rule_said (fold
 
 number_is : (text number : List ℕ) (so : Bool) → either so (Clear text) (label_said text) ≡ Clear number → number ≡ text
 number_is text number true said = sym (same_text text number said)
-number_is text number false said = label_is text number (begins_number text) said
+number_is text number false said = label_is text number (may_be_label text) said
 
 motion_is : (text number : List ℕ) (so : Bool) → either so (Clear (codes "last")) (number_or_label text) ≡ Clear number → is_number number ≡ true → number ≡ text
 motion_is text number true said digits =

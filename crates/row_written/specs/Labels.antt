@@ -5,7 +5,7 @@ use Rattle.row_fields.specs.Words.{is_one_of}
 use Rattle.row_forms.specs.Words.{is_text}
 use Rattle.row_forms.specs.declared.headings.columns.Column.{Column}
 use Rattle.row_forms.specs.declared.headings.columns.Column.TheVariants.{Label}
-use Rattle.row_written.specs.Fields.{has_mark}
+use Rattle.row_written.specs.Subjects.{has_mark}
 use Rattle.row_written.specs.Headings.{index_of, word_at}
 
 -- a row with this command word makes a deadline or a motion, in a word: nothing where it makes neither

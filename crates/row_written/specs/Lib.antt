@@ -1,4 +1,5 @@
 pub mod Names
+pub mod Subjects
 pub mod Fields
 pub mod Known
 pub mod Fault

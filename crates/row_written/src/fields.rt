@@ -1,160 +1,27 @@
 //! What a field says, by what its column holds, as a plain row writes it.
 
 ghost use Rattle.std.specs.Prelude.{◌≡◌, ◌++◌, ◌<◌, IfOk, OnOk, string_bytes};
-ghost use Rattle.std.specs.Char.{is_ascii_digit};
-ghost use Rattle.std.specs.List.{list_all};
 ghost use Rattle.std.specs.Option.{is_some};
 ghost use Rattle.court_file_text.specs.Words.{text_named};
 ghost use Rattle.jiff_fmt.specs.Text.{pad2};
 ghost use Rattle.court_clock.specs.Words.{day_text};
-ghost use Rattle.row_forms.specs.Words.{is_number, names_of};
+ghost use Rattle.row_forms.specs.Words.{names_of};
 ghost use Rattle.row_fields.specs.Words.{date_said, said_map, time_said};
-ghost use Rattle.row_written.specs.Fields.{begins_number, case_said, clear_if, deadline_said, ending_said, ending_why_said, field_said, filled_said, grant_said, has_mark, is_quarters, label_said, may_be_empty, motion_said, need_said, number_or_label, number_said, or_own, period_said, rule_or_label, slots_said, text_said, time_if, word_said};
+ghost use Rattle.row_written.specs.Fields.{ending_said, ending_why_said, field_said, filled_said, grant_said, is_quarters, may_be_empty, need_said, or_own, period_said, slots_said, time_if, word_said};
+ghost use Rattle.row_written.specs.Subjects.{clear_if};
 
 use crate::names::{Named, name_said, owned, panel_said};
-use case_numbers::case_read;
+use crate::subjects::{
+    case_said, deadline_said, is_number, motion_said, number_said, text_said,
+};
 use court_clock::Day;
 use court_days::Court;
 use row_fields::{
     DateOrder, Said, act_said, answer_said, bare, closing_said, counted_said, date_said, folded,
-    list_said, means_said, rule_said, ruling_said, section_said, service_said, time_said, why_said,
+    list_said, means_said, ruling_said, section_said, service_said, time_said, why_said,
 };
 use row_forms::Column;
 use std::alloc::{AllocError, Global};
-
-// Whether bytes are one to nine digits, with no leading zero but 0 itself.
-fn is_number(text: &[u8]) -> bool
-    ensures { result ≡ is_number text.now }
-{
-    if text.is_empty() || text.len() > 9 {
-        return false;
-    }
-    if text.len() > 1 && text[0] == b'0' {
-        return false;
-    }
-    has_digits_only(text)
-}
-
-fn has_digits_only(text: &[u8]) -> bool
-    ensures { result ≡ list_all is_ascii_digit text.now }
-{
-    text.iter().all(|byte| byte.is_ascii_digit())
-}
-
-// A number: the field as it is.
-fn number_said(alloc: Global, text: &str) -> Result<Said<String>, AllocError>
-    ensures { IfOk result (λ said. said_map string_bytes said ≡ number_said text.now) }
-{
-    if is_number(text.as_bytes()) {
-        Ok(Said::Clear(String::from_str(alloc, text)?))
-    } else {
-        Ok(Said::Unknown)
-    }
-}
-
-// Whether a text has a question mark, which may stand for a letter that plain keys don't type.
-pub(crate) fn has_mark(text: &[u8]) -> bool
-    ensures { result ≡ has_mark text.now }
-{
-    text.iter().any(|byte| *byte == b'?')
-}
-
-// What something is called: the field as it is.
-fn text_said(alloc: Global, text: &str) -> Result<Said<String>, AllocError>
-    ensures { IfOk result (λ said. said_map string_bytes said ≡ text_said text.now) }
-{
-    if has_mark(text.as_bytes()) {
-        Ok(Said::Unknown)
-    } else {
-        Ok(Said::Clear(String::from_str(alloc, text)?))
-    }
-}
-
-// A case: its number, or its case number as the court writes it.
-fn case_said(alloc: Global, text: &str) -> Result<Said<String>, AllocError>
-    ensures { IfOk result (λ said. said_map string_bytes said ≡ case_said text.now) }
-{
-    if is_number(text.as_bytes()) {
-        return Ok(Said::Clear(String::from_str(alloc, text)?));
-    }
-    let text = bare(alloc, text)?;
-    match case_read(alloc, text.as_bytes())? {
-        Some(name) => Ok(Said::Clear(String::from_str(alloc, name.shown())?)),
-        None => Ok(Said::Unknown),
-    }
-}
-
-// Whether a field begins with a digit: then it is a slip of a number, or of a Rule's number, and not what something is called.
-fn begins_number(text: &[u8]) -> bool
-    ensures { result ≡ begins_number text.now }
-{
-    match text {
-        [] => false,
-        [byte, ..] => byte.is_ascii_digit(),
-    }
-}
-
-// What a deadline or a motion is called: the field as it is.
-fn label_said(alloc: Global, text: &str) -> Result<Said<String>, AllocError>
-    ensures { IfOk result (λ said. said_map string_bytes said ≡ label_said text.now) }
-{
-    if begins_number(text.as_bytes()) {
-        Ok(Said::Unknown)
-    } else {
-        text_said(alloc, text)
-    }
-}
-
-// A Rule's number, or what a deadline is called where the field is none.
-fn rule_or_label(
-    alloc: Global,
-    said: Said<String>,
-    text: &str,
-) -> Result<Said<String>, AllocError>
-    ensures { IfOk result (λ then. said_map string_bytes then ≡ rule_or_label (said_map string_bytes said) text.now) }
-{
-    match said {
-        Said::Unknown => label_said(alloc, text),
-        Said::Clear(code) => Ok(Said::Clear(code)),
-        Said::Unclear(one, other) => Ok(Said::Unclear(one, other)),
-    }
-}
-
-// A deadline: its number, a Rule's number, or what it is called.
-fn deadline_said(alloc: Global, text: &str) -> Result<Said<String>, AllocError>
-    ensures { IfOk result (λ said. said_map string_bytes said ≡ deadline_said text.now) }
-{
-    if is_number(text.as_bytes()) {
-        Ok(Said::Clear(String::from_str(alloc, text)?))
-    } else {
-        let word = folded(alloc, text)?;
-        let said = owned(alloc, rule_said(word.as_str()))?;
-        rule_or_label(alloc, said, text)
-    }
-}
-
-// A motion: its number, or what it is called.
-fn number_or_label(alloc: Global, text: &str) -> Result<Said<String>, AllocError>
-    ensures { IfOk result (λ said. said_map string_bytes said ≡ number_or_label text.now) }
-{
-    if is_number(text.as_bytes()) {
-        Ok(Said::Clear(String::from_str(alloc, text)?))
-    } else {
-        label_said(alloc, text)
-    }
-}
-
-// A motion: its number, the last, or what it is called.
-fn motion_said(alloc: Global, text: &str) -> Result<Said<String>, AllocError>
-    ensures { IfOk result (λ said. said_map string_bytes said ≡ motion_said text.now) }
-{
-    let word = folded(alloc, text)?;
-    if word.as_str() == "last" {
-        Ok(Said::Clear(word))
-    } else {
-        number_or_label(alloc, text)
-    }
-}
 
 // Whether it is a number of quarter hours, before a `q`.
 fn is_quarters(text: &[u8]) -> bool

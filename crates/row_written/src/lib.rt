@@ -11,6 +11,7 @@ mod labels;
 mod laws;
 mod names;
 mod rows;
+mod subjects;
 
 pub use fault::{Fault, Flaw};
 pub use fields::field_said;
