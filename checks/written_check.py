@@ -343,7 +343,7 @@ def check_labels(desk):
     assert ended.status == 0 and ended.output == plain, ended
     said = [b" opened", b" deadline 1 last ", b" labelled", b" motion 1", b" labelled", b" refused 1 NoSuchCase",
             b" fault 4 BadField 5: the row before made no deadline in the case: name one by its number", b" deadline 2 last "]
-    for words, text in [(["--as-written"], given), ([], plain)]:
+    for words, text in [(["--as-written"], given), (["--as-written"], plain), ([], plain)]:
         tried = desk.call("try", *words, given=text)
         assert all(words in line for words, line in zip(said, tried.output.splitlines())) and len(tried.output.splitlines()) == len(said), tried
     for row, said in [("1;file;31;;;;late\n", "column 14"), ("1;start;31;9/4/2025;59(e);;{}\n".format("a" * 201), "column 28")]:

@@ -41,7 +41,7 @@ fn held(column: Column) -> &'static str {
         Column::Title =>
             "what the case is called, in ASCII and without ?; a plain row takes other letters",
         Column::Counted => "deadline or motion",
-        Column::Number => "the number of a deadline or a motion, as 1",
+        Column::Number => "the number of a deadline or a motion, as 1, or what it is called",
         Column::Label =>
             "what it is called, in ASCII and without ?; a plain row takes other letters",
     }

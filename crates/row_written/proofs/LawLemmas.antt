@@ -11,10 +11,10 @@ use Rattle.row_forms.specs.Line.Words.{line_read}
 use Rattle.row_fields.specs.declared.dates.DateOrder.{DateOrder}
 use Rattle.row_fields.specs.Words.{folded, typed}
 use Rattle.row_forms.specs.declared.headings.columns.Column.{Column}
-use Rattle.row_forms.specs.declared.headings.columns.Column.TheVariants.{Command, Deadline, Motion}
+use Rattle.row_forms.specs.declared.headings.columns.Column.TheVariants.{Command, Deadline, Motion, Number}
 use Rattle.row_written.specs.declared.rows.Written.{Written}
 use Rattle.row_written.specs.declared.rows.Written.TheVariants.{Nothing, Plain, Faulty}
-use Rattle.row_written.specs.Cases.{asked, is_case, is_subject_name, name_in, names_subject, with_case, with_one}
+use Rattle.row_written.specs.Cases.{asked, is_case, is_subject_name, name_in, names_subject, with_case, with_one, with_subject}
 use Rattle.row_forms.specs.Headings.Words.{column_at, columns_of}
 use Rattle.row_written.specs.Fault.{FieldFault}
 use Rattle.row_written.specs.Headings.{heading_faults, heading_of, names_columns, word_at}
@@ -64,6 +64,7 @@ not_so false is = refl
 subject_there : (column : Column) (field : List ℕ) → is_subject_name column field ≡ true → IsSubjectName field
 subject_there Deadline field so = not_so (is_number field) so
 subject_there Motion field so = not_so (is_number field) so
+subject_there Number field so = not_so (is_number field) so
 subject_there _ field so = cc so
 
 -- the text of a row that is taken
@@ -71,13 +72,17 @@ module _ (clerks : ℕ) (names : CourtNames) (text : List ℕ) where
   -- it is one where the row that the office is asked about is a plain row
   asked_is : (columns : List Column) (plain : List (List ℕ)) (row : Row) → text ≡ row_text default_writer plain → IsPlainRow clerks names (row_text default_writer (asked columns plain)) row → IsRow clerks names text row
   asked_is columns plain row is row_is =
+      let cased : List (List ℕ) = with_case columns plain in
+      let numbered : List (List ℕ) = with_subject 3 columns cased in
       inr (record {
         fields = plain;
-        cased = with_case columns plain;
-        numbered = asked columns plain;
+        cased = cased;
+        numbered = numbered;
+        all_numbered = asked columns plain;
         text_is = is;
         case = puts_one 2 (λ field. IsSome (case_read field)) plain (is_some (name_in columns plain)) (read_there (is_case (column_at columns 2)) (case_read (word_at plain 2)));
-        subject = puts_one 3 IsSubjectName (with_case columns plain) (names_subject columns (with_case columns plain)) (subject_there (column_at columns 3) (word_at (with_case columns plain) 3));
+        subject = puts_one 3 IsSubjectName cased (names_subject 3 columns cased) (subject_there (column_at columns 3) (word_at cased 3));
+        labelled = puts_one 4 IsSubjectName numbered (names_subject 4 columns numbered) (subject_there (column_at columns 4) (word_at numbered 4));
         row_is = row_is;
       })
 

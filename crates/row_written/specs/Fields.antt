@@ -13,7 +13,7 @@ use Rattle.row_fields.specs.Words.{act_said, answer_said, bare, closing_said, co
 use Rattle.row_forms.specs.declared.headings.columns.Column.{Column}
 use Rattle.row_forms.specs.declared.headings.columns.Column.TheVariants.{Clerk, Command, Case, Deadline, Motion, Period, Date, Time, Start, TimeOrNone, SecondOrNone, ServiceOrNone, Means, Grant, ByMotion, Cause, Neglect, Need, Holidays, From, To, Judge, Judges, Room, Slots, Notice, Act, Why, Closing, ResumeDay, Ruling, JudgeOrNone, Dated, Title, Counted, Number, Label}
 use Rattle.row_written.specs.Names.{name_said, panel_said}
-use Rattle.row_written.specs.Subjects.{case_said, clear_if, deadline_said, motion_said, number_said, text_said}
+use Rattle.row_written.specs.Subjects.{case_said, clear_if, deadline_said, motion_said, number_or_label, number_said, text_said}
 
 -- a number of quarter hours, before a `q`
 abbrev pub is_quarters : List ℕ → Bool
@@ -119,7 +119,7 @@ filled_said names order ResumeDay text = said_map day_text (date_said order text
 filled_said names order Ruling text = word_said Ruling text
 filled_said names order JudgeOrNone text = name_said names.judges text
 filled_said names order Counted text = word_said Counted text
-filled_said names order Number text = number_said text
+filled_said names order Number text = number_or_label text
 -- what something is called is the field as it is
 filled_said names order Title text = text_said text
 filled_said names order Label text = text_said text

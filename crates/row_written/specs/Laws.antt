@@ -33,15 +33,17 @@ abbrev pub PutsOne : (place : ℕ) → (List ℕ → Type 0) → (before after :
 PutsOne place IsSo before after = (after ≡ before) ⊎ (IsSo (word_at before place) × (after ≡ with_one place before))
 
 -- a text is a row that may have names in place of numbers: a case number in its third field, the name of a deadline or a motion in
--- its fourth; with the number 1 in place of each it is a plain row
+-- its fourth, or its fifth; with the number 1 in place of each it is a plain row
 pub record IsNamedRow (clerks : ℕ) (names : CourtNames) (text : List ℕ) (row : Row) : Type 0 where
   pub fields : List (List ℕ)
   pub cased : List (List ℕ)
   pub numbered : List (List ℕ)
+  pub all_numbered : List (List ℕ)
   pub text_is : text ≡ row_text default_writer fields
   pub case : PutsOne 2 (λ field. IsSome (case_read field)) fields cased
   pub subject : PutsOne 3 IsSubjectName cased numbered
-  pub row_is : IsPlainRow clerks names (row_text default_writer numbered) row
+  pub labelled : PutsOne 4 IsSubjectName numbered all_numbered
+  pub row_is : IsPlainRow clerks names (row_text default_writer all_numbered) row
 
 -- a text is a plain row, or one with names
 abbrev pub IsRow : (clerks : ℕ) → CourtNames → (text : List ℕ) → Row → Type 0

@@ -43,6 +43,7 @@ rule_or_label (Unclear one other) text = Unclear one other
 abbrev pub deadline_said : List ℕ → Said (List ℕ)
 deadline_said text = if is_number text then Clear text else rule_or_label (rule_said (folded text)) text
 
+-- a deadline or a motion: its number, or what it is called
 abbrev pub number_or_label : List ℕ → Said (List ℕ)
 number_or_label text = if is_number text then Clear text else label_said text
 

@@ -12,7 +12,7 @@ ghost use Rattle.row_written.specs.Subjects.{clear_if};
 
 use crate::names::{Named, name_said, owned, panel_said};
 use crate::subjects::{
-    case_said, deadline_said, is_number, motion_said, number_said, text_said,
+    case_said, deadline_said, is_number, motion_said, number_or_label, number_said, text_said,
 };
 use court_clock::Day;
 use court_days::Court;
@@ -258,7 +258,7 @@ fn filled_said(
         Column::Judges => panel_said(alloc, court, text),
         Column::Room => name_said(alloc, court, Named::Rooms, text),
         Column::Slots => slots_said(alloc, text),
-        Column::Number => number_said(alloc, text),
+        Column::Number => number_or_label(alloc, text),
         Column::Title | Column::Label => text_said(alloc, text),
     }
 }

@@ -124,8 +124,8 @@ pub(crate) fn deadline_said(alloc: Global, text: &str) -> Result<Said<String>, A
     }
 }
 
-// A motion: its number, or what it is called.
-fn number_or_label(alloc: Global, text: &str) -> Result<Said<String>, AllocError>
+// A deadline or a motion: its number, or what it is called.
+pub(crate) fn number_or_label(alloc: Global, text: &str) -> Result<Said<String>, AllocError>
     ensures { IfOk result (λ said. said_map string_bytes said ≡ number_or_label text.now) }
 {
     if is_number(text.as_bytes()) {
