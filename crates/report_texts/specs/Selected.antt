@@ -34,9 +34,9 @@ abbrev pub numbered_day : List Moved → DayBookings → DayBookings
 numbered_day moved d = record d { bookings = map (numbered_booking moved) d.bookings }
 
 -- a motion's place, where there is one, as its number
-abbrev pub numbered_motion : List Moved → (case : ℕ) → (motion : Option ℕ) → Option ℕ
-numbered_motion moved case motion = option_map (number_in moved case Motion) motion
+abbrev pub motion_numbered : List Moved → (case : ℕ) → (motion : Option ℕ) → Option ℕ
+motion_numbered moved case motion = option_map (number_in moved case Motion) motion
 
 -- what has been pending for long, with the number of its motion
 abbrev pub numbered_pending : List Moved → PendingItem → PendingItem
-numbered_pending moved item = record item { motion = numbered_motion moved item.case item.motion }
+numbered_pending moved item = record item { motion = motion_numbered moved item.case item.motion }

@@ -7,7 +7,8 @@ use Rattle.court_file_text.specs.Words.{NamedTextView, text_named}
 use Rattle.desk_session.specs.Lines.{ends_line}
 use Rattle.desk_session.specs.Words.{mark_of, unmarked}
 use Rattle.row_forms.specs.Words.{column}
-use Rattle.row_fields.specs.Words.{fields_in, folded, separator_of, typed}
+use Rattle.row_fields.specs.Words.{fields_in, folded, typed}
+use Rattle.row_written.specs.Words.{fields_written}
 use Rattle.row_input.specs.Reading.{unended}
 
 -- The sets that come with the program: what entry of judgment starts, a complaint, service of it, and removal.
@@ -49,13 +50,9 @@ rows_out mark fields (period ∷ periods) = row_out mark fields period ++ rows_o
 abbrev pub fields_out : (own : List NamedTextView) → (mark line : List ℕ) → (fields : List (List ℕ)) → List ℕ
 fields_out own mark line fields = if is_trigger fields then rows_out mark fields (periods_meant own (column fields 4)) else line
 
--- the fields of a line that is typed on plain keys
-abbrev pub fields_typed : (text : List ℕ) → List (List ℕ)
-fields_typed text = fields_in (separator_of text) text
-
 -- a line, written out
 unfoldable pub line_out : (own : List NamedTextView) → (marked : Bool) → (line : List ℕ) → List ℕ
-line_out own marked line = fields_out own (mark_of marked line) line (fields_typed (typed (unmarked marked line)))
+line_out own marked line = fields_out own (mark_of marked line) line (fields_written (typed (unmarked marked line)))
 
 -- Bytes, of which the first line has begun with these, with each line written out before its end. A last line without an end is left out.
 unfoldable pub written_from : (own : List NamedTextView) → (marked : Bool) → (begun : List ℕ) → List ℕ → List ℕ

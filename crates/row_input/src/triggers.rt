@@ -3,15 +3,15 @@
 ghost use Rattle.std.specs.Prelude.{◌≡◌, ◌++◌, ◌∷◌, [], IfOk, OnOk, option_map};
 ghost use Rattle.csv.specs.Records.{fields_of};
 ghost use Rattle.row_fields.specs.Words.{folded};
-ghost use Rattle.row_input.specs.Triggers.{fields_out, fields_typed, is_trigger, line_out, periods_meant, row_out, rows_out, set_meant, set_of, start_fields, written_out};
+ghost use Rattle.row_input.specs.Triggers.{fields_out, is_trigger, line_out, periods_meant, row_out, rows_out, set_meant, set_of, start_fields, written_out};
 
 use crate::reading::unended;
 use court_days::Court;
 use csv::StringRecord;
 use desk_session::{mark_of, split_line, unmarked};
-use row_fields::{cut_line, folded, separator_of, typed};
+use row_fields::{cut_line, folded, typed};
 use row_forms::{column, push_row_text};
-use row_written::word_at;
+use row_written::{fields_written, word_at};
 use std::alloc::{AllocError, Global};
 
 /// How many fields a row of `start` has.
@@ -138,13 +138,6 @@ fn push_fields_out(
     }
 }
 
-// The fields of a line that is typed on plain keys.
-fn fields_typed(alloc: Global, text: &str) -> Result<StringRecord, AllocError>
-    ensures { IfOk result (λ fields. fields_of fields ≡ fields_typed text.now) }
-{
-    cut_line(alloc, text, separator_of(text))
-}
-
 // Adds a line, written out, and its end.
 #[tactic(auto, unfolding(crate::specs::Triggers::line_out))]
 fn push_line(
@@ -158,7 +151,7 @@ fn push_line(
     ensures { OnOk result (out.new.items ≡ out.old.items ++ (line_out court.now.periods.triggers marked line.now ++ end ∷ [])) }
 {
     let text = typed(alloc, unmarked(marked, line))?;
-    let fields = fields_typed(alloc, text.as_str())?;
+    let fields = fields_written(alloc, text.as_str())?;
     push_fields_out(alloc, court, out, mark_of(marked, line), line, &fields)?;
     out.push(end)?;
     Ok(())

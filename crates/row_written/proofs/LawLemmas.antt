@@ -19,7 +19,7 @@ use Rattle.row_forms.specs.Headings.Words.{column_at, columns_of}
 use Rattle.row_written.specs.Fault.{FieldFault}
 use Rattle.row_written.specs.Headings.{heading_faults, heading_of, names_columns, word_at}
 use Rattle.row_written.specs.Known.{names_known}
-use Rattle.row_written.specs.Labels.{label_at, label_row, made_by, wanted_columns}
+use Rattle.row_written.specs.Labels.{label_at, row_of_label, made_by, wanted_columns}
 use Rattle.row_written.specs.Laws.{IsPlainRow, IsRow, IsSubjectName, PlainRowsStay, PutsOne, RowsArePlain}
 use Rattle.row_written.specs.Rows.{column_faults, excess_faults, fault_of_column, fields_written, header_said, if_faultless, in_columns, label_faults, plain_in, plain_of, read_as, row_said, says_nothing, says_row, stays, taken, typed_as, value_at, with_label}
 
@@ -105,7 +105,7 @@ module _ (clerks : ℕ) (names : CourtNames) (text : List ℕ) where
       → (row : Row) × IsRow clerks names text row
   columns_plain order header keyed fields made None took = cc took
   columns_plain order header keyed fields made (Some columns) took =
-      faultless_plain order header keyed fields columns (plain_in names order header keyed fields 0 columns) (label_row made (plain_in names order header keyed fields 0 columns) (label_at header made fields))
+      faultless_plain order header keyed fields columns (plain_in names order header keyed fields 0 columns) (row_of_label made (plain_in names order header keyed fields 0 columns) (label_at header made fields))
       (column_faults names order header keyed fields 0 columns ++ excess_faults header (wanted_columns header made columns) keyed 0 fields ++ label_faults header keyed (label_at header made fields)) took
 
   row_plain : (order : Option DateOrder) (header : Option (List (List ℕ))) (keyed : List ℕ) (fields : List (List ℕ)) → plain_of (row_said names order header keyed fields clerks) ≡ Some text → (row : Row) × IsRow clerks names text row

@@ -22,9 +22,9 @@ label_at (Some headings) [] fields = []
 label_at (Some headings) (b ∷ made) fields = word_at fields (index_of (codes "label") headings)
 
 -- the plain row that says that what the row before makes is called so, if it is called something
-abbrev pub label_row : (made : List ℕ) → (plain : List (List ℕ)) → (label : List ℕ) → Option (List ℕ)
-label_row made plain [] = None
-label_row made plain (b ∷ label) =
+abbrev pub row_of_label : (made : List ℕ) → (plain : List (List ℕ)) → (label : List ℕ) → Option (List ℕ)
+row_of_label made plain [] = None
+row_of_label made plain (b ∷ label) =
     Some (row_text default_writer (word_at plain 0 ∷ codes "label" ∷ word_at plain 2 ∷ made ∷ codes "new" ∷ (b ∷ label) ∷ []))
 
 -- the columns whose fields a row may have: in a file with headings one that makes something may have a label

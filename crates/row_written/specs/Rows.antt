@@ -24,7 +24,7 @@ use Rattle.row_written.specs.Fault.{FieldFault, fault_at}
 use Rattle.row_written.specs.Fields.{field_said}
 use Rattle.row_written.specs.Headings.{heading_faults, heading_of, index_of, is_filled, names_columns, word_at}
 use Rattle.row_written.specs.Known.{names_known}
-use Rattle.row_written.specs.Labels.{is_label, label_at, label_row, made_by, wanted_columns}
+use Rattle.row_written.specs.Labels.{is_label, label_at, row_of_label, made_by, wanted_columns}
 
 -- what is read, in other words
 abbrev pub written_map : {A B C D E F : Type 0} → (A → B) → (C → D) → (E → F) → Written A C E → Written B D F
@@ -143,7 +143,7 @@ module _ (names : CourtNames) (order : Option DateOrder) (header : Option (List 
   abbrev pub in_columns : (clerks : ℕ) → (made : List ℕ) → Option (List Column) → Written (List (List ℕ)) (List ℕ) (List FieldFault)
   in_columns clerks made None = written.Faulty (fault_at text (column_place header 1 Command) NoCommand (value_at header fields 1 Command) [] [] ∷ [])
   in_columns clerks made (Some columns) =
-      if_faultless clerks columns (plain_in 0 columns) (label_row made (plain_in 0 columns) (label_at header made fields))
+      if_faultless clerks columns (plain_in 0 columns) (row_of_label made (plain_in 0 columns) (label_at header made fields))
       (column_faults 0 columns ++ excess_faults header (wanted_columns header made columns) text 0 fields ++ label_faults header text (label_at header made fields))
 
   -- what a row is read as: its columns are those of its command word

@@ -3,7 +3,7 @@
 ghost use Rattle.std.specs.Prelude.{◌≡◌, ◌++◌, IfOk, OnOk, map, option_map};
 ghost use Rattle.csv.specs.Records.{fields_of};
 ghost use Rattle.row_written.specs.Fault.{fault_in};
-ghost use Rattle.row_written.specs.Labels.{is_label, label_at, label_row, made_by, wanted_columns};
+ghost use Rattle.row_written.specs.Labels.{is_label, label_at, row_of_label, made_by, wanted_columns};
 ghost use Rattle.row_written.specs.Rows.{excess_faults, label_faults};
 
 use crate::cases::text_of;
@@ -49,13 +49,13 @@ pub(crate) fn label_at<'a>(
 }
 
 /// The plain row that says that what the plain row before makes is called so, if it is called something.
-pub(crate) fn label_row(
+pub(crate) fn row_of_label(
     alloc: Global,
     made: &str,
     plain: &StringRecord,
     label: &str,
 ) -> Result<Option<Vec<u8>>, AllocError>
-    ensures { IfOk result (λ row. option_map (λ t. t.items) row ≡ label_row made.now (fields_of plain.now) label.now) }
+    ensures { IfOk result (λ row. option_map (λ t. t.items) row ≡ row_of_label made.now (fields_of plain.now) label.now) }
 {
     if label.is_empty() {
         return Ok(None);

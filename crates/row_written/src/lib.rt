@@ -19,4 +19,4 @@ pub use headings::word_at;
 pub use laws::{
     lengths_keep_their_numbers, numbers_are_their_fields, plain_rows_stay, rows_are_plain,
 };
-pub use rows::{Written, WrittenLine, read_written};
+pub use rows::{Written, WrittenLine, fields_written, read_written};

@@ -19,7 +19,7 @@ use crate::fault::{Fault, Flaw, fault_at};
 use crate::fields::field_said;
 use crate::headings::{headings_of, index_of, names_columns, word_at};
 use crate::known::names_known;
-use crate::labels::{label_at, label_row, made_by, push_others};
+use crate::labels::{label_at, row_of_label, made_by, push_others};
 use court_clock::Day;
 use court_days::Court;
 use csv::StringRecord;
@@ -61,8 +61,8 @@ pub enum Written<H, T, F> {
 /// A line that is read.
 pub type WrittenLine = Written<StringRecord, Vec<u8>, Vec<Fault>>;
 
-// The fields of a line that is typed on plain keys.
-fn fields_written(alloc: Global, text: &str) -> Result<StringRecord, AllocError>
+/// The fields of a line that is typed on plain keys. `Err` says that memory ran out.
+pub fn fields_written(alloc: Global, text: &str) -> Result<StringRecord, AllocError>
     ensures { IfOk result (λ fields. fields_of fields ≡ fields_written text.now) }
 {
     cut_line(alloc, text, separator_of(text))
@@ -296,7 +296,7 @@ fn row_said(
     if !faults.is_empty() {
         return Ok(Written::Faulty(faults));
     }
-    let label = label_row(alloc, made, &plain, label)?;
+    let label = row_of_label(alloc, made, &plain, label)?;
     taken(
         alloc, clerks, court, header, text, fields, columns, &plain, label,
     )

@@ -1,14 +1,14 @@
 //! What has been pending for long, with the numbers of motions.
 ghost use Rattle.std.specs.Prelude.{◌≡◌, map};
-ghost use Rattle.report_texts.specs.Selected.{numbered_motion, numbered_pending};
+ghost use Rattle.report_texts.specs.Selected.{motion_numbered, numbered_pending};
 
 use desk_numbers::MovedNumbers;
 use docket_rows::Counted;
 use docket_selection::{PendingItem, PendingTypes};
 
 // The number of a motion, where there is one, by its place.
-fn numbered_motion(moved: &MovedNumbers, case: u32, motion: Option<u32>) -> Option<u32>
-    ensures { result ≡ numbered_motion moved.now case motion }
+fn motion_numbered(moved: &MovedNumbers, case: u32, motion: Option<u32>) -> Option<u32>
+    ensures { result ≡ motion_numbered moved.now case motion }
 {
     match motion {
         Some(place) => Some(moved.number_at(case, Counted::Motion, place)),
@@ -20,7 +20,7 @@ fn numbered_motion(moved: &MovedNumbers, case: u32, motion: Option<u32>) -> Opti
 fn number_pending(moved: &MovedNumbers, item: &mut PendingItem)
     ensures { item.new ≡ numbered_pending moved.now item.old }
 {
-    item.motion = numbered_motion(moved, item.case, item.motion);
+    item.motion = motion_numbered(moved, item.case, item.motion);
 }
 
 /// Gives items, which have the places of their motions, the numbers of those.
