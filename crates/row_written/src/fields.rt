@@ -12,7 +12,7 @@ ghost use Rattle.row_written.specs.Subjects.{clear_if};
 
 use crate::names::{Named, name_said, owned, panel_said};
 use crate::subjects::{
-    case_said, deadline_said, is_number, motion_said, number_or_label, number_said, text_said,
+    case_said, deadline_said, motion_said, number_or_label, number_said, text_said,
 };
 use court_clock::Day;
 use court_days::Court;
@@ -20,7 +20,7 @@ use row_fields::{
     DateOrder, Said, act_said, answer_said, bare, closing_said, counted_said, date_said, folded,
     list_said, means_said, ruling_said, section_said, service_said, time_said, why_said,
 };
-use row_forms::Column;
+use row_forms::{Column, is_number};
 use std::alloc::{AllocError, Global};
 
 // Whether it is a number of quarter hours, before a `q`.

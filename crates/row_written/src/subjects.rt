@@ -1,35 +1,14 @@
 //! What a field says that is a number, or a name in place of one: a case number, a Rule, and what deadlines and motions are called.
 
 ghost use Rattle.std.specs.Prelude.{◌≡◌, IfOk, string_bytes};
-ghost use Rattle.std.specs.Char.{is_ascii_digit};
-ghost use Rattle.std.specs.List.{list_all};
-ghost use Rattle.row_forms.specs.Words.{is_number};
 ghost use Rattle.row_fields.specs.Words.{said_map};
 ghost use Rattle.row_written.specs.Subjects.{case_said, deadline_said, has_mark, label_said, may_be_label, motion_said, number_or_label, number_said, rule_or_label, text_said};
 
 use crate::names::owned;
 use case_numbers::case_read;
 use row_fields::{Said, bare, folded, rule_said};
+use row_forms::is_number;
 use std::alloc::{AllocError, Global};
-
-// Whether bytes are one to nine digits, with no leading zero but 0 itself.
-pub(crate) fn is_number(text: &[u8]) -> bool
-    ensures { result ≡ is_number text.now }
-{
-    if text.is_empty() || text.len() > 9 {
-        return false;
-    }
-    if text.len() > 1 && text[0] == b'0' {
-        return false;
-    }
-    has_digits_only(text)
-}
-
-fn has_digits_only(text: &[u8]) -> bool
-    ensures { result ≡ list_all is_ascii_digit text.now }
-{
-    text.iter().all(|byte| byte.is_ascii_digit())
-}
 
 // A number: the field as it is.
 pub(crate) fn number_said(alloc: Global, text: &str) -> Result<Said<String>, AllocError>
