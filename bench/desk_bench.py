@@ -12,9 +12,13 @@ the greatest beside it.
 - Bare: what the same bytes cost without a desk, written at the end of a file and synced, once and twice.
 - SQLite: a table of numbers, rows and answers, in WAL mode with synchronous=FULL, with one row and with 100 a commit.
 - Opening: `check` on a journal of ENTRIES entries (1,000,000 without it).
+- Several: some processes at the same time, each of which sends the next row when the answer to the one before has come, for some
+  seconds: how many rows all of them had answered a second, and how long an answer took, as the median and the slowest hundredth.
+  Beside it SQLite by as many processes, with one row a commit, and one session beside nine that wait for rows.
 
 Nothing is asserted and no time is limited. It needs Linux and Python 3.8 or later.
 """
+import multiprocessing
 import os
 import pathlib
 import random
@@ -32,6 +36,8 @@ TURNS = 5
 WAITING = (1000, 10_000, 100_000)
 ALONE = 2000
 KINDS = ("rule periods", "docket")
+# How many processes enter rows at the same time, for how many seconds, and how many wait beside one.
+SEVERAL, SECONDS, WAITERS = (1, 2, 4, 10), 3, 9
 # About what a row and its answer take in the journal, with their frame.
 ENTRY = bytes(110)
 
@@ -46,6 +52,64 @@ def timed(call):
     began = time.perf_counter()
     call()
     return time.perf_counter() - began
+
+
+def entering(docket, folder, rows, start, results):
+    """A process that enters rows into a folder, one after the answer to the other: how long each took, in microseconds."""
+    with subprocess.Popen([docket, "enter", folder], stdin=subprocess.PIPE, stdout=subprocess.PIPE, bufsize=0) as session:
+        def enter(row):
+            session.stdin.write(row.encode() + b"\n")
+            session.stdout.readline()
+        repeated(enter, rows, start, results)
+
+
+def inserting(path, rows, start, results):
+    """A process that puts rows into a table of SQLite, one a commit: how long each took, in microseconds."""
+    base = opened_base(path, 30)
+
+    def insert(row):
+        base.execute("BEGIN IMMEDIATE")
+        base.execute("INSERT INTO kept (row, answer) VALUES (?, ?)", (row, "1 1 last 2025-09-02"))
+        base.execute("COMMIT")
+    repeated(insert, rows, start, results)
+
+
+def repeated(call, rows, start, results):
+    """Calls it with one row after the other, from the common start on until the time is over."""
+    call(rows[0])
+    start.wait()
+    taken, end = [], time.perf_counter() + SECONDS
+    while time.perf_counter() < end:
+        row = rows[len(taken) % len(rows)]
+        taken.append(timed(lambda: call(row)) * 1e6)
+    results.put(taken)
+
+
+def opened_base(path, wait):
+    """A connection with a database of SQLite, in which a commit is on the disk. It waits so many seconds for others."""
+    base = sqlite3.connect(path, timeout=wait, isolation_level=None)
+    base.execute("PRAGMA journal_mode=WAL")
+    base.execute("PRAGMA synchronous=FULL")
+    base.execute("CREATE TABLE IF NOT EXISTS kept (number INTEGER PRIMARY KEY, row TEXT, answer TEXT)")
+    return base
+
+
+def at_once(count, call, *words):
+    """The times of all rows that so many processes of this kind had answered."""
+    start, results = multiprocessing.Barrier(count), multiprocessing.Queue()
+    processes = [multiprocessing.Process(target=call, args=(*words, start, results)) for _ in range(count)]
+    for process in processes:
+        process.start()
+    taken = [each for _ in processes for each in results.get()]
+    for process in processes:
+        process.join()
+    return sorted(taken)
+
+
+def told_several(name, taken):
+    """A line: rows a second, and of the answers' microseconds the median and the slowest hundredth."""
+    figures = len(taken) / SECONDS, statistics.median(taken), taken[len(taken) * 99 // 100]
+    print("{:<52}{}".format(name, " ".join("{:>11,.0f}".format(figure) for figure in figures)), flush=True)
 
 
 class Bench:
@@ -107,10 +171,7 @@ class Bench:
     def sqlite(self, rows, each):
         """Rows per second into a table of SQLite, with this many in a commit."""
         self.made += 1
-        base = sqlite3.connect(str(self.parent / "base{}".format(self.made)), isolation_level=None)
-        base.execute("PRAGMA journal_mode=WAL")
-        base.execute("PRAGMA synchronous=FULL")
-        base.execute("CREATE TABLE kept (number INTEGER PRIMARY KEY, row TEXT, answer TEXT)")
+        base = opened_base(str(self.parent / "base{}".format(self.made)), 30)
         began = time.perf_counter()
         for first in range(0, len(rows), each):
             base.execute("BEGIN")
@@ -120,6 +181,30 @@ class Bench:
         seconds = time.perf_counter() - began
         base.close()
         return len(rows) / seconds
+
+    def several(self, rows, count):
+        """The times of rows that so many processes enter into one folder."""
+        return at_once(count, entering, self.docket, self.opened(), rows)
+
+    def several_in_base(self, rows, count):
+        """The times of rows that so many processes put into one table of SQLite."""
+        self.made += 1
+        path = str(self.parent / "base{}".format(self.made))
+        opened_base(path, 30).close()
+        return at_once(count, inserting, path, rows)
+
+    def beside_waiters(self, rows):
+        """The times of rows that one process enters while others have sessions in which nothing is entered."""
+        folder = self.opened()
+        waiters = [subprocess.Popen([self.docket, "enter", folder], stdin=subprocess.PIPE, stdout=subprocess.PIPE) for _ in range(WAITERS)]
+        for waiter in waiters:
+            waiter.stdin.write(rows[0].encode() + b"\n")
+            waiter.stdin.flush()
+            waiter.stdout.readline()
+        taken = at_once(1, entering, self.docket, folder, rows)
+        for waiter in waiters:
+            waiter.communicate()
+        return taken
 
     def opening(self, rows, count):
         """The seconds that `check` takes on a journal of this many entries."""
@@ -148,8 +233,20 @@ def measure(bench, entries):
         told("bare: written and synced {}, microseconds".format(name), bench.bare(syncs))
     for each in (1, 100):
         told("SQLite, rows a second: {} a commit".format(each), [bench.sqlite(rows, each) for _ in range(TURNS)])
+    measure_several(bench)
     many = drawn("rule periods", 1000)
     told("opening {:,} entries, seconds".format(entries), bench.opening(many, entries), "{:>11.2f}")
+
+
+def measure_several(bench):
+    rows = drawn("rule periods", 1000)
+    print("{:<52}{:>11} {:>11} {:>11}".format("", "rows a s", "median us", "slowest 1%"))
+    for count in SEVERAL:
+        told_several("rows alone, by {} at the same time".format(count), bench.several(rows, count))
+    for count in SEVERAL:
+        told_several("SQLite, by {} at the same time".format(count), bench.several_in_base(rows, count))
+    told_several("rows alone, beside {} that wait".format(WAITERS), bench.beside_waiters(rows))
+    print("{:<52}{:>11} {:>11} {:>11}".format("", "median", "least", "greatest"))
 
 
 def main(words):

@@ -27,6 +27,7 @@ from lib.given_docket import LAST_ROW, given_docket
 from lib.made_inputs import INPUTS, made_input
 from lib.memo_lines import closing_of, other_day, other_of, reasons_of
 from lib.pages import faults_of, parts_of
+from lib.period_words import SET
 from lib.programs import programs_of, seed_and_count
 
 UNITS = {"d": ("day", "days"), "h": ("hour", "hours")}
@@ -82,6 +83,8 @@ def quarters(text):
 def period_words(code):
     if "/" not in code:
         return code
+    if code in SET:
+        return SET[code]
     length, side, act, start, mark = code.split("/")
     count = int(length[:-1])
     words = "{} {} {} {}, {}".format(count, UNITS[length[-1]][count != 1], side,

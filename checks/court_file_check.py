@@ -28,6 +28,19 @@ SAID = FOLDER / "said.txt"
 KEYS = ["zone", "opens", "closes", "from", "to", "federal", "state", "judges", "rooms"]
 # The status where nothing is at fault, but something may be wrong.
 DOUBT = 9
+# The file ends on 2026-12-31: long enough for the first of these days, and too early from 1 October 2025 on, since it ends with the next year.
+USED = ("2025-09-30", "2025-10-01", "2025-12-31", "2026-03-02")
+# Of what the text doesn't have the date: closings, and holidays of the State.
+SAYS = " It was open on 2025-01-09, 2025-12-24 and 2025-12-26."
+UNSAID = (("it says nothing of the days on which the President closed the government", COURT.replace(SAYS, "")),
+          ("it lists one of them, and names another in a comment", COURT.replace(SAYS, " Not closed: 2025-01-09").replace('"2025-12-25",', '"2025-12-24", "2025-12-25",')))
+# The line by which a file names its court, and the same file without a day that the law of the court's State names.
+NAMED = "# Written by `docket court write --court new_york_southern --from 2025 --to 2026`.\n" + COURT
+LACKS = NAMED.replace('    "2026-02-12", # Lincoln\'s Birthday\n', "")
+UNSAID += (("it names its court, and has each day of the State's law", NAMED),
+           ("it lacks one of these days", LACKS),
+           ("it names that day in a comment", LACKS.replace("# A court", "# Open on 2026-02-12. A court")),
+           ("it lacks the day, and doesn't name its court", LACKS.replace("# Written by", "# Made by")))
 # What may differ unseen: nothing says which hours, names and holidays of the state are right.
 FREE = {"opens", "closes", "from", "to", "state", "judges", "rooms"}
 
@@ -188,10 +201,10 @@ class Checked:
     def __init__(self, programs, folder):
         self.programs, self.folder, self.path = programs, folder, pathlib.Path(folder) / "court.toml"
 
-    def check(self, data, *words):
-        """The status of a check, and what is said."""
+    def check(self, data, today="2025-01-01"):
+        """The status of a check on that day, and what is said."""
         self.path.write_bytes(data)
-        ended = run([self.programs.docket, "court", "check", "court.toml", *words], cwd=self.folder)
+        ended = run([self.programs.docket, "court", "check", "court.toml", "--today", today], cwd=self.folder)
         assert not ended.errors, ended.errors
         said = ended.output.decode("utf-8", "replace")
         lines = said.split("\n")
@@ -218,8 +231,10 @@ def all_said(checked):
     for name, data in spoiled():
         status, said = checked.check(data)
         parts.append("== {}: {}\n{}".format(name, status, said))
-    status, said = checked.check(COURT.encode(), "--today", "2026-03-02")
-    parts.append("== the file is used from 2026-03-02: {}\n{}".format(status, said))
+    for today in USED:
+        parts.append("== the file is used from {}: {}\n{}".format(today, *checked.check(COURT.encode(), today)))
+    for name, data in UNSAID:
+        parts.append("== {}: {}\n{}".format(name, *checked.check(data.encode())))
     return "".join(parts)
 
 

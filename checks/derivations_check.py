@@ -4,8 +4,8 @@
     derivations_check.py DOCKET [SEED [COUNT]]
 
 Rows are made at random from SEED (by default 1) until COUNT deadlines (by default 10000) were shown: ends that are
-computed, and deadlines that are started and extended, with acts and hearings, and with holidays and outages that are
-entered meanwhile. Every deadline that an answer or a sheet shows must have its period in words, then reasons that lead to
+computed, and deadlines that are started, set by orders and extended, with acts and hearings, and with holidays and outages that
+are entered meanwhile. Every deadline that an answer or a sheet shows must have its period in words, then reasons that lead to
 what is shown, by the steps of lib/derivation_steps.py alone, which computes no deadline, and then the other readings that
 give another end, which the second program in plain Python computes (lib/other_readings.py). The lines of an act, of a
 refusal and of what a reader is warned of must be those of lib/note_lines.py. So must those of the examples and of the stored
@@ -20,9 +20,10 @@ import sys
 from collections import Counter
 
 from lib import note_lines, other_readings
+from lib.desk import report_of, set_rows
 from lib.derivation_steps import AFTER, COLUMN, WEEKDAYS, Calendar, Deadline, Line, Wrong, checked, expect, line_of
 from lib.made_inputs import CODES, HOLIDAYS, ZONES, listed, quoted
-from lib.period_words import COUNTING, SUMMONS, heading
+from lib.period_words import COUNTING, SET, SUMMONS, heading
 from lib.programs import TOP, programs_of, seed_and_count
 from reference import periods
 from reference.civil import day_of_text, day_text, minute_of_text, minute_text, weekday
@@ -48,6 +49,8 @@ def deadline_of(period, date, time, second, kind):
     if period in RULES:
         days, act, served, right_from = RULES[period]
         length, direction = ("d", days), AFTER
+    elif period in SET:
+        length, direction, act, served, right_from = ("set", 0), AFTER, period.split("/")[1], False, None
     else:
         entered, direction, act, start, _ = period.split("/")
         length, served, right_from = (entered[-1], int(entered[:-1])), start == "served", None
@@ -85,7 +88,7 @@ def derivations(data, output):
     file, rows = split(data)
     calendar, started = calendar_of(file), {}
     court = court_of(file)
-    docket, works = opening(court), [row.work for row in rows_of(rows, 1, court)]
+    docket, works = opening(court), [row.work for row in rows_of(rows, 1, court, True)]
     rows = [row.split(",") for row in rows.decode().splitlines() if row]
     lines = output.decode().split("\n")[:-1]
     at, number, case = 0, 0, None
@@ -110,9 +113,11 @@ def derivations(data, output):
             number += 1
             docket, made = step(court, docket, work) if work[0] in STEPS else (docket, view(court, docket, work))
             shown = re.fullmatch(r"(?:deadline (\d+) |extended )?((?:last|until|beyond).*)", text)
-            if shown and fields[0] in ("compute", "start", "extend"):
+            if shown and fields[0] in ("compute", "start", "set", "extend"):
                 if fields[0] == "compute":
                     deadline = deadline_of(*fields[1:])
+                elif fields[0] == "set":
+                    deadline = started[fields[1], shown[1]] = deadline_of("set/" + fields[4], fields[2], "", "", "")
                 elif fields[0] == "start":
                     deadline = started[fields[1], shown[1]] = deadline_of(*fields[2:])
                 else:
@@ -142,7 +147,7 @@ def docket_after(data):
     """The court's file, its court, what is docketed after all rows, and by case and deadline the lines of the rows."""
     file, rows = split(data)
     court = court_of(file)
-    sources, docket = note_lines.sources(court, [row.work for row in rows_of(rows, 1, court)])
+    sources, docket = note_lines.sources(court, [row.work for row in rows_of(rows, 1, court, True)])
     return file, court, docket, sources
 
 
@@ -195,7 +200,8 @@ def asked(deadline):
     """The deadline as the second program has it."""
     grants = [grant_of(grant, None) for grant in deadline.grants]
     event = periods.Event(deadline.event, deadline.minute)
-    return periods.Deadline(periods.period_of_text(deadline.text), event, deadline.second, deadline.kind, grants, None)
+    period = periods.set_to(deadline.act) if deadline.text in SET else periods.period_of_text(deadline.text)
+    return periods.Deadline(period, event, deadline.second, deadline.kind, grants, None)
 
 
 def follow(calendar, deadline, texts, shown, more, first):
@@ -376,7 +382,11 @@ def an_input(chance):
     # Outages on days of hearings, once they are set
     rows += ["1,inaccessible,{},09:00,12:00".format(row.split(",")[6]) for row in rows
              if row.startswith("1,book,") and chance.random() < 0.2]
-    return ("\n".join(court) + "\n%%\n" + "".join(row + "\n" for row in rows)).encode()
+    lines = [row.encode() + b"\n" for row in rows]
+    # Deadlines that orders set, in some: such rows are entered into a folder
+    if chance.random() < 0.3:
+        lines = set_rows(chance, lines, [1], faulty=False)
+    return "\n".join(court).encode() + b"\n%%\n" + b"".join(lines)
 
 
 # Reasons that are spoiled
@@ -492,7 +502,7 @@ def shape(texts):
 
 def memo_of(programs, data, *words):
     """What the memo says, or the status and the line where what is asked for isn't there."""
-    ended = programs.report(["memo", *words], data)
+    ended = report_of(programs, ["memo", *words], data)
     if ended.status == 6 and not ended.output:
         return b"status 6\n" + ended.errors
     if ended.status:

@@ -7,6 +7,8 @@ COUNT inputs (5,000 without it) are made from SEED, as office_compare.py makes t
 must be refused by both. The rows are entered in one session or two. A row that can't be read is answered with its fault,
 and the others must be answered as clerk_office answers them alone: the answers must be those in the journal, the rows in
 it with the court's file an input for which clerk_office begins with the same answers, and what `rows` writes that input.
+In some inputs orders set deadlines for days, by rows that the desk alone takes: there the answers must be those of the second
+program in Python, and clerk_office must refuse the rows for the first of these, whose command word it doesn't know.
 The desk takes rows of 64 clerks, and clerk_office by itself those of clerk 1: it is given all of them as that clerk's. It
 needs Python 3.8 or later.
 """
@@ -16,15 +18,19 @@ import sys
 import tempfile
 from collections import Counter
 
-from lib.desk import Desk, FAULT_LINE, divided
+from lib.desk import Desk, FAULT_LINE, ROW_OF_DESK, divided, set_rows
 from lib.journal import rows_of
 from lib.made_inputs import INPUTS, made_input
 from lib.programs import programs_of, run, seed_and_count
+from office_reference import answered
+from reference.court_file import court_of, split
+from reference.rows_in import rows_of as works_of
 
 # The number of another clerk than the first, at the beginning of a row, and after the number of the row in its answer.
 OTHER_CLERK = rb"(?:[2-9]|[1-5][0-9]|6[0-4])"
 ROW_OF_ANOTHER, ANSWER_TO_ANOTHER = re.compile(b'^("?)' + OTHER_CLERK + b'("?,)'), re.compile(b"^([0-9]+ )" + OTHER_CLERK + b" ")
 SAME, FAULTS, REFUSED_COURT = "answered the same", "with rows that can't be read", "with a court's file that both refuse"
+OF_DESK = "with rows that the desk alone takes"
 
 
 def is_fault(line):
@@ -55,28 +61,53 @@ def is_refused(programs, parent, court):
     return True
 
 
+def answered_by_python(data):
+    """What the second program answers to rows of the desk, of which none has a fault."""
+    of_court, of_rows = split(data)
+    court = court_of(of_court)
+    answers, _ = answered(court, works_of(of_rows, 1, court, True), None, None)
+    return "".join(line + "\n" for answer in answers for line in answer).encode()
+
+
+def check_together(desk, kept):
+    """That kept rows are answered alike where all are read at once; whether the desk alone takes one of them."""
+    rows = [of_first_clerk(row) for row, _ in kept]
+    together = desk.programs.office(desk.input_of(rows))
+    of_desk = [number for number, row in enumerate(rows, 1) if ROW_OF_DESK.match(row)]
+    if not of_desk:
+        assert together.status == 0 and together.output.startswith(to_first_clerk(kept)), (kept, together)
+        return False
+    fault = b"row %d fault 2 UnknownCommand\n" % of_desk[0]
+    assert (together.status, together.output, together.errors) == (3, b"", fault), together
+    assert answered_by_python(desk.input_of(rows)) == to_first_clerk(kept), kept
+    return True
+
+
 def check_rows(desk, rows, draw):
-    """Enters rows in one session or two; whether one of them couldn't be read."""
+    """Enters rows in one session or two; whether one of them couldn't be read, and whether the desk alone takes one."""
     at = draw.choice([len(rows), draw.randint(0, len(rows))])
     lines = (desk.enter(rows[:at]) + desk.enter(rows[at:])).splitlines(True)
     answers = b"".join(line for line in lines if not is_fault(line))
     kept = rows_of(desk.read())
     assert answers == b"".join(answer for _, answer in kept), (answers, kept)
     assert desk.rows() == desk.input_of(row for row, _ in kept)
-    together = desk.programs.office(desk.input_of(of_first_clerk(row) for row, _ in kept))
-    assert together.status == 0 and together.output.startswith(to_first_clerk(kept)), (answers, together)
-    return any(is_fault(line) for line in lines)
+    return any(is_fault(line) for line in lines), check_together(desk, kept)
 
 
 def check_input(programs, data, draw):
     """Compares the two programs on an input, and says what it was."""
     court, rows = divided(data)
     rows = [row if row.endswith(b"\n") else row + b"\n" for row in rows]
+    if draw.random() < 0.3:
+        rows = set_rows(draw, rows, [1, 2, 3])
     with tempfile.TemporaryDirectory() as parent:
         if is_refused(programs, parent, court):
             return REFUSED_COURT
         desk = Desk(programs, parent, court)
-        if check_rows(desk, rows, draw):
+        faulty, of_desk = check_rows(desk, rows, draw)
+        if of_desk:
+            return OF_DESK
+        if faulty:
             return FAULTS
         alone = programs.office(court + b"%%\n" + b"".join(of_first_clerk(row) for row in rows))
         assert alone.status == 0 and alone.output.startswith(to_first_clerk(rows_of(desk.read()))), alone

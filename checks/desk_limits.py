@@ -4,10 +4,9 @@
     desk_limits.py DOCKET CLERK_OFFICE [ROWS [ENTRIES]]
 
 A file that may grow no further, and a small disk that is full (a tmpfs, which needs root): the session ends with status 10,
-every row that it answered is kept, and with room again it goes on. A folder that can't be written to, and another program
-that has the journal: the desk is refused, and the journal is as it was. A day of ROWS rows (100,000 without it), which
-are written one after another to a pipe while the answers are read from another: the memory of the desk grows by less than
-4 MB after its first 10,000 rows. A folder with twice as many rows, more than an input may have: each report must say of it what
+every row that it answered is kept, and with room again it goes on. A folder that can't be written to is read, and otherwise refused,
+and the journal is as it was. A day of ROWS rows (100,000 without it), which are written one after another to a pipe while the answers
+are read from another: the memory of the desk grows by less than 4 MB after its first 10,000 rows. A folder with twice as many rows, more than an input may have: each report must say of it what
 it says of those rows alone that change the docket, and the answers must be there, each once. A journal is filled with rows up to
 ENTRIES entries (999,000 without it, after which none is kept). A command after the last is refused, a question is answered and isn't
 kept, the journal is opened again, and there is room for a strike, a restore and another court's file. A journal of ROWS rows with a
@@ -139,23 +138,6 @@ def check_read_only(programs, draw):
         assert ended.status in (4, REFUSED) and not ended.output and ended.errors, ended
         assert desk.journal.read_bytes() == data
     return "a folder that can't be written to: read, and otherwise refused with '{}'".format(ended.errors.decode().strip())
-
-
-def check_second(programs):
-    """A second program on a folder is refused, as long as the first runs."""
-    with tempfile.TemporaryDirectory() as parent:
-        desk = Desk(programs, parent, SHORT_COURT)
-        session = desk.session()
-        session.stdin.write(b"1,sheet,1\n")
-        session.stdin.flush()
-        assert session.stdout.readline()
-        for words in (("enter",), ("strike", 1, "--reason", "twice")):
-            ended = desk.call(*words, given=b"1,sheet,1\n")
-            assert ended.status == REFUSED and b"another program" in ended.errors and not ended.output, ended
-        session.kill()
-        session.communicate()
-        desk.enter([b"1,sheet,1\n"])
-    return "two programs on one folder: the second is refused until the first has ended"
 
 
 def peak_of(session):
@@ -342,8 +324,7 @@ def main(words):
     programs, draw = programs_of(words[:2]), random.Random(1)
     rows = int(words[2]) if len(words) > 2 else 100_000
     entries = int(words[3]) if len(words) > 3 else MOST_ROWS
-    for check in (lambda: check_second(programs), lambda: check_read_only(programs, draw),
-                  lambda: check_short_file(programs, draw), lambda: check_full_disk(programs, draw),
+    for check in (lambda: check_read_only(programs, draw), lambda: check_short_file(programs, draw), lambda: check_full_disk(programs, draw),
                   lambda: check_day(programs, draw, rows), lambda: check_many(programs, draw, 2 * rows), lambda: check_strikes(programs, draw, rows),
                   lambda: check_full_journal(programs, entries)):
         print(check(), flush=True)

@@ -11,7 +11,7 @@ In README.md, CONTRIBUTING.md, docs/, examples/, runs/ and the README.md of each
 with `$ ` is a command, run in a shell at the top of the repository; the lines below it, up to the next command or the end of
 the block, are what it must print. There the programs are on the PATH, and FOLDER is a new folder for each document. A link to a
 file of the repository must lead to one, and to a heading in it that there is. The rows in the table
-of docs/clerk/WEEK.md, one after another in the court of examples/district.toml, must have the answers beside them. It needs
+of docs/clerk/WEEK.md, one after another in a folder of the court of examples/district.toml, must have the answers beside them. It needs
 Python 3.8 or later; the status is 0 where all is as it is written.
 """
 import os
@@ -20,6 +20,7 @@ import subprocess
 import sys
 import tempfile
 
+from lib.desk import Desk
 from lib.programs import TOP, programs_of
 
 DIVIDER = "%%\n"
@@ -107,9 +108,10 @@ def is_answered(programs, example, kind):
 def rows_that_differ(programs, page):
     """The rows of the page's table whose answer isn't the one beside it, or that have none there."""
     pairs = re.findall(r"^\| [^|]* \| `(1,[^`]*)` \| `([^`]*)`", page, re.MULTILINE)
-    court = (TOP / "examples" / "district.toml").read_text()
-    ended = programs.office((court + "\n" + DIVIDER + "".join(row + "\n" for row, _ in pairs)).encode())
-    answers = re.findall(r"^[0-9]+ 1 (.*)$", ended.output.decode(), re.MULTILINE)
+    with tempfile.TemporaryDirectory() as folder:
+        desk = Desk(programs, folder, (TOP / "examples" / "district.toml").read_bytes())
+        told = desk.enter((row + "\n").encode() for row, _ in pairs)
+    answers = re.findall(r"^[0-9]+ 1 (.*)$", told.decode(), re.MULTILINE)
     answers += [None] * (len(pairs) - len(answers))
     return ["no rows"] * (not pairs) + [row for (row, wanted), answer in zip(pairs, answers) if answer != wanted]
 

@@ -5,7 +5,8 @@
 
 COUNT dockets (30 without it) are drawn from SEED, of clerks 1 to 64. Some rows are entered in a session, and once they are
 answered each report is asked of the folder; then more rows, and again; and again when the session has ended. What a report of the
-folder says must be what it says of the court's file and these rows as an input, byte by byte, and the journal must be as it was.
+folder says must be what it says of the court's file and these rows as an input, byte by byte, and the journal must be as it was. Where the
+desk alone takes one of the rows, it must be what is said of another folder into which they are entered at once.
 As of the last row that there was then, each report must at the end be what it was then, byte by byte, and so must the rows, the
 cases, the rows that are struck and the answers to questions; also once a row is struck.
 It needs Python 3.8 or later.
@@ -15,7 +16,7 @@ import re
 import sys
 import tempfile
 
-from lib.desk import Desk, SHORT_COURT
+from lib.desk import Desk, SHORT_COURT, report_of
 from lib.journal import rows_of
 from lib.programs import programs_of, seed_and_count
 from strike_check import drawn_row, opened
@@ -45,7 +46,7 @@ def compare(desk, draw):
     before = desk.journal.read_bytes()
     rows = [row for row, _ in rows_of(desk.read())]
     for words in reports(draw):
-        of_folder, of_input = desk.call(*words), desk.programs.report(words, desk.input_of(rows))
+        of_folder, of_input = desk.call(*words), report_of(desk.programs, words, desk.input_of(rows))
         assert of_folder == of_input, (words, rows, of_folder, of_input)
         assert desk.journal.read_bytes() == before, words
     return len(rows)

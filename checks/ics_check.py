@@ -148,7 +148,7 @@ def struck_differs(seen, chance, given):
     office = None if given.place[0] == "--input" else answered(given)
     if office is None:
         return None
-    starts = [number for number, row in office.rows.items() if row.split(",")[1] == "start" and office.answers[number].startswith("deadline ")]
+    starts = [number for number, row in office.rows.items() if row.split(",")[1] in ("start", "set") and office.answers[number].startswith("deadline ")]
     if not starts:
         return None
     row = chance.choice(starts)

@@ -284,7 +284,7 @@ def check_cut_off(programs):
                 session.stdin.write(b"1,open,%d,2025-03-03\n" % (row + 1))
                 session.stdin.flush()
                 session.stdout.readline()
-            while not (desk.folder / "entering").exists():
+            while not (desk.folder / "entering-1").exists():
                 time.sleep(0.01)
             session.send_signal(signal.SIGKILL)
             session.communicate()
@@ -292,7 +292,7 @@ def check_cut_off(programs):
             ended = desk.call("enter")
             found = CUT_OFF.fullmatch(ended.errors)
             assert ended.status == 0 and (found is not None and int(found.group(1)) == rows if said else not ended.errors), (rows, ended)
-            assert not desk.call("enter").errors and not (desk.folder / "entering").exists()
+            assert not desk.call("enter").errors and not list(desk.folder.glob("entering*"))
 
 
 def main(words):

@@ -23,7 +23,7 @@ DOCUMENT = TOP / "docs" / "code" / "PROMISES.md"
 HEAD = "| What refuses it | Of which crates |\n|---|---|\n"
 
 # What docket does for its other subcommands, and for reports.
-NOT_COURT_CHECK = ("init", "enter", "try_rows", "ask", "plain", "correct", "struck", "cases", "check", "rows", "log", "report", "memo", "write_file", "change", "text")
+NOT_COURT_CHECK = ("init", "enter", "try_rows", "ask", "plain", "correct", "struck", "cases", "check", "rows", "log", "report", "memo", "write_file", "update", "change", "text")
 
 # What the merge gate runs with ample memory, in the order in which the table has it: the crate, how it is called in the table,
 # and functions of its own to which its run doesn't come.
@@ -41,11 +41,11 @@ RUNS = [
 DESK_CHECKS, WRITTEN_CHECKS = ("desk_check", "strike_check"), ("written_check",)
 BESIDE = {
     "court_holidays": (),
-    "court_writing": ("holidays_check",),
+    "court_writing": ("court_update_check", "holidays_check"),
     "case_numbers": DESK_CHECKS,
     "desk_numbers": DESK_CHECKS,
     "docket_shifts": DESK_CHECKS,
-    "desk_journal": (),
+    "desk_journal": ("many_check",),
     "desk_session": DESK_CHECKS,
     "desk_entries": DESK_CHECKS,
     "desk_program": DESK_CHECKS,

@@ -50,15 +50,16 @@ def options_in(words):
     return parser.parse_args(words)
 
 
-def ended(data, words=(), told=None):
-    """The status, the text and the line of the fault, as bytes. `told` is called with each answer."""
+def ended(data, words=(), told=None, at_desk=False):
+    """The status, the text and the line of the fault, as bytes. `told` is called with each answer. At the desk more rows are read
+    than clerk_office reads."""
     options = options_in(words)
     if len(data) > MOST_BYTES:
         return 4, b"", b"read fault\n"
     of_court, of_rows = split(data)
     try:
         court = court_of(of_court)
-        rows = rows_of(of_rows, options.clerks, court)
+        rows = rows_of(of_rows, options.clerks, court, at_desk)
     except CourtFault as fault:
         return 2, b"", (fault.line() + "\n").encode()
     except RowFault as fault:

@@ -4,11 +4,12 @@
     statuses_check.py DOCKET
 
 TABLE below has the commands, and for each what is done and the status that it must end with. Where a command ends with status 1
-to 6 or 10, standard output must be empty, but for what `court check` finds and for answers that came before, and standard error must
+to 6, 10 or 11, standard output must be empty, but for what `court check` finds and for answers that came before, and standard error must
 say what is wrong; lines about the words of the command line begin with `error: `. A folder's journal must be as it was where the
 status is neither 0 nor 8. Of a journal of an earlier format each command must say so, and leave it as it is. It needs Linux (/dev/full) and Python 3.8 or later. The last line counts the runs as 'N passed, M
 failed'; the status is 0 where none failed.
 """
+import fcntl
 import pathlib
 import shutil
 import subprocess
@@ -22,11 +23,12 @@ from lib.programs import Ended, programs_of
 ROWS = [b"1,open,1,2025-03-03\n", b"1,start,1,59e,2025-03-03,,,\n", b"1,holiday,2025-03-31,state\n"]
 FAULT, REFUSED, AS_WRITTEN = b"1,open,1\n", b"1,open,1,2025-03-03\n", b'1,Open,2,"Mar 4, 2025"\n'
 QUESTION, NEW, CUT = b"1,sheet,1\n", b"1,open,2,2025-03-04\n", b"1,sheet,1"
-WORDS, COURT, LINES, STREAM, ABSENT, DIFFERS, SOME, DOUBT, JOURNAL = 1, 2, 3, 4, 6, 7, 8, 9, 10
+WORDS, COURT, LINES, STREAM, ABSENT, DIFFERS, SOME, DOUBT, JOURNAL, WAITED = 1, 2, 3, 4, 6, 7, 8, 9, 10, 11
 STRIKE = "--reason twice"
 # What stands in the place of standard output in a call that ends with FULL: a disk that is full. In one that ends with UNREAD
-# standard input can't be read, and in one that ends with BESIDE another program enters rows.
-FULL, UNREAD, BESIDE = " > full", " < folder", " beside"
+# standard input can't be read, in one that ends with BESIDE another program enters rows, and in one that ends with HELD another
+# has the lock of the folder.
+FULL, UNREAD, BESIDE, HELD = " > full", " < folder", " beside", " held"
 
 # The folders whose journal is of an earlier format, and what is said of one.
 EARLIER = ["V{}".format(version) for version in range(1, VERSION)]
@@ -39,7 +41,7 @@ FILES = {
     "doubtful.toml": SHORT_COURT.replace(b'"2025-05-26", ', b""),
     "other.toml": SHORT_COURT.replace(b'"2025-03-28"', b'"2025-03-28", "2025-03-31"'),
     "more.toml": SHORT_COURT.replace(b'"Brandt"', b'"Brandt", "Cole"'),
-    "sound.txt": SHORT_COURT + b"%%\n" + b"".join(ROWS), "faulty.txt": SHORT_COURT.replace(b"08:30", b"8:30") + b"%%\n",
+    "names.txt": b"Kahale\n\nO-Brien\n", "sound.txt": SHORT_COURT + b"%%\n" + b"".join(ROWS), "faulty.txt": SHORT_COURT.replace(b"08:30", b"8:30") + b"%%\n",
     "rows.txt": SHORT_COURT + b"%%\n" + FAULT,
 }
 REPORTS = ("due", "week --judge Ames --of 2025-03-03", "page", "ics --stamp 20250901T120000Z", "json", "json --lines", "sql", "memo",
@@ -124,13 +126,19 @@ def of_earlier(name):
     yield "init {} --court court.toml".format(name), b"", JOURNAL
 
 
+def of_waiting(words, given):
+    """The calls of a command that waits for others who have the folder."""
+    yield from ((words + " --wait" + wait + HELD, given, WAITED) for wait in (" 0", "=0", " 1"))
+    yield from ((words + " --wait" + wait, given, WORDS) for wait in ("", " x", "=", " 1.5", "=-1", " 86401", " 0 --wait 1"))
+
+
 TABLE = [
     ("--help", b"", 0), ("--version", b"", 0), ("help due", b"", 0), ("due --help", b"", 0), ("court --help", b"", 0), ("court check --help", b"", 0),
     ("--help" + FULL, b"", STREAM), ("", b"", WORDS), ("nothing", b"", WORDS), ("nothing --help", b"", WORDS), ("court", b"", WORDS), ("court nothing", b"", WORDS),
     ("init new --court court.toml", b"", 0), ("init E --court court.toml", b"", 0), ("init new", b"", WORDS), ("init --court court.toml", b"", WORDS),
     ("init new --court faulty.toml", b"", COURT), ("init new --court none.toml", b"", STREAM), ("init F --court court.toml", b"", JOURNAL),
     *of_rows("enter"), *of_rows("try"), *of_rows("ask"),
-    ("enter F" + BESIDE, NEW, JOURNAL), ("try F" + BESIDE, NEW, 0), ("ask F" + BESIDE, QUESTION, 0),
+    ("enter F" + BESIDE, NEW, 0), ("try F" + BESIDE, NEW, 0), ("ask F" + BESIDE, QUESTION, 0),
     ("enter F", REFUSED, 0), ("enter F --all-or-nothing", REFUSED, LINES), ("enter F --all-or-nothing --keep-refused", REFUSED, 0),
     ("enter F --all-or-nothing", NEW + FAULT, LINES), ("enter F --all-or-nothing", NEW + CUT, STREAM), ("enter F --all-or-nothing", NEW, 0),
     ("enter F --warn", REFUSED, SOME), ("try F --warn", REFUSED, SOME), ("enter F --warn", FAULT + REFUSED, SOME), ("enter F --warn", b"!" + REFUSED, 0),
@@ -146,8 +154,8 @@ TABLE = [
     ("strike F x " + STRIKE, b"", WORDS), ("strike F 3", b"", WORDS), ("strike F " + STRIKE, b"", WORDS),
     ("restore S 3 " + STRIKE, b"", 0), ("restore S 3 --accept " + STRIKE, b"", 0), ("restore S 1 " + STRIKE, b"", LINES), ("restore S 99 " + STRIKE, b"", LINES),
     ("restore S 3 --reason r --by b", b"", WORDS), ("restore S 3 --reason=", b"", WORDS), ("restore S x " + STRIKE, b"", WORDS), ("restore S 3", b"", WORDS),
-    ("restore S " + STRIKE, b"", WORDS), ("restore N 3 " + STRIKE, b"", JOURNAL), ("restore F 3 " + STRIKE + BESIDE, b"", JOURNAL),
-    ("strike F 1 " + STRIKE + FULL, b"", STREAM), ("strike N 3 " + STRIKE, b"", JOURNAL), ("strike F 3 " + STRIKE + BESIDE, b"", JOURNAL),
+    ("restore S " + STRIKE, b"", WORDS), ("restore N 3 " + STRIKE, b"", JOURNAL), ("restore F 3 " + STRIKE + BESIDE, b"", LINES),
+    ("strike F 1 " + STRIKE + FULL, b"", STREAM), ("strike N 3 " + STRIKE, b"", JOURNAL), ("strike F 3 --accept " + STRIKE + BESIDE, b"", 0),
     *of_kept("struck"), *of_kept("cases"), *of_kept("rows"), *of_folder("check"), *of_folder("log"), ("check F --as-of 1", b"", WORDS),
     *((("log S --" + more, b"", 0) for more in ("row 3", "by x", "from today", "to yesterday", "case 1", "json", "row 3 --json", "case 1 --json"))),
     *((("log S --" + more, b"", ABSENT) for more in ("row 99", "row 0", "row 99 --json", "row 1 --by x --from=-3d --to today", "case 4096"))),
@@ -163,14 +171,25 @@ TABLE = [
     ("sheet F 1 --input sound.txt", b"", WORDS), ("sheet S 1:25-cv-7", b"", 0), ("sheet N 1", b"", JOURNAL), ("sheet E 1", b"", JOURNAL), ("memo F --today 2025-03-03", b"", WORDS), ("ics F --stamp now", b"", WORDS),
     ("court check court.toml", b"", DOUBT), ("court check doubtful.toml", b"", DOUBT), ("court check divided.toml", b"", COURT), ("court check faulty.toml", b"", COURT), ("court check none.toml", b"", STREAM),
     ("court check", b"", WORDS), ("court check court.toml --today x", b"", WORDS), ("court check faulty.toml" + FULL, b"", STREAM),
-    ("court check written.toml", b"", 0),
+    ("court check written.toml --today 2024-03-01", b"", 0), ("court check written.toml --today 2025-10-01", b"", DOUBT),
     ("court write --court hawaii --from 2024 --to 2026", b"", 0), ("court write --court hawai --from 2024 --to 2026", b"", WORDS),
     ("court write --court hawaii --from 2026 --to 2024", b"", WORDS), ("court write --court hawaii --from x --to 2024", b"", WORDS),
+    ("court write --court hawaii --from 2024 --to 2026 --judges names.txt --rooms names.txt --opens 09:00 --closes 16:30", b"", 0),
+    ("court write --court hawaii --from 2024 --to 2026 --judges rows.txt", b"", COURT), ("court write --court hawaii --from 2024 --to 2026 --rooms none.txt", b"", STREAM),
+    ("court write --court hawaii --from 2024 --to 2026 --opens 9:00", b"", WORDS), ("court write --court hawaii --from 2024 --to 2026 --opens 17:00", b"", WORDS),
+    ("court update W --to 2029", b"", 0), ("court update W --to 2029 --wait 0", b"", 0), ("court update W --to 2026", b"", WORDS), ("court update W --to 2200", b"", WORDS), ("court update W", b"", WORDS),
+    ("court update W --to x", b"", WORDS), ("court update W --to 2029 --wait 86401", b"", WORDS), ("court update F --to 2029", b"", COURT), ("court update N --to 2029", b"", JOURNAL),
+    ("court update W --to 2029" + FULL, b"", STREAM), *(("{} --wait {}".format(words, wait), b"", WORDS) for words in ("enter F", "strike F 1 " + STRIKE, "court change F more.toml") for wait in ("x", "86401", "-1", "1.5")),
     ("court write --court hawaii", b"", WORDS), ("court write --court hawaii --from 2024 --to 2026" + FULL, b"", STREAM),
     ("court change F more.toml", b"", 0), ("court change F other.toml", b"", DIFFERS), ("court change F other.toml --accept", b"", 0),
     ("court change F faulty.toml", b"", COURT), ("court change F none.toml", b"", STREAM), ("court change F", b"", WORDS), ("court change N more.toml", b"", JOURNAL),
     *(call for name in EARLIER for call in of_earlier(name)),
-    ("court change F more.toml" + BESIDE, b"", JOURNAL), ("court change F other.toml" + FULL, b"", STREAM),
+    *(call for words, given in (("enter F", NEW), ("enter F --warn", NEW), ("enter F --all-or-nothing", NEW), ("enter F --as-written", NEW),
+                                ("strike F 3 --accept " + STRIKE, b""), ("restore F 3 " + STRIKE, b""), ("court change F more.toml", b""))
+      for call in of_waiting(words, given)),
+    *((words + HELD, given, 0) for words, given in (("ask F", QUESTION), ("try F", NEW), ("plain F", AS_WRITTEN), ("rows F", b""), ("due F", b""))),
+    *((words + " --wait 0", b"", WORDS) for words in ("ask F", "try F", "check F", "due F", "init new --court court.toml")),
+    ("court change F more.toml" + BESIDE, b"", 0), ("court change F other.toml" + FULL, b"", STREAM),
 ]
 
 
@@ -185,6 +204,7 @@ class Place:
         for name, data in FILES.items():
             (self.made / name).write_bytes(data)
         (self.made / "written.toml").write_bytes(self.run(self.made, "court write --court hawaii --from 2024 --to 2026", b"").output)
+        assert self.run(self.made, "init W --court written.toml", b"").status == 0
         for name in ("F", "S"):
             desk = Desk(programs, self.made / "E", SHORT_COURT)
             desk.enter(ROWS + [b"1,open,1:25-cv-7,2025-03-04\n"] * (name == "S"))
@@ -200,7 +220,7 @@ class Place:
     def run(self, folder, text, given):
         """How a call ends that is done in this folder."""
         words, output, source = text, subprocess.PIPE, None
-        for ending in (FULL, UNREAD, BESIDE):
+        for ending in (FULL, UNREAD, BESIDE, HELD):
             words = words[:-len(ending)] if words.endswith(ending) else words
         if text.endswith(FULL):
             output = open("/dev/full", "wb")
@@ -223,12 +243,17 @@ class Place:
             session.stdin.write(QUESTION)
             session.stdin.flush()
             session.stdout.readline()
+        lock = open(folder / "F" / "lock", "w") if text.endswith(HELD) else None
+        if lock:
+            fcntl.flock(lock, fcntl.LOCK_EX)
         journals = [folder / name / "journal" for name in ("F", *EARLIER)]
         before = [journal.read_bytes() for journal in journals]
         ended = self.run(folder, text, given)
         is_as_it_was = [journal.read_bytes() for journal in journals] == before
         if session:
             session.communicate()
+        if lock:
+            lock.close()
         spare = sorted(str(path.relative_to(folder)) for path in folder.glob("*/journal-wal"))
         shutil.rmtree(folder)
         if spare:
@@ -237,9 +262,9 @@ class Place:
             return "it ended with {}".format(ended)
         if status not in (0, SOME) and not is_as_it_was and not text.startswith("enter F"):
             return "the journal isn't as it was: {}".format(ended)
-        if status in (WORDS, COURT, LINES, STREAM, ABSENT, JOURNAL) and ended.output and not text.startswith(("court check", "enter F", "try F", "ask F")):
+        if status in (WORDS, COURT, LINES, STREAM, ABSENT, JOURNAL, WAITED) and ended.output and not text.startswith(("court check", "enter F", "try F", "ask F")):
             return "it wrote {}".format(ended)
-        if status in (WORDS, COURT, LINES, STREAM, ABSENT, JOURNAL) and not text.startswith("court check faulty.toml") and not ended.errors.strip():
+        if status in (WORDS, COURT, LINES, STREAM, ABSENT, JOURNAL, WAITED) and not text.startswith("court check faulty.toml") and not ended.errors.strip():
             return "it says nothing of what is wrong: {}".format(ended)
         if set(EARLIER) & set(text.split()) and not text.startswith("init") and ended.errors != EARLIER_FORMAT:
             return "it doesn't say that the journal is of an earlier format: {}".format(ended)

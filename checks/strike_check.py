@@ -9,7 +9,8 @@ row that gave it: the row gives the same whenever it is decided again, also afte
 the first time gives the next after all that were ever given in its case. After each strike and each restore these are compared
 with it: the row that the desk shows, the answers that it lists as changed, each deadline and hearing that it lists as another than
 before, the sheets of all cases and the calendars of all judges, the answers to
-later rows, what clerk_office makes of the rows that the desk writes, which counts deadlines and motions by their places, and
+later rows, what clerk_office makes of the rows that the desk writes, which counts deadlines and motions by their places (or the
+second program, where it doesn't take them all), and
 the reports of the folder, which show the numbers of rows, deadlines and motions that `enter` answered. Without --accept a
 strike or a restore that changes an answer changes nothing; a row that is struck isn't struck again, and only such a row is
 restored. The first line of each correction must say the numbers that rows gave since the one before it and don't keep yet: those of
@@ -23,11 +24,12 @@ import sqlite3
 import sys
 import tempfile
 
-from lib.desk import Desk, REFUSED, SHORT_COURT
+from lib.desk import Desk, REFUSED, SHORT_COURT, has_rows_of_desk, report_of
 from lib.journal import CORRECTIONS, Said, corrections_in, packed, rows_of as rows_kept, said_in, struck_in, with_said
 from lib.json_text import office_text
 from lib.kept_numbers import GIVES, Numbers, said_wanted, to_say
-from lib.programs import programs_of, seed_and_count
+from lib.programs import Ended, programs_of, seed_and_count
+from office_reference import ended as ended_by_reference
 from reference.civil import day_text
 from reference.court_file import court_of
 from reference.docket import STEPS, deadlines_of, hearing_of, motions_of, opening, step, view
@@ -54,6 +56,7 @@ def drawn_row(draw):
         "1,open,{},{}".format(case, day),
         "1,start,{},{},{},,,".format(case, draw.choice(["4m", "12a1Ai", "59b", "59e"]), day),
         "1,start,{},{},{},,,".format(case, draw.choice(["4m", "12a1Ai", "59b", "59e"]), day),
+        "1,set,{},{},,{}".format(case, day, draw.choice(["filing", "service"])),
         "1,file,{},{},{},10:00,electronic".format(case, number, day),
         "1,extend,{},{},+7d,{},09:00,yes,yes,yes".format(case, number, day),
         "1,motion,{},{},{}".format(case, day, draw.choice(["14", "7", "exparte"])),
@@ -102,7 +105,7 @@ class Replay:
     def take(self, line):
         """The answer to the next row, as the lines of its entry; a row that is struck has none."""
         self.count += 1
-        row, = rows_of(line, 64, self.court)
+        row, = rows_of(line, 64, self.court, True)
         if self.count in self.struck:
             self.answers.append(None)
             return None
@@ -349,7 +352,7 @@ def report(desk, *words):
 def compare_case(desk, numbers, rows, case):
     """The memo of one case of the folder, which is that of the rows that are written, whose numbers in the folder these are."""
     told = desk.call("memo", "--case", case)
-    other = desk.programs.report(["memo", "--case", str(case)], rows)
+    other = report_of(desk.programs, ["memo", "--case", str(case)], rows)
     wanted = [numbers.line(case, BY_ROW.sub(lambda found: "by row {}".format(numbers.of_row(int(found[1]))).ljust(len(found[0])), line))
               for line in other.output.decode().splitlines()]
     assert (told.status, told.output.decode()) == (other.status, "".join(line + "\n" for line in wanted)), (told, other)
@@ -396,13 +399,13 @@ def compare(desk, replay, what):
     assert told.status == 0, told
     expected = b""
     for line in asked:
-        row, = rows_of(line, 64, replay.court)
+        row, = rows_of(line, 64, replay.court, True)
         first, *more = answer_lines(replay.court, replay.docket, view(replay.court, replay.docket, row.work))
         expected += "".join(line + "\n" for line in ["{} {} {}".format(replay.count + 1, row.clerk, first)] + more).encode()
     assert told.output == expected, (what, told.output, expected)
     rows = desk.call("rows")
     assert rows.status == 0 and not rows.errors and rows.output.startswith(desk.input_of([])), (what, rows)
-    ended = desk.programs.office(rows.output)
+    ended = Ended(*ended_by_reference(rows.output, at_desk=True)) if has_rows_of_desk(rows.output) else desk.programs.office(rows.output)
     closing = "".join(line + "\n" for line in closing_lines(replay.court, replay.by_places())).encode()
     assert ended.status == 0 and ended.output.endswith(closing), (what, ended, closing)
     compare_reports(desk, replay, rows.output, what)

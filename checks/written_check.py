@@ -43,7 +43,8 @@ NAMED = {text: [section for section, texts in SECTIONS.items() if texts == [text
 KINDS = {"A": ["personal", "by hand", "hand delivery"], "B": ["left", "dwelling"], "C": ["mail", "by mail", "U.S. mail"], "D": ["with clerk", "clerk"],
          "E": ["ECF", "CM/ECF", "e-mail", "electronic"], "F": ["other", "consent"]}
 WORDS = {"electronic": ["electronic", "ECF", "Electronically"], "paper": ["paper", "on paper", "Paper"], "yes": ["yes", "Y", "Yes"], "no": ["no", "N", "NO"],
-         "federal": ["federal", "Federal"], "state": ["state", "STATE"], "exparte": ["ex parte", "Ex Parte", "exparte"]}
+         "federal": ["federal", "Federal"], "state": ["state", "STATE"], "exparte": ["ex parte", "Ex Parte", "exparte"],
+         "filing": ["filing", "Filing", "file", "to file"], "service": ["service", "Service", "serve"]}
 # The columns of each command, by what they hold.
 FORMS = {
     "open": "clerk command case date",
@@ -59,6 +60,7 @@ FORMS = {
     "compute": "clerk command period date time? second? kind?",
     "sheet": "clerk command case",
     "calendar": "clerk command judge. date",
+    "set": "clerk command case date time! act",
 }
 NAMES = sorted({column.strip("?!.") for form in FORMS.values() for column in form.split()})
 
@@ -95,7 +97,7 @@ def drawn(draw, column, clear):
         "cause!": lambda: draw.choice(["yes", "no"]), "neglect!": lambda: draw.choice(["yes", "no"]),
         "need": lambda: draw.choice(["14", "7", "exparte"]), "judge": lambda: "+".join(draw.sample(JUDGES, draw.randint(1, 3))),
         "judge.": lambda: draw.choice(JUDGES), "room": lambda: draw.choice(ROOMS), "slots": lambda: draw.choice(["2", "3q", "1"]),
-        "list": lambda: draw.choice(["federal", "state"]),
+        "list": lambda: draw.choice(["federal", "state"]), "time!": lambda: "", "act": lambda: draw.choice(["filing", "service"]),
     }[column]()
 
 

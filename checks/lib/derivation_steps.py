@@ -12,7 +12,7 @@ from reference.civil import civil, day_of_text, day_text, instant_at, minute_tex
 
 # The calendar as it is when the deadline is shown: its span, its lists of holidays, its outages (day, from, to).
 Calendar = namedtuple("Calendar", "clock first last federal state outages names")
-# What a row says of a deadline: `second` and `kind` may be None, `length` is ("d" or "h", number), `grants` are texts
+# What a row says of a deadline: `second` and `kind` may be None, `length` is ("d" or "h", number), or ("set", 0), `grants` are texts
 # as `+7d`, `+24h` or a date. `right_from` is the day from which the rule of its period is right, or None; `text` is the
 # period as the row has it.
 Deadline = namedtuple("Deadline", "length direction act served kind event minute second summons right_from grants text")
@@ -102,6 +102,9 @@ def shown_at(calendar, instant):
 
 def begins(calendar, deadline, line):
     unit, count = deadline.length
+    if unit == "set":
+        expect(line == Line(deadline.event, "set for this day by an order", "6(a), 2009 Note"), "an order sets the day")
+        return runs(deadline.event, False, deadline.grants)
     if unit == "d":
         event = later_event(deadline)
         if deadline.right_from is not None and event < deadline.right_from:
@@ -202,8 +205,10 @@ def runs(last, three, grants):
 
 
 def moves(deadline):
-    """The clerk's office matters for filing, and not where the last extension is to a date."""
-    return deadline.act == "filing" and not (deadline.grants and deadline.grants[-1][0] != "+")
+    """The clerk's office matters for filing, and not where the end is a date certain: one to which the time was extended last, or
+    one that an order sets."""
+    certain = deadline.grants[-1][0] != "+" if deadline.grants else deadline.length[0] == "set"
+    return deadline.act == "filing" and not certain
 
 
 def inaccessible(outage):

@@ -2,6 +2,7 @@
 import pathlib
 import re
 import subprocess
+import tempfile
 
 from lib.journal import read_journal
 from lib.programs import run
@@ -14,8 +15,10 @@ TOGETHER, KEEP_REFUSED, FAULTS = "--all-or-nothing", "--keep-refused", 3
 # The status with which a session ends in which some rows had faults or were held back, and the line with which a row is answered
 # that has a fault.
 FAULTY, FAULT_LINE = 8, re.compile(rb"\d+ (?:\d+|-) fault ")
-# What a session says first where the one before it was cut off.
-CUT_OFF = re.compile(rb"docket: the session before this one was cut off; the last row that is kept is row (\d+): see 'docket log [^\n]* --row \1'\n")
+# A row that the desk takes, and clerk_office doesn't.
+ROW_OF_DESK = re.compile(rb'(?m)^"?[0-9]+"?,"?set"?,')
+# What a session says first of each that was cut off before it.
+CUT_OFF = re.compile(rb"docket: a session of [^\n]* was cut off; the last row that is kept is row (\d+): see 'docket log [^\n]* --row \1'\n")
 # A court's file that is short, so that a journal's bytes are mostly those of its rows.
 SHORT_COURT = b"""zone = "EST5EDT,M3.2.0/2,M11.1.0/2"
 opens = "08:30"
@@ -131,3 +134,32 @@ class Desk:
         ended = self.call("rows")
         assert ended.status == 0, ended
         return ended.output
+
+
+def has_rows_of_desk(data):
+    """Whether an input has rows that the desk alone takes."""
+    return ROW_OF_DESK.search(data) is not None
+
+
+def report_of(programs, words, data):
+    """What docket says of an input. Rows that the desk alone takes are entered into a folder, and so are the others beside them."""
+    if not has_rows_of_desk(data):
+        return programs.report(words, data)
+    with tempfile.TemporaryDirectory() as parent:
+        court, rows = divided(data)
+        desk = Desk(programs, parent, court)
+        desk.enter(row if row.endswith(b"\n") else row + b"\n" for row in rows)
+        return desk.call(*words)
+
+
+def set_rows(draw, rows, cases, faulty=True):
+    """The rows with some put among them by which an order sets a deadline for a day, one of the days in them. Some have a fault, unless
+    none is to have one."""
+    days = re.findall(rb"\d{4}-\d\d-\d\d", b"".join(rows)) or [b"2025-09-07"]
+    rows = list(rows)
+    for _ in range(draw.randint(1, 8)):
+        time = draw.choice([b""] * 12 + [b"09:30"] * faulty)
+        act = draw.choice([b"filing"] * 8 + [b"service"] * 4 + [b"answer"] * faulty)
+        row = b"1,set,%d,%s,%s,%s\n" % (draw.choice(cases), draw.choice(days), time, act)
+        rows.insert(draw.randint(min(len(rows), 3), len(rows)), row)
+    return rows

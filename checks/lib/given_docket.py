@@ -1,21 +1,23 @@
 """A docket of which a check asks reports: an input of clerk_office, or a folder into which its rows were entered.
 
-In the folder some cases are opened by a number of the court, as 1:25-cv-01234, and rows are given to several clerks. What
-the reports say of it is compared with what clerk_office says of the same rows, all of clerk 1 and with cases by their
-numbers, which is the check's to translate.
+In the folder some cases are opened by a number of the court, as 1:25-cv-01234, and rows are given to several clerks; in some,
+orders set deadlines for days, by rows that the desk alone takes. What the reports say of it is compared with what clerk_office
+says of the same rows, all of clerk 1 and with cases by their numbers, which is the check's to translate; where it doesn't take all
+rows, the second program in Python speaks in its place.
 """
 import re
 from typing import NamedTuple
 
 from lib.case_names import made_name
-from lib.desk import Desk, FAULTY, divided
+from lib.desk import Desk, FAULTY, divided, has_rows_of_desk, report_of, set_rows
 from lib.kept_numbers import Numbers
 from lib.programs import Ended, Programs, run
 from lib.several_clerks import with_clerks
+from office_reference import ended as ended_by_reference
 
 # A row at the end that is answered by one line: what follows it are the sheets and the calendars.
 LAST_ROW = b"1,compute,59e,2025-08-04,,,\n"
-OF_CASE = re.compile(rb"^(\d+,(?:open|start|file|extend|motion|book|move|cancel|sheet),)(\d+)(?=,|\r?\n)")
+OF_CASE = re.compile(rb"^(\d+,(?:open|start|file|extend|motion|book|move|cancel|sheet|set),)(\d+)(?=,|\r?\n)")
 CLERK = re.compile(rb'(?m)^"?([0-9]+)"?,')
 
 
@@ -44,7 +46,7 @@ class Given(NamedTuple):
     def office(self, last=b""):
         """What clerk_office says, with the numbers of the folder."""
         data = self.read_by_office(last)
-        ended = self.programs.office(data)
+        ended = Ended(*ended_by_reference(data, at_desk=True)) if has_rows_of_desk(data) else self.programs.office(data)
         if ended.status != 0 or self.numbers is None:
             return ended
         return Ended(0, self.numbers.text(data, ended.output.decode()).encode(), ended.errors)
@@ -52,7 +54,7 @@ class Given(NamedTuple):
     def memo(self, last=b""):
         """The reasons of what clerk_office says, with the numbers of the folder."""
         data = self.read_by_office(last)
-        ended = self.programs.report(["memo"], data)
+        ended = report_of(self.programs, ["memo"], data)
         if ended.status != 0 or self.numbers is None:
             return ended
         return Ended(0, self.numbers.text(data, ended.output.decode()).encode(), ended.errors)
@@ -98,6 +100,8 @@ def given_docket(programs, chance, data, parent):
     if chance.random() < 0.5 or programs.office(court + b"%%\n").status != 0:
         return input_of(programs, several, clerks, data)
     desk = Desk(programs, parent, court)
+    if chance.random() < 0.4:
+        rows = set_rows(chance, rows, [1, 2])
     lines = [row if row.endswith(b"\n") else row + b"\n" for row in with_names(chance, rows)]
     ended = desk.call("enter", given=b"".join(lines))
     assert ended.status in (0, FAULTY), ended

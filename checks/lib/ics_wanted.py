@@ -8,7 +8,7 @@ from collections import namedtuple
 from lib.case_names import called
 from lib.given_docket import LAST_ROW
 from lib.memo_lines import closing_of, other_day, other_of, reasons_of
-from lib.period_words import RULES
+from lib.period_words import RULES, SET
 from reference.periods import period_of_text
 from reference.rule6 import FILING
 
@@ -76,6 +76,8 @@ def period_in_words(code):
     if "/" not in code:
         _, what, section, event = RULES[code]
         return what, "{}, {} (Fed. R. Civ. P. {})".format(what, event, section)
+    if code in SET:
+        return SET[code], SET[code]
     length, side, act, start, mark = code.split("/")
     count = int(length[:-1])
     words = "{} {} {} {}, {}".format(count, UNITS[length[-1]][count != 1], side,
@@ -96,7 +98,7 @@ def deadline_item(names, case, words, closes, other):
         begins = (day, second)
     else:
         ending, second, begins = "The time ends with this day, at midnight", 0, None
-        if period_of_text(code).act == FILING:
+        if (code.split("/")[1] if code in SET else period_of_text(code).act) == FILING:
             ending += "; for filing on paper when the clerk's office closes, at " + closes
     reading = "" if other is None else "\nBy another reading of the Rules: {}.".format(other[len(OTHER):])
     return Item(day, second, case, 0, number, summary, "Period: {}.\n{}.{}".format(described, ending, reading), begins, None, None,
@@ -113,6 +115,8 @@ def lost_item(names, lost):
 def lost_of(row, number):
     """What the row that started a deadline leaves of it once it is struck."""
     fields = row.split(",")
+    if fields[1] == "set":
+        return Lost(int(fields[2]), number, "set/" + fields[5], day_of(fields[3]))
     return Lost(int(fields[2]), number, fields[3], day_of(fields[4]))
 
 
@@ -189,7 +193,7 @@ def revisions_of(rows, answers):
         if not answers.get(number, "refused").startswith("refused"):
             if fields[1] in ("holiday", "inaccessible"):
                 last[0] = number
-            elif fields[1] in ("start", "file", "extend", "book", "move", "cancel"):
+            elif fields[1] in ("start", "set", "file", "extend", "book", "move", "cancel"):
                 last[int(fields[2])] = number
     return last
 

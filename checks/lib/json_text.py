@@ -15,9 +15,12 @@ def refused(refusal):
 
 
 def period(deadline):
+    e = deadline["entered"]
+    if deadline["period"] == "set":
+        assert (e["days"], e["hours"], e["direction"], e["from"], e["mark"]) == (None, None, "after", "event", "plain"), e
+        return "set/" + e["act"]
     if deadline["period"] is not None:
         return deadline["period"]
-    e = deadline["entered"]
     length = "{}d".format(e["days"]) if e["days"] is not None else "{}h".format(e["hours"])
     return "/".join([length, e["direction"], e["act"], e["from"], e["mark"]])
 

@@ -12,7 +12,7 @@ from lib.journal import CORRECTIONS, Said, after_name
 ANSWER = re.compile(r"(\d+) 1 (.*)")
 BOOKED = re.compile(r"(case (\d+) motion )(\d+)( room .*)$")
 # What gives a number, and of what.
-GIVES = {b"start": "deadline", b"motion": "motion"}
+GIVES = {b"start": "deadline", b"set": "deadline", b"motion": "motion"}
 # A row that a correction lists, its line, and the first line of the answer that it gets.
 LISTED = re.compile(rb"^row (\d+) is kept as\n(.*)\n(?:.*\n)*?and would be answered\n(.*)\n", re.MULTILINE)
 BUSY = re.compile(r"(refused \d+ (?:Judge|Room)Busy (\d+) )(\d+)$")

@@ -9,7 +9,7 @@ from lib.period_words import right_from
 from reference.civil import civil, day_of_text, day_text, instant_at, minute_text, weekday
 from reference.docket import DATES, DEADLINES, GRANTS, MOTIONS, OUTAGES, STEPS, deadline_of, hearing_of, motion_of, opening, step
 from reference.periods import granted, is_in_range, shown
-from reference.rule6 import AFTER, BEFORE, BEYOND, ELECTRONIC, FILING, PAPER, Filing, is_timely
+from reference.rule6 import AFTER, BEFORE, BEYOND, ELECTRONIC, FILING, PAPER, Filing, is_timely, permitted
 
 
 def notes(court, rows, work, answer):
@@ -62,7 +62,7 @@ def act(court, rows, row):
     assert by.startswith("undecided" if end == BEYOND else "timely" if is_timely(court.clock, end, row.period.act, done) else "late")
     section = "6(a)(2)" if end.kind == "until" else "6(a)(4)" if end.kind == "last" and files(row) else "ours"
     lines.append((end_of(court, end)[0], by, section))
-    if row.period.direction == AFTER and done.day < starts(row):
+    if runs_from_event(row) and done.day < starts(row):
         lines.append((starts(row), "other reading: no act, done before its event", "ours"))
     return lines
 
@@ -129,6 +129,11 @@ def starts(row):
     return row.event.day if row.second is None else max(row.event.day, row.second)
 
 
+def runs_from_event(row):
+    """Whether the period is counted after its event: a day that an order sets has none."""
+    return row.period.direction == AFTER and row.period.unit != "set"
+
+
 def of_extension(court, rows, command, end):
     """The end that an extension gave was past when it was asked for, or lies after the event that it counts back from."""
     asked, row = command[3].asked, docketed(rows, command)
@@ -150,8 +155,18 @@ def far_from(today, event):
     return [note(event, "the event lies a year or more {} {}".format("before" if event < today else "after", day_text(today)))]
 
 
+def of_set_day(rows, day, filed):
+    """The notes on a day that an order sets."""
+    lines = [note(day, "the day set lies before the filing of the case")] if day < filed else []
+    if not permitted(rows.days, day, AFTER):
+        lines.append(note(day, "the day set is a Saturday, a Sunday or a holiday"))
+    return lines
+
+
 def of_deadline(court, rows, row, filed, today):
     """The notes on a deadline of a case that was filed on that day, where it counts from a day or None."""
+    if row.period.unit == "set":
+        return of_set_day(rows, row.event.day, filed)
     events = [row.event.day] + ([] if row.second is None else [row.second])
     lines = [note(event, "the event lies before the filing of the case") for event in events if event < filed]
     if today is not None and row.filed is None:
@@ -167,7 +182,7 @@ def of_deadline(court, rows, row, filed, today):
             last <= day <= rows.days.last for day in rows.days.federal):
         lines.append(note(last, "no federal holiday is listed from this day on"))
     lines += of_end(court, row, end)
-    if row.period.direction == AFTER and row.filed is not None and row.filed.day < starts(row):
+    if runs_from_event(row) and row.filed is not None and row.filed.day < starts(row):
         lines.append(note(row.filed.day, "the act was done before its event"))
     return lines
 

@@ -17,6 +17,9 @@ RULES = {
     "59e": (28, "a motion to alter or amend a judgment", "59(e)", "from the entry of judgment"),
 }
 
+# Of a day that an order sets, by what has to be done: the period in words.
+SET = {"set/filing": "set by an order, to file", "set/service": "set by an order, to serve"}
+
 # The days from which they are right as they are applied.
 COUNTING, SUMMONS = "2009-12-01", "2015-12-01"
 
@@ -46,6 +49,8 @@ def heading(text, event):
     if text in RULES:
         days, what, section, start = RULES[text]
         return [(None, counted(days, "day") + ", " + what, section), (event, start, section)]
+    if text in SET:
+        return [(None, SET[text], "entered")]
     number, unit, side, act, start, mark = re.fullmatch(r"(\d+)([dh])/(\w+)/(\w+)/(\w+)/(\w+)", text).groups()
     length = counted(int(number), {"d": "day", "h": "hour"}[unit])
     origin = "service" if start == "served" else "the event"

@@ -64,6 +64,11 @@ def spoiled():
         way(name + " as a kind", "1,start,12,12a1B,2025-08-25,,,{}".format(kind))
     for name, means in [("a misspelt word", "electroncially"), ("fax", "fax"), ("nothing", ""), ("a letter", "x"), ("misspelt paper", "papper")]:
         way(name + " as means", put(file, "electronic", means))
+    # days that orders set
+    order = "1,set,12,2025-11-03,,filing"
+    for name, act in [("another word", "answer"), ("a misspelt word", "filling"), ("nothing", "")]:
+        way(name + " as an act", put(order, "filing", act))
+    way("a time for a day that an order sets", put(order, ",,", ",9:30,"))
     # numbers
     for name, case in [("a real case number", "1:25-cv-01234-ABC"), ("a leading zero", "012"), ("a hash before it", "#12"), ("a word before it", "case 12"),
                        ("a number as spreadsheets write it", "7.0"), ("a blank in it", "1 2"), ("a dot in it", "1.2"), ("a dot before it", ".5"), ("a dot after it", "7."),

@@ -7,7 +7,7 @@ from .rule6 import (AFTER, BEFORE, BEYOND, ELECTRONIC, FILING, SERVICE, Filing, 
                     end_of_hours, is_timely, last_day, rolled, with_access, with_access_hours)
 
 # `kind` and `second` say whether a kind of service and a second day are "required", "none" or "noted" (may be);
-# `unit` is "d" or "h"; `added` says that the period runs from service under Rule 5(b)(2); `extended` is under which
+# `unit` is "d" or "h", or "set" where an order sets the end and nothing is counted; `added` says that the period runs from service under Rule 5(b)(2); `extended` is under which
 # rule it may be extended: "4m", "6b" or "never".
 Period = namedtuple("Period", "text count unit direction act kind second added extended")
 
@@ -49,8 +49,13 @@ def period_of_text(text):
                   "6b" if mark == "plain" else "never")
 
 
+def set_to(act):
+    """The period of an act that an order wants by the day of the event."""
+    return Period("set/" + act, 0, "set", AFTER, act, "none", "none", False, "6b")
+
+
 def is_in_range(unit, count):
-    return 1 <= count <= (3650 if unit == "d" else 8760)
+    return unit == "set" or 1 <= count <= (3650 if unit == "d" else 8760)
 
 
 def refused_start(days, period, event, second, kind):
@@ -76,7 +81,9 @@ def fits(period, grant):
 def extended(days, clock, deadline):
     """The last day or the instant at which the deadline ends, before access to the office is looked at, or None."""
     period, event = deadline.period, deadline.event
-    if period.unit == "d":
+    if period.unit == "set":
+        end = event.day
+    elif period.unit == "d":
         day = event.day if deadline.second is None else max(event.day, deadline.second)
         added = period.added and adds_three(deadline.kind, event.day)
         end = last_day(days, day, period.count, period.direction, added)
@@ -98,16 +105,16 @@ def extended(days, clock, deadline):
 def shown(days, clock, deadline):
     """6(a), (b), (d): what is shown of the deadline."""
     end = extended(days, clock, deadline)
-    to_date = bool(deadline.grants) and deadline.grants[-1].unit == "until"
+    to_date = deadline.grants[-1].unit == "until" if deadline.grants else deadline.period.unit == "set"
     if end is not None and deadline.period.act == FILING and not to_date:
         direction = AFTER if deadline.grants else deadline.period.direction
-        if deadline.period.unit == "d":
-            end = with_access(days, end, direction)
-        else:
+        if deadline.period.unit == "h":
             end = with_access_hours(days, clock, end, direction)
+        else:
+            end = with_access(days, end, direction)
     if end is None:
         return BEYOND
-    return Shown("last" if deadline.period.unit == "d" else "until", end)
+    return Shown("until" if deadline.period.unit == "h" else "last", end)
 
 
 def granted(deadline, grant):

@@ -6,7 +6,7 @@ import re
 from collections import namedtuple
 
 from .civil import CannotTell, day_of_text, minute_of_text
-from .periods import Event, Grant, Request, period_of_text
+from .periods import Event, Grant, Request, period_of_text, set_to
 from .rule6 import Filing
 
 NUMBERS = {"BadClerk": 1, "UnknownCommand": 2, "WrongCount": 3, "BadField": 4, "NotText": 5, "TooManyRows": 6}
@@ -45,17 +45,17 @@ def records_of(data):
         yield fields
 
 
-def rows_of(data, clerks, court):
-    """The rows, each checked before the next is looked at."""
+def rows_of(data, clerks, court, at_desk=False):
+    """The rows, each checked before the next is looked at. The desk takes more forms than clerk_office."""
     rows = []
     for number, record in enumerate(records_of(data), 1):
         if number > MOST_ROWS:
             raise RowFault(number, "TooManyRows", None)
-        rows.append(row_of(number, record, clerks, court))
+        rows.append(row_of(number, record, clerks, court, at_desk))
     return rows
 
 
-def row_of(number, record, clerks, court):
+def row_of(number, record, clerks, court, at_desk):
     try:
         fields = [field.decode("utf-8") for field in record]
     except UnicodeDecodeError:
@@ -65,9 +65,10 @@ def row_of(number, record, clerks, court):
     clerk = number_of(fields[0])
     if clerk is None or not 1 <= clerk <= clerks:
         raise RowFault(number, "BadClerk", None)
-    if fields[1] not in COLUMNS:
+    columns = DESK_COLUMNS if at_desk else COLUMNS
+    if fields[1] not in columns:
         raise RowFault(number, "UnknownCommand", None)
-    readers = COLUMNS[fields[1]]
+    readers = columns[fields[1]]
     if len(fields) != 2 + len(readers):
         raise RowFault(number, "WrongCount", None)
     values = []
@@ -105,6 +106,11 @@ def end_time(text, court):
 
 def time_or_none(text, court):
     return 0 if text == "" else minute_of_text(text)
+
+
+def no_time(text, court):
+    """The time of a day that an order sets as a whole."""
+    return 0 if text == "" else None
 
 
 def quarter(text, court):
@@ -198,6 +204,8 @@ COLUMNS = {
     "sheet": [number],
     "calendar": [judge, date],
 }
+# The forms that the desk alone takes.
+DESK_COLUMNS = {**COLUMNS, "set": [number, date, no_time, one_of("filing", "service")]}
 WORKS = {
     "open": lambda case, filed: ("open", case, filed),
     "start": lambda case, *rest: ("start", case) + asked_period(*rest),
@@ -212,6 +220,7 @@ WORKS = {
     "inaccessible": lambda day, begin, end: ("inaccessible", day, begin, end),
     "sheet": lambda case: ("sheet", case),
     "calendar": lambda of_judge, day: ("calendar", of_judge, day),
+    "set": lambda case, day, minute, act: ("start", case, set_to(act), Event(day, minute), None, None),
 }
 
 

@@ -1,7 +1,7 @@
 -- A test of the items of a list, with one item more.
-use Rattle.std.proofs.Common.{◌≡◌, ℕ, ◌+◌, ◌<◌, ◌||◌, Bool, true, false, List, [], ◌∷◌, ◌++◌, String, string_bytes, length, get_or, take, ℤ, pos, negsuc, ◌+ℤ◌, ◌-ℤ◌, ◌≤ℤ◌, unsigned_abs, refl, sym, ap, ◌∙◌, arith, zero-add}
+use Rattle.std.proofs.Common.{◌≡◌, ℕ, ◌+◌, ◌<◌, ◌||◌, Bool, true, false, List, [], ◌∷◌, ◌++◌, String, string_bytes, length, get_or, take, drop, map, filter, cond, ℤ, pos, negsuc, ◌+ℤ◌, ◌-ℤ◌, ◌≤ℤ◌, unsigned_abs, refl, sym, ap, ◌∙◌, arith, zero-add}
 use Rattle.std.proofs.lemmas.Int.{ints}
-use Rattle.std.specs.List.{list_any}
+use Rattle.std.specs.List.{list_any, range_with_len}
 use Rattle.std.specs.declared.alloc.Global.{Global}
 use Rattle.std.proofs.lemmas.List.{take_more}
 use Rattle.std.proofs.lemmas.List.Folds.{list_any-append}
@@ -29,6 +29,41 @@ name_more p names i name below is =
 -- one day more
 pub day_more : (p : ℤ → Bool) (first : ℤ) (n : ℕ) → list_any p (days_from first (n + 1)) ≡ (list_any p (days_from first n) || p (first +ℤ pos n))
 day_more p first n = ap (list_any p) (map-range_with_len_more (λ k. first +ℤ pos k) 0 n n (zero-add n)) ∙ any_pushed p (days_from first n) (first +ℤ pos n)
+
+-- one end of a text more
+pub end_more : (p : List ℕ → Bool) (text : List ℕ) (n : ℕ) → list_any p (map (λ k. drop k text) (range_with_len 0 (n + 1))) ≡ (list_any p (map (λ k. drop k text) (range_with_len 0 n)) || p (drop n text))
+end_more p text n = ap (list_any p) (map-range_with_len_more (λ k. drop k text) 0 n n (zero-add n)) ∙ any_pushed p (map (λ k. drop k text) (range_with_len 0 n)) (drop n text)
+
+-- those that pass of the views of a list, with one item more
+filter_pushed : {Y : Type 0} (p : Y → Bool) (ys : List Y) (y : Y) → filter p (ys ++ y ∷ []) ≡ filter p ys ++ cond (p y) (y ∷ []) []
+filter_pushed p [] y = by_test (p y)
+  where
+    by_test : (b : Bool) → cond b (y ∷ []) [] ≡ cond b (y ∷ []) []
+    by_test b = refl
+filter_pushed p (z ∷ zs) y = by_test (p z) (filter_pushed p zs y)
+  where
+    by_test : (b : Bool) → filter p (zs ++ y ∷ []) ≡ filter p zs ++ cond (p y) (y ∷ []) [] → cond b (z ∷ filter p (zs ++ y ∷ [])) (filter p (zs ++ y ∷ [])) ≡ cond b (z ∷ filter p zs) (filter p zs) ++ cond (p y) (y ∷ []) []
+    by_test true rest = ap (λ ys. z ∷ ys) rest
+    by_test false rest = rest
+
+map_pushed : {X Y : Type 0} (f : X → Y) (xs : List X) (x : X) → map f (xs ++ x ∷ []) ≡ map f xs ++ f x ∷ []
+map_pushed f [] x = refl
+map_pushed f (z ∷ zs) x = ap (λ ys. f z ∷ ys) (map_pushed f zs x)
+
+-- those that pass of the views of a list so far, and one more
+pub filter_goes_on : {X Y : Type 0} (p : Y → Bool) (f : X → Y) (xs : List X) (i : ℕ) (d : X) (passes : Bool) (before after : List Y) → i < length xs → before ≡ filter p (map f (take i xs))
+    → passes ≡ p (f (get_or xs i d)) → after ≡ before ++ cond passes (f (get_or xs i d) ∷ []) [] → after ≡ filter p (map f (take (i + 1) xs))
+filter_goes_on p f xs i d passes before after below so_far is added =
+    let x = get_or xs i d in
+    added
+    ∙ ap (λ ys. ys ++ cond passes (f x ∷ []) []) so_far
+    ∙ ap (λ b. filter p (map f (take i xs)) ++ cond b (f x ∷ []) []) is
+    ∙ sym (ap (λ ys. filter p (map f ys)) (take_more xs i d below) ∙ ap (filter p) (map_pushed f (take i xs) x) ∙ filter_pushed p (map f (take i xs)) (f x))
+
+-- those that pass of a list so far, and one more
+pub filter_taken : {X : Type 0} (p : X → Bool) (xs : List X) (i : ℕ) (x : X) → i < length xs → x ≡ get_or xs i x
+    → filter p (take (i + 1) xs) ≡ filter p (take i xs) ++ cond (p x) (x ∷ []) []
+filter_taken p xs i x below is = ap (filter p) (take_more xs i x below ∙ ap (λ y. take i xs ++ y ∷ []) (sym is)) ∙ filter_pushed p (take i xs) x
 
 pub no_days : (p : ℤ → Bool) (first : ℤ) → list_any p (days_from first 0) ≡ false
 no_days p first = refl

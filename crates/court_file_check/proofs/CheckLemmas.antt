@@ -36,7 +36,7 @@ all_faults document faults all some = go (court_of document) refl (faults_begin 
   go (Ok file) is none = absurd (some (all ∙ none))
   go (Err e) is begins = record { all = all; first = begins.0; rest = begins.1; are = all ∙ begins.2; of_court = is ∙ ap Err (sym begins.3) }
 
-pub of_document : (asked : Asked) (bytes : List ℕ) (document : Members) (checked : Checked) → toml_of bytes ≡ Some document → IsDocumentCheck asked document checked → IsCheckOf asked bytes checked
+pub of_document : (asked : Asked) (bytes : List ℕ) (document : Members) (checked : Checked) → toml_of bytes ≡ Some document → IsDocumentCheck asked bytes document checked → IsCheckOf asked bytes checked
 of_document asked bytes document (NotToml error) read check = absurd check
 of_document asked bytes document (Faulty file faults) read check = record { document = document; read = read; check = check }
 of_document asked bytes document (Taken file warnings) read check = record { document = document; read = read; check = check }

@@ -27,16 +27,16 @@ pub record IsTaken (asked : Asked) (document : Members) (IsTold : CourtFile → 
   pub told : IsTold file
 
 -- what is found in a document
-abbrev pub IsDocumentCheck : Asked → Members → Checked → Type 0
-IsDocumentCheck asked document (NotToml error) = ⊥
-IsDocumentCheck asked document (Faulty file faults) = (table_view file ≡ document) × AreAllFaults document (map seen faults.items)
-IsDocumentCheck asked document (Taken file warnings) = (table_view file ≡ document) × IsTaken asked document (λ said. AreWarnings asked document said warnings)
+abbrev pub IsDocumentCheck : Asked → (text : List ℕ) → Members → Checked → Type 0
+IsDocumentCheck asked text document (NotToml error) = ⊥
+IsDocumentCheck asked text document (Faulty file faults) = (table_view file ≡ document) × AreAllFaults document (map seen faults.items)
+IsDocumentCheck asked text document (Taken file warnings) = (table_view file ≡ document) × IsTaken asked document (λ said. AreWarnings asked text document said warnings)
 
 -- what is found in the document that the bytes are
 pub record IsOfDocument (asked : Asked) (bytes : List ℕ) (checked : Checked) : Type 0 where
   pub document : Members
   pub read : toml_of bytes ≡ Some document
-  pub check : IsDocumentCheck asked document checked
+  pub check : IsDocumentCheck asked bytes document checked
 
 -- What is found in bytes: that they are no TOML, where the court's program says so too; or what is found in the document.
 abbrev pub IsCheckOf : Asked → List ℕ → Checked → Type 0

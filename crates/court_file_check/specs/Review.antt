@@ -5,9 +5,10 @@ use Rattle.std.specs.List.{AllPairs, Contains, range_with_len}
 use Rattle.court_clock.specs.Words.{days_through, is_weekend}
 use Rattle.court_days.specs.Words.{DaysView, is_among, is_covered}
 use Rattle.court_holidays.specs.Federal.Words.{holiday_on, observed_on}
+use Rattle.court_holidays.specs.States.Words.{state_holiday_on}
 use Rattle.court_holidays.specs.declared.federal.statute.FederalHoliday.{FederalHoliday}
 use Rattle.court_file_check.specs.declared.review.DayTest.{DayTest}
-use Rattle.court_file_check.specs.declared.review.DayTest.TheVariants.{FederalAtWeekend, InBoth, Lacking, StateAtWeekend, Unknown}
+use Rattle.court_file_check.specs.declared.review.DayTest.TheVariants.{FederalAtWeekend, InBoth, Lacking, StateAtWeekend, Unknown, Unlisted}
 use Rattle.court_file_check.specs.declared.review.Due.{Due}
 use Rattle.court_file_check.specs.declared.review.Due.TheVariants.{SetByLaw, Observed}
 
@@ -21,14 +22,15 @@ abbrev pub due_on : Bool → ℤ → Option Due
 due_on capital d = due_of (holiday_on d capital) (observed_on d)
 
 -- What is asked of a day: whether it is due and the federal list lacks it, but for Saturdays and Sundays, on which a holiday changes
--- no period; whether it is in the federal list and isn't due; is a holiday on a Saturday or a Sunday; or is a date that both lists
--- have.
+-- no period; whether it is in the federal list and isn't due; is a holiday on a Saturday or a Sunday; is a date that both lists
+-- have; or is a weekday that a State's law names, that isn't due, and that no list has.
 abbrev pub passes : DaysView → DayTest → ℤ → Bool
 passes c (Lacking capital) d = not (is_among c.federal d) && (not (is_weekend d) && is_some (due_on capital d))
 passes c (Unknown capital) d = is_among c.federal d && is_none (due_on capital d)
 passes c FederalAtWeekend d = is_weekend d && is_among c.federal d
 passes c StateAtWeekend d = is_weekend d && is_among c.state d
 passes c InBoth d = is_among c.federal d && is_among c.state d
+passes c (Unlisted capital state) d = not (is_among c.federal d) && (not (is_among c.state d) && (not (is_weekend d) && (is_none (due_on capital d) && is_some (state_holiday_on state d))))
 
 -- n days from the first on
 abbrev pub days_from : ℤ → ℕ → List ℤ

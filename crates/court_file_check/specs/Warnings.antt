@@ -1,14 +1,18 @@
 -- What may be wrong with a court's file that has no fault.
-use Rattle.std.specs.Prelude.{ℕ, suc, ◌+◌, nat_lt, ◌&&◌, not, Bool, false, ℤ, pos, ◌+ℤ◌, ◌-ℤ◌, int_le, int_lt, unsigned_abs, List, [], ◌++◌, filter, Option, Some, None, option_map, if◌then◌else◌}
-use Rattle.std.specs.List.{list_any, range_with_len}
+use Rattle.std.specs.Prelude.{ℕ, suc, ◌+◌, drop, length, nat_eq, nat_lt, ◌&&◌, ◌||◌, not, Bool, false, ℤ, pos, ◌+ℤ◌, ◌-ℤ◌, int_le, int_lt, unsigned_abs, List, [], ◌++◌, filter, map, Option, Some, None, option_map, if◌then◌else◌}
+use Rattle.std.specs.List.{list_any, range_with_len, starts_with}
 use Rattle.std.specs.Ordering.{int_eq}
 use Rattle.std.specs.Option.{option_and_then, option_to_list}
 use Rattle.toml.specs.Data.{Data, Items, no_items, item, as_str}
-use Rattle.court_clock.specs.Words.{day_of_text}
+use Rattle.court_clock.specs.Words.{day_of_text, day_text}
 use Rattle.court_days.specs.Words.{DaysView, is_among, is_covered}
-use Rattle.court_holidays.specs.Federal.Words.{set_in}
+use Rattle.court_holidays.specs.Federal.Words.{ClosingView, closings, set_in}
+use Rattle.court_holidays.specs.States.Words.{on}
+use Rattle.court_holidays.specs.declared.states.state.State.{State}
+use Rattle.jiff_tz.specs.Year.{year_of_day}
 use Rattle.court_holidays.specs.declared.federal.statute.FederalHoliday.TheVariants.{NewYearsDay}
-use Rattle.court_file_check.specs.Review.{days_from}
+use Rattle.court_file_check.specs.Review.{days_from, days_that}
+use Rattle.court_file_check.specs.declared.review.DayTest.TheVariants.{Unlisted}
 use Rattle.court_file_check.specs.declared.warnings.slips.Slip.{Slip}
 use Rattle.court_file_check.specs.declared.warnings.slips.Slip.TheVariants.{Outside, Twice, Early}
 
@@ -69,7 +73,48 @@ is_long_day opens closes = nat_lt (opens + 720) closes
 abbrev pub is_short_span : DaysView → Bool
 is_short_span c = int_lt c.to (c.from +ℤ pos 90)
 
--- the span ends within a year after a day, where one is given
+-- the day is in October, November or December, in the years for which the holidays of the next two are stated
+abbrev pub is_autumn : ℤ → Bool
+is_autumn d = int_le (pos 1970) (year_of_day d) && (int_le (year_of_day d) (pos 2197) && int_le (on 10 1 (year_of_day d)) d)
+
+-- the last day of the next year
+abbrev pub next_year_end : ℤ → ℤ
+next_year_end d = on 12 31 (year_of_day d +ℤ pos 1)
+
+-- the span ends within a year after a day
+abbrev pub ends_within_a_year : DaysView → ℤ → Bool
+ends_within_a_year c d = int_lt c.to (d +ℤ pos 365)
+
+-- the day is in autumn, when the next year's calendar is made, and the span ends with that year or before it
+abbrev pub ends_by_next_year : DaysView → ℤ → Bool
+ends_by_next_year c d = is_autumn d && int_le c.to (next_year_end d)
+
+-- one of these, of a day that is given
 abbrev pub ends_soon : DaysView → Option ℤ → Bool
 ends_soon c None = false
-ends_soon c (Some today) = int_lt c.to (today +ℤ pos 365)
+ends_soon c (Some today) = ends_within_a_year c today || ends_by_next_year c today
+
+-- a text has these bytes somewhere
+abbrev pub has_text : (text part : List ℕ) → Bool
+has_text text part = list_any (λ rest. starts_with nat_eq rest part) (map (λ place. drop place text) (range_with_len 0 (length text)))
+
+-- a day on which the President closed the executive departments is in the span, and the file's text doesn't have its date
+abbrev pub is_unsaid_day : DaysView → (text date : List ℕ) → Option ℤ → Bool
+is_unsaid_day c text date None = false
+is_unsaid_day c text date (Some d) = is_covered c d && not (has_text text date)
+
+abbrev pub is_unsaid : DaysView → (text : List ℕ) → ClosingView → Bool
+is_unsaid c text closing = is_unsaid_day c text closing.day (day_of_text closing.day)
+
+unfoldable pub unsaid_closings : DaysView → (text : List ℕ) → List ClosingView
+unsaid_closings c text = filter (is_unsaid c text) closings
+
+-- a day whose date isn't in the text
+abbrev pub is_day_unsaid : (text : List ℕ) → ℤ → Bool
+is_day_unsaid text d = not (has_text text (day_text d))
+
+-- the days of the span that the law of the court's State names, where it is known which that is, that no list has, and of which the text
+-- says nothing
+abbrev pub unsaid_holidays : DaysView → (text : List ℕ) → (capital : Bool) → Option State → List ℤ
+unsaid_holidays c text capital None = []
+unsaid_holidays c text capital (Some state) = filter (is_day_unsaid text) (days_that c (Unlisted capital state))

@@ -33,7 +33,7 @@ pub fn check_file(alloc: Global, bytes: &[u8], asked: &Asked) -> Result<Checked,
 {
     match toml::table_from_slice(alloc, bytes) {
         Ok(file) => {
-            let checked = check_document(alloc, file, asked)?;
+            let checked = check_document(alloc, bytes, file, asked)?;
             Ok(checked)
         }
         Err(error) => {
@@ -46,15 +46,20 @@ pub fn check_file(alloc: Global, bytes: &[u8], asked: &Asked) -> Result<Checked,
 }
 
 /// Checks a document.
-fn check_document(alloc: Global, file: Table, asked: &Asked) -> Result<Checked, AllocError>
-    ensures { IfOk result (IsDocumentCheck asked.now (table_view file)) }
+fn check_document(
+    alloc: Global,
+    text: &[u8],
+    file: Table,
+    asked: &Asked,
+) -> Result<Checked, AllocError>
+    ensures { IfOk result (IsDocumentCheck asked.now text.now (table_view file)) }
 {
     let faults = faults_of(alloc, &file)?;
     if has_any(&faults) {
         return Ok(Checked::Faulty(file, faults));
     }
     let court = court_of(alloc, &file)?;
-    let warnings = warnings_of(alloc, &file, &court, asked)?;
+    let warnings = warnings_of(alloc, text, &file, &court, asked)?;
     Ok(Checked::Taken(file, warnings))
 }
 

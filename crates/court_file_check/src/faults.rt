@@ -13,7 +13,7 @@ use toml::Table;
 
 mod dates;
 mod keys;
-mod names;
+pub(crate) mod names;
 
 use dates::check_dates;
 use keys::{check_hours, check_span, check_zone};

@@ -6,7 +6,9 @@ ghost use Rattle.court_file_check.specs.Review.{days_that, due_on, passes};
 
 use court_clock::Day;
 use court_days::{Days, HolidayList};
-use court_holidays::{FederalHoliday, count_through, day_at, holiday_on, observed_on};
+use court_holidays::{
+    FederalHoliday, State, count_through, day_at, holiday_on, observed_on, state_holiday_on,
+};
 use std::alloc::{AllocError, Global};
 
 /// Why a day is due in a list of federal holidays.
@@ -33,6 +35,8 @@ pub enum DayTest {
     StateAtWeekend,
     /// Whether both lists have it.
     InBoth,
+    /// Whether it is a weekday that the law of the State names, it isn't due, and no list has it.
+    Unlisted { capital: bool, state: State },
 }
 
 /// Why the day is due in the list of a court, which is in the capital's region or not. None where it isn't, and for a day
@@ -87,6 +91,13 @@ fn passes(days: &Days, test: DayTest, day: Day) -> bool
         DayTest::FederalAtWeekend => is_weekend(day) && in_federal,
         DayTest::StateAtWeekend => is_weekend(day) && in_state,
         DayTest::InBoth => in_federal && in_state,
+        DayTest::Unlisted { capital, state } => {
+            !in_federal
+                && !in_state
+                && !is_weekend(day)
+                && due_on(day, capital).is_none()
+                && state_holiday_on(state, day).is_some()
+        }
     }
 }
 

@@ -9,15 +9,20 @@ use crate::review::{DayTest, days_that};
 use court_clock::Day;
 use court_days::{Court, Days};
 use court_file_text::Key;
+use court_holidays::{Closing, State};
 use std::alloc::{AllocError, Global};
 use toml::Table;
 
+mod closings;
+mod holidays;
 mod hours;
 pub(crate) mod names;
 pub(crate) mod slips;
 mod years;
 pub(crate) mod zone;
 
+use closings::unsaid_closings;
+use holidays::unsaid_holidays;
 use hours::{closes_early, ends_soon, is_long_day, is_short_span};
 use names::{Alike, alike_at};
 use slips::{Slip, slips_at};
@@ -31,6 +36,8 @@ pub struct Asked {
     pub today: Option<Day>,
     /// Whether the court is in the capital's region, which has Inauguration Day.
     pub capital: bool,
+    /// The State whose holidays the court keeps, if it is known.
+    pub state: Option<State>,
 }
 
 /// What may be wrong with a court's file.
@@ -44,7 +51,7 @@ pub struct Warnings {
     pub long_day: bool,
     /// The span is shorter than the longest period of the table of periods.
     pub short_span: bool,
-    /// The span ends within a year after the day from which the file is used.
+    /// The span ends too early for the day from which the file is used.
     pub ends_soon: bool,
     /// The years in the span of which the federal list has no day.
     pub bare_years: Vec<u16>,
@@ -52,6 +59,10 @@ pub struct Warnings {
     pub lacking: Vec<Day>,
     /// The days of the federal list that aren't due.
     pub unknown: Vec<Day>,
+    /// The days of the span on which the President closed the executive departments, and of which the file says nothing.
+    pub closings: Vec<Closing>,
+    /// The holidays of the State's law in the span that no list has, and of which the file says nothing.
+    pub unlisted: Vec<Day>,
     /// The Saturdays and Sundays of the federal list.
     pub federal_at_weekend: Vec<Day>,
     /// Those of the state list.
@@ -68,14 +79,15 @@ pub struct Warnings {
     pub rooms_alike: Vec<Alike>,
 }
 
-/// What may be wrong with the file, which is that of the court. An `Err` says that memory ran out.
+/// What may be wrong with the file with this text, which is that of the court. An `Err` says that memory ran out.
 pub(crate) fn warnings_of(
     alloc: Global,
+    text: &[u8],
     file: &Table,
     court: &Court,
     asked: &Asked,
 ) -> Result<Warnings, AllocError>
-    ensures { IfOk result (AreWarnings asked.now (table_view file.now) (file_of court.now)) }
+    ensures { IfOk result (AreWarnings asked.now text.now (table_view file.now) (file_of court.now)) }
 {
     let capital = asked.capital;
     let clock = court.clock();
@@ -89,6 +101,8 @@ pub(crate) fn warnings_of(
         bare_years: bare_years(alloc, days)?,
         lacking: days_that(alloc, days, DayTest::Lacking { capital })?,
         unknown: days_that(alloc, days, DayTest::Unknown { capital })?,
+        closings: unsaid_closings(alloc, days, text)?,
+        unlisted: unsaid_holidays(alloc, days, text, capital, asked.state)?,
         federal_at_weekend: days_that(alloc, days, DayTest::FederalAtWeekend)?,
         state_at_weekend: days_that(alloc, days, DayTest::StateAtWeekend)?,
         in_both: days_that(alloc, days, DayTest::InBoth)?,

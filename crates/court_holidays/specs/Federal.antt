@@ -1,4 +1,5 @@
 pub mod Statute
 pub mod Calendar
 pub mod Observed
+pub mod Closings
 pub mod Words

@@ -113,7 +113,7 @@ pub fn day_at(first: Day, last: Day, place: usize) -> Day
 
 /// The year of the day's date.
 #[tactic(auto, using(crate::proofs::DateLemmas::year_is))]
-pub(crate) fn year_of(day: Day) -> i16
+pub fn year_of(day: Day) -> i16
     ensures { result ≡ year_of_day day }
 {
     match Date::from_unix_epoch_day(i64::from(day.number())) {

@@ -4,6 +4,7 @@ use Rattle.std.specs.List.{find}
 use Rattle.court_clock.specs.Words.{Zone, zone_of_text}
 use Rattle.court_file_text.specs.declared.fault.CourtFault.{CourtFault}
 use Rattle.court_file_text.specs.declared.fault.CourtFault.TheVariants.{BadZone}
+use Rattle.court_file_text.specs.declared.key.Key.{Key}
 use Rattle.court_file_text.specs.declared.key.Key.TheVariants as key
 use Rattle.court_file_text.specs.Words.{◌>>=◌, names_at, text_at}
 use Rattle.court_days.specs.Words.{CourtFile, court_of}
@@ -43,3 +44,20 @@ zone_read members file text e named =
     let text_is : written.0 ≡ text = cc (sym written.1 ∙ named) in
     let here : zone_of_text written.0 ≡ Some zone.0 = there (zone_of_text written.0) BadZone zone.0 written.2 in
     ap zone_of_text (sym text_is) ∙ here ∙ ap (λ (f : CourtFile). Some f.zone) same
+
+-- and the names that it has
+pub names_read : (members : _) (file : CourtFile) → court_of members ≡ Ok file → (names_at key.Judges members ≡ Ok file.judges) × (names_at key.Rooms members ≡ Ok file.rooms)
+unfolding court_of
+names_read members file e =
+    let zone = steps (zone_at members) _ file e in
+    let hours = steps (hours_at members) _ file zone.2 in
+    let days = steps (days_at members) _ file hours.2 in
+    let judges = steps (names_at key.Judges members) _ file days.2 in
+    let rooms = steps (names_at key.Rooms members) _ file judges.2 in
+    let read : CourtFile = record { zone = zone.0; opens = hours.0.0; closes = hours.0.1; days = days.0; judges = judges.0; rooms = rooms.0 } in
+    let same : read ≡ file = cc rooms.2 in
+    (judges.1 ∙ ap (λ (f : CourtFile). Ok f.judges) same, rooms.1 ∙ ap (λ (f : CourtFile). Ok f.rooms) same)
+
+-- the same names, read twice
+pub read_once : (members : _) (k : Key) (one other : List (List ℕ)) → names_at k members ≡ Ok one → names_at k members ≡ Ok other → one ≡ other
+read_once members k one other first second = cc (sym first ∙ second)

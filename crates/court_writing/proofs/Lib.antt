@@ -1,3 +1,5 @@
 pub mod CourtLemmas
 pub mod LinesLemmas
 pub mod SpanLemmas
+pub mod NamesLemmas
+pub mod UpdateLemmas

@@ -2,5 +2,8 @@ pub mod Courts
 pub mod Listed
 pub mod Sources
 pub mod Named
+pub mod Own
+pub mod Names
+pub mod Update
 pub mod Written
 pub mod Words

@@ -1,4 +1,4 @@
--- What is written for a court: a file with its zone and example hours, whose span is whole years, and whose lists have just
+-- What is written for a court: a file with its zone, its hours and its names, whose span is whole years, and whose lists have just
 -- the days of the definitions.
 use Rattle.std.specs.Prelude.{◌≡◌, ℕ, ◌+◌, ℤ, pos, nat_le, ◌≤ℤ◌, ◌&&◌, Bool, List, Ok, Some, is_some}
 use Rattle.court_clock.specs.Words.{zone_of_text}
@@ -7,6 +7,7 @@ use Rattle.court_days.specs.Words.{CourtFile, DaysView, court_in, court_of, is_a
 use Rattle.court_holidays.specs.States.Words.{on}
 use Rattle.court_holidays.specs.declared.states.state.State.{State}
 use Rattle.court_writing.specs.Listed.{federal_on, state_on}
+use Rattle.court_writing.specs.Own.{OwnView, closes_of, judges_of, opens_of, rooms_of}
 
 -- the years for which a file can be written: from 2016 to 2199, and at most a hundred of them
 abbrev pub are_years : ℕ → ℕ → Bool
@@ -23,19 +24,21 @@ pub record AreDaysOf (state : State) (from to : ℤ) (days : DaysView) : Type 0 
   pub last : days.to ≡ on 12 31 to
   pub listed : (d : ℤ) → days.from ≤ℤ d → d ≤ℤ days.to → IsListed state days d
 
--- the court's file has the zone with this text, the example hours from 08:30 to 17:00, and those days
-pub record IsOfCourt (state : State) (zone : List ℕ) (from to : ℤ) (file : CourtFile) : Type 0 where
+-- the court's file has the zone with this text, the court's hours and names, and those days
+pub record IsOfCourt (state : State) (zone : List ℕ) (own : OwnView) (from to : ℤ) (file : CourtFile) : Type 0 where
   pub zone_is : zone_of_text zone ≡ Some file.zone
-  pub opens : file.opens ≡ 510
-  pub closes : file.closes ≡ 1020
+  pub opens : file.opens ≡ opens_of own
+  pub closes : file.closes ≡ closes_of own
+  pub judges : file.judges ≡ judges_of own
+  pub rooms : file.rooms ≡ rooms_of own
   pub days : AreDaysOf state from to file.days
 
 -- the document says that
-abbrev pub IsDocumentOf : State → (zone : List ℕ) → (from to : ℕ) → Members → Type 0
-IsDocumentOf state zone from to document =
-    (file : CourtFile) × (court_of document ≡ Ok file) × IsOfCourt state zone (pos from) (pos to) file
+abbrev pub IsDocumentOf : State → (zone : List ℕ) → OwnView → (from to : ℕ) → Members → Type 0
+IsDocumentOf state zone own from to document =
+    (file : CourtFile) × (court_of document ≡ Ok file) × IsOfCourt state zone own (pos from) (pos to) file
 
 -- the text is that court's file
-abbrev pub IsFileOf : State → (zone : List ℕ) → (from to : ℕ) → List ℕ → Type 0
-IsFileOf state zone from to text =
-    (file : CourtFile) × (court_in text ≡ Ok file) × IsOfCourt state zone (pos from) (pos to) file
+abbrev pub IsFileOf : State → (zone : List ℕ) → OwnView → (from to : ℕ) → List ℕ → Type 0
+IsFileOf state zone own from to text =
+    (file : CourtFile) × (court_in text ≡ Ok file) × IsOfCourt state zone own (pos from) (pos to) file

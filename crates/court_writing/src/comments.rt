@@ -1,13 +1,16 @@
 //! What is written before the lists and after them.
 
 use crate::courts::{CourtName, Elsewhere};
-use std::alloc::AllocError;
+use crate::own::{CourtOwn, Office};
+use std::alloc::{AllocError, Global};
 use std::fmt::Write;
 
 /// Adds all that comes before the holidays.
 pub(crate) fn push_head(
     text: &mut String,
     court: CourtName,
+    own: &CourtOwn,
+    office: &Office<'_>,
     from: u16,
     to: u16,
 ) -> Result<(), AllocError> {
@@ -22,24 +25,32 @@ pub(crate) fn push_head(
     )?;
     text.push_str(
         "# and each holiday against the statutes as they stand and against its own orders before it relies on this file.
-# The hours are an example, and the names of judges and rooms are invented: replace them by the court's.
-
 ",
     )?;
+    text.push_str(own.example_note())?;
+    text.push_str("\n")?;
     text.push_str(court.zone.comment())?;
     push_elsewhere(text, court.elsewhere)?;
     let zone = court.zone.text();
     write!(text, "zone = \"{zone}\"\n")?;
+    push_hours(text, office)?;
     text.push_str(
         "
-# When the clerk's office opens and is scheduled to close.
-opens = \"08:30\"
-closes = \"17:00\"
-
 # The days that the holidays below cover. A period that would end outside them is answered \"beyond\".
 ",
     )?;
     write!(text, "from = \"{from}-01-01\"\nto = \"{to}-12-31\"\n\n")
+}
+
+/// Adds the hours of the office.
+fn push_hours(text: &mut String, office: &Office<'_>) -> Result<(), AllocError> {
+    let (opens, minute_of_opening) = (office.opens / 60, office.opens % 60);
+    let (closes, minute_of_closing) = (office.closes / 60, office.closes % 60);
+    text.push_str("\n# When the clerk's office opens and is scheduled to close.\n")?;
+    write!(
+        text,
+        "opens = \"{opens:02}:{minute_of_opening:02}\"\ncloses = \"{closes:02}:{minute_of_closing:02}\"\n"
+    )
 }
 
 /// Adds what is said of another clock in the district.
@@ -64,11 +75,31 @@ fn push_elsewhere(text: &mut String, elsewhere: Elsewhere) -> Result<(), AllocEr
 }
 
 /// The judges and rooms, and the head of the table of names.
-pub(crate) const JUDGES_AND_ROOMS: &str = "
-# Judges and rooms: at most 32 names each, of letters, digits, `-`, `_` and `.`.
-judges = [\"Ames\", \"Brandt\", \"Calloway\"]
-rooms = [\"1\", \"2\", \"3\"]
+pub(crate) fn judges_and_rooms(alloc: Global, office: &Office<'_>) -> Result<String, AllocError> {
+    let mut text = String::from_str(alloc, NAMES_NOTE)?;
+    push_names(&mut text, "judges", &office.judges)?;
+    push_names(&mut text, "rooms", &office.rooms)?;
+    text.push_str(TABLE_OF_NAMES)?;
+    Ok(text)
+}
 
+/// Adds a list of names.
+fn push_names(text: &mut String, key: &str, names: &[&str]) -> Result<(), AllocError> {
+    let mut between = "";
+    write!(text, "{key} = [")?;
+    for name in names {
+        write!(text, "{between}\"{name}\"")?;
+        between = ", ";
+    }
+    text.push_str("]\n")
+}
+
+/// What is said of judges and rooms.
+const NAMES_NOTE: &str =
+    "\n# Judges and rooms: at most 32 names each, of letters, digits, `-`, `_` and `.`.\n";
+
+/// The head of the table of names.
+const TABLE_OF_NAMES: &str = "
 # What each of these holidays is called, with the law that sets its day. `docket memo` prints the names; of a day whose name
 # ends in ' (doubtful)' it also says when the time ends by the reading that the day is no holiday.
 [holiday_names]

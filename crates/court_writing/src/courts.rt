@@ -167,20 +167,27 @@ impl CourtName {
     pub fn named(code: &str) -> Option<CourtName>
         ensures { option_map (λ c. of_district c.code.now c.state (zone_text c.zone)) result ≡ district_named code.now }
     {
+        CourtName::coded(code.as_bytes())
+    }
+
+    /// The same, by the bytes of the code.
+    pub(crate) fn coded(code: &[u8]) -> Option<CourtName>
+        ensures { option_map (λ c. of_district c.code.now c.state (zone_text c.zone)) result ≡ district_named code.now }
+    {
         first_named(CourtName::all(), code)
     }
 }
 
 /// The first of the courts that has the code.
-fn first_named(courts: &[CourtName], code: &str) -> Option<CourtName>
+fn first_named(courts: &[CourtName], code: &[u8]) -> Option<CourtName>
     ensures { result ≡ find (λ c. bytes_eq c.code.now code.now) courts.now }
 {
     courts.iter().copied().find(|court| has_code(court, code))
 }
 
 /// Whether it is the court with the code.
-fn has_code(court: &CourtName, code: &str) -> bool
+fn has_code(court: &CourtName, code: &[u8]) -> bool
     ensures { result ≡ bytes_eq court.now.code.now code.now }
 {
-    court.code == code
+    court.code.as_bytes() == code
 }

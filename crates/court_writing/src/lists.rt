@@ -1,13 +1,16 @@
 //! The lists of holidays.
 
-ghost use Rattle.std.specs.Prelude.{◌≡◌, ◌≤◌, ◌+◌, ◌-◌, ◌++◌, OnOk, pos, string_bytes};
-ghost use Rattle.court_holidays.specs.States.Words.{IsStated};
+ghost use Rattle.std.specs.Prelude.{◌≡◌, ◌≤◌, ◌+◌, ◌-◌, ◌++◌, IfOk, OnOk, pos, string_bytes};
+ghost use Rattle.court_holidays.specs.States.Words.{IsNear, IsStated};
 ghost use Rattle.court_writing.specs.Named.{lines_of_year, list_begin, list_text, year_lines, years_from};
+ghost use Rattle.court_writing.specs.Update.{IsLate, lines_after};
 
 use crate::lines::{Line, push_lines};
 use crate::sources::list_source;
+use crate::update::UpdateFault;
+use court_clock::Day;
 use court_days::HolidayList;
-use court_holidays::{State, on};
+use court_holidays::{State, on, year_of};
 use std::alloc::{AllocError, Global};
 use std::fmt::Write;
 
@@ -95,4 +98,31 @@ fn push_headed(text: &mut String, year: u16, lines: &str) -> Result<(), AllocErr
         return Ok(());
     }
     write!(text, "    # {year}\n{lines}")
+}
+
+/// The lines of the days from a first one to the end of a year.
+pub(crate) fn days_after(
+    alloc: Global,
+    state: State,
+    list: HolidayList,
+    first: Day,
+    to: u16,
+) -> Result<String, UpdateFault>
+    requires near { IsNear 0 first }
+    requires last { to ≤ 2199 }
+    ensures days { IfOk result (λ lines. string_bytes lines ≡ lines_after state list first to) }
+    ensures late { IsLate result }
+{
+    let year = year_of(first);
+    if year < 2016 || to < year as u16 {
+        return Err(UpdateFault::NotReadBack);
+    }
+    let mut rest = String::new(alloc);
+    let line = Line::Listed(list);
+    push_lines(&mut rest, state, line, first, on(year, 12, 31))?;
+    let year = year as u16;
+    let mut lines = String::new(alloc);
+    push_headed(&mut lines, year, rest.as_str())?;
+    push_years(alloc, &mut lines, state, list, year + 1, to - year)?;
+    Ok(lines)
 }

@@ -1,52 +1,61 @@
 //! The text of a court's file.
 
-ghost use Rattle.std.specs.Prelude.{◌≡◌, ◌↔◌, true, false, IfOk, Ok, Err, Some, pos};
+ghost use Rattle.std.specs.Prelude.{◌≡◌, ◌↔◌, true, false, IfOk, Ok, Err, Some, pos, slice_get};
 ghost use Rattle.std.specs.String.{string_bytes};
 ghost use Rattle.toml.specs.View.{table_view};
 ghost use Rattle.jiff_core.specs.Calendar.{days_from_civil};
-ghost use Rattle.court_file_text.specs.Words.{text_at, toml_of};
+ghost use Rattle.court_file_text.specs.Words.{names_at, text_at, toml_of};
 ghost use Rattle.court_file_text.specs.declared.key.Key.TheVariants as Key;
 ghost use Rattle.court_holidays.specs.States.Words.{IsNear, IsStated};
 ghost use Rattle.court_writing.specs.Courts.{zone_text};
 ghost use Rattle.court_writing.specs.Named.{IsTextOf};
+ghost use Rattle.court_writing.specs.Own.{IsOfficeOf, OwnView, are_hours, texts};
 ghost use Rattle.court_writing.specs.Written.{are_years, AreDaysOf, IsDocumentOf, IsFileOf};
-ghost use Rattle.court_writing.specs.declared.fault.WriteFault.TheVariants.{BadYears};
+ghost use Rattle.court_writing.specs.declared.fault.WriteFault.TheVariants.{BadHours, BadYears};
 
-use crate::comments::{JUDGES_AND_ROOMS, push_head};
+use crate::comments::{judges_and_rooms, push_head};
 use crate::courts::CourtName;
 use crate::days::are_listed;
 use crate::fault::WriteFault;
 use crate::lines::{Line, push_lines};
 use crate::lists::push_list;
 use crate::notes::list_note;
+use crate::own::{CourtOwn, Office};
 use crate::zones::ZoneName;
 use court_clock::Day;
 use court_days::{Court, Days, HolidayList};
-use court_file_text::{CourtFault, Key, text_at};
+use court_file_text::{CourtFault, Key, Names, names_at, text_at};
 use court_holidays::{State, on};
 use std::alloc::{AllocError, Global};
 use toml::Table;
 
-/// When the clerk's office opens in the example, in minutes from midnight, and when it closes.
-const OPENS: u16 = 510;
-
-const CLOSES: u16 = 1020;
-
-/// The court's file for the years from the first to the last: its zone, example hours, its holidays with their names,
-/// and names of judges and rooms that are to be replaced. `BadYears` where the years aren't some of 2016 to 2199 in
-/// their order, or are more than a hundred. The text is read back before it is given, and `NotReadBack` says that it
-/// isn't that court's file; `OutOfMemory` says that memory ran out.
-pub fn court_text(alloc: Global, court: CourtName, from: u16, to: u16) -> Result<String, WriteFault>
+/// The court's file for the years from the first to the last: its zone, its holidays with their names, and its hours,
+/// judges and rooms, or examples of them that are to be replaced. `BadYears` where the years aren't some of 2016 to 2199
+/// in their order, or are more than a hundred; `BadHours` where they are and the office doesn't open before it closes.
+/// The text is read back before it is given, and `NotReadBack` says that it isn't that court's file; `OutOfMemory` says
+/// that memory ran out.
+pub fn court_text(
+    alloc: Global,
+    court: CourtName,
+    own: &CourtOwn,
+    from: u16,
+    to: u16,
+) -> Result<String, WriteFault>
     ensures names { IfOk result (λ text. IsTextOf court.state from to (string_bytes text)) }
-    ensures written { IfOk result (λ text. IsFileOf court.state (zone_text court.zone) from to (string_bytes text)) }
+    ensures written { IfOk result (λ text. IsFileOf court.state (zone_text court.zone) own.now from to (string_bytes text)) }
     ensures years { (result ≡ Err BadYears) ↔ (are_years from to ≡ false) }
+    ensures hours { (result ≡ Err BadHours) ↔ ((are_years from to ≡ true) × (are_hours own.now ≡ false)) }
 {
     if !are_years(from, to) {
         return Err(WriteFault::BadYears);
     }
-    let text = text_of(alloc, court, from, to)?;
+    if !own.are_hours() {
+        return Err(WriteFault::BadHours);
+    }
+    let office = own.office(alloc)?;
+    let text = text_of(alloc, court, own, &office, from, to)?;
     let file = document_of(alloc, text.as_bytes())?;
-    check_document(alloc, court, from, to, &file)?;
+    check_document(alloc, court, &office, from, to, &file)?;
     Ok(text)
 }
 
@@ -54,6 +63,7 @@ pub fn court_text(alloc: Global, court: CourtName, from: u16, to: u16) -> Result
 fn document_of(alloc: Global, text: &[u8]) -> Result<Table, WriteFault>
     ensures read { IfOk result (λ file. toml_of text.now ≡ Some (table_view file)) }
     ensures no_years { result ≡ Err BadYears → ⊥ }
+    ensures no_hours { result ≡ Err BadHours → ⊥ }
 {
     match toml::table_from_slice(alloc, text) {
         Ok(file) => Ok(file),
@@ -70,17 +80,25 @@ fn document_of(alloc: Global, text: &[u8]) -> Result<Table, WriteFault>
 fn check_document(
     alloc: Global,
     court: CourtName,
+    office: &Office<'_>,
     from: u16,
     to: u16,
     file: &Table,
 ) -> Result<(), WriteFault>
     requires { are_years from to ≡ true }
-    ensures written { IfOk result (λ _. IsDocumentOf court.state (zone_text court.zone) from to (table_view file.now)) }
+    ensures written { (own : OwnView) → IsOfficeOf own office.now → IfOk result (λ _. IsDocumentOf court.state (zone_text court.zone) own from to (table_view file.now)) }
     ensures no_years { result ≡ Err BadYears → ⊥ }
+    ensures no_hours { result ≡ Err BadHours → ⊥ }
 {
+    let judges = has_names(alloc, file, Key::Judges, &office.judges)?;
+    let rooms = has_names(alloc, file, Key::Rooms, &office.rooms)?;
     match Court::from_table(alloc, file) {
         Ok(read) => {
-            if has_zone(file, court.zone) && is_of_years(court.state, from, to, &read) {
+            if judges
+                && rooms
+                && has_zone(file, court.zone)
+                && is_of_years(court.state, office, from, to, &read)
+            {
                 return Ok(());
             }
             Err(WriteFault::NotReadBack)
@@ -100,14 +118,54 @@ fn has_zone(file: &Table, zone: ZoneName) -> bool
     }
 }
 
-/// Whether the court has the example hours and the days of the years.
-fn is_of_years(state: State, from: u16, to: u16, read: &Court) -> bool
+/// Whether the document has these names at a key.
+fn has_names(alloc: Global, file: &Table, key: Key, names: &[&str]) -> Result<bool, WriteFault>
+    ensures named { IfOk result (λ yes. yes ≡ true → names_at key (table_view file.now) ≡ Ok (texts names.now)) }
+    ensures no_years { result ≡ Err BadYears → ⊥ }
+    ensures no_hours { result ≡ Err BadHours → ⊥ }
+{
+    match names_at(alloc, file, key) {
+        Ok(read) => Ok(are_names(&read, names)),
+        Err(CourtFault::OutOfMemory) => Err(WriteFault::OutOfMemory),
+        Err(_) => Ok(false),
+    }
+}
+
+/// Whether these are the names.
+fn are_names(read: &Names, names: &[&str]) -> bool
+    ensures { result ≡ true → read.now ≡ texts names.now }
+{
+    if read.len() != names.len() {
+        return false;
+    }
+    for (place, name) in names.iter().enumerate() {
+        if !is_name_at(read, place, name) {
+            return false;
+        }
+    }
+    true
+}
+
+/// Whether the name with that number is this one.
+fn is_name_at(read: &Names, place: usize, name: &str) -> bool
+    ensures { result ≡ true → slice_get read.now place ≡ Some name.now }
+{
+    match read.get(place) {
+        Some(other) => other == name,
+        None => false,
+    }
+}
+
+/// Whether the court has the hours and the days of the years.
+fn is_of_years(state: State, office: &Office<'_>, from: u16, to: u16, read: &Court) -> bool
     requires { are_years from to ≡ true }
-    ensures hours { result ≡ true → (read.now.clock.opens ≡ 510) × (read.now.clock.closes ≡ 1020) }
+    ensures hours { result ≡ true → (read.now.clock.opens ≡ office.now.opens) × (read.now.clock.closes ≡ office.now.closes) }
     ensures days { result ≡ true → AreDaysOf state (pos from) (pos to) read.now.days }
 {
     let clock = read.clock();
-    clock.opens() == OPENS && clock.closes() == CLOSES && are_days_of(state, from, to, read.days())
+    clock.opens() == office.opens
+        && clock.closes() == office.closes
+        && are_days_of(state, from, to, read.days())
 }
 
 /// Whether a file can be written for the years.
@@ -141,7 +199,7 @@ fn first_day(year: u16) -> Day
 }
 
 /// 31 December of the year.
-fn last_day(year: u16) -> Day
+pub(crate) fn last_day(year: u16) -> Day
     requires { IsStated (pos year) }
     ensures value { result ≡ days_from_civil (pos year) 12 31 }
     ensures near { IsNear 0 result }
@@ -150,13 +208,20 @@ fn last_day(year: u16) -> Day
 }
 
 /// The whole text.
-fn text_of(alloc: Global, court: CourtName, from: u16, to: u16) -> Result<String, AllocError>
+fn text_of(
+    alloc: Global,
+    court: CourtName,
+    own: &CourtOwn,
+    office: &Office<'_>,
+    from: u16,
+    to: u16,
+) -> Result<String, AllocError>
     requires { are_years from to ≡ true }
     ensures { IfOk result (λ text. IsTextOf court.state from to (string_bytes text)) }
 {
     let state = court.state;
     let mut text = String::new(alloc);
-    push_head(&mut text, court, from, to)?;
+    push_head(&mut text, court, own, office, from, to)?;
     let federal_note = list_note(state, HolidayList::Federal);
     push_list(
         alloc,
@@ -178,7 +243,8 @@ fn text_of(alloc: Global, court: CourtName, from: u16, to: u16) -> Result<String
         from,
         to,
     )?;
-    text.push_str(JUDGES_AND_ROOMS)?;
+    let names = judges_and_rooms(alloc, office)?;
+    text.push_str(names.as_str())?;
     push_lines(&mut text, state, Line::Named, first_day(from), last_day(to))?;
     Ok(text)
 }

@@ -9,7 +9,7 @@ use Rattle.rule6.specs.Words.{expiry_of, same_time_on, continued, end_of_hours_f
 use Rattle.rule_periods.specs.declared.expiry.Expiry.{Expiry}
 use Rattle.rule_periods.specs.declared.expiry.Expiry.TheVariants.{OnDay, AtInstant}
 use Rattle.rule_periods.specs.declared.grant.Grant.{Grant}
-use Rattle.rule_periods.specs.Words.{DeadlineRowView, act_due, is_in_hours, ends_certain, granted_if_it_fits, shown_end, shown_after, shown_of}
+use Rattle.rule_periods.specs.Words.{DeadlineRowView, act_due, is_in_hours, certain_by, granted_if_it_fits, shown_end, shown_after, shown_of}
 use Rattle.deadline_reasons.specs.Row.{access_holidays}
 use Rattle.deadline_reasons.specs.Standing.{ToCome, Aim, LastDay, Hour, AccessibleDay, AccessibleHour, Standing, Unstarted, Counting, Looking, Runs, CountingHours, HoursEnd, RunsUntil, Moved, MovedUntil, Nowhere, Ended}
 use Rattle.deadline_reasons.proofs.PassingLemmas.{found_by}
@@ -17,7 +17,7 @@ use Rattle.deadline_reasons.proofs.PassingLemmas.{found_by}
 -- an end after which these extensions come
 abbrev pub with_grants : DaysView → ClockView → DeadlineRowView → Option Expiry → List Grant → Shown
 with_grants c clock row end grants =
-    shown_after c clock (act_due row) (ends_certain row.grants) (access_holidays row) (fold (granted_if_it_fits c clock (is_in_hours row.period)) end grants)
+    shown_after c clock (act_due row) (certain_by row.period row.grants) (access_holidays row) (fold (granted_if_it_fits c clock (is_in_hours row.period)) end grants)
 
 abbrev pub three_more : DaysView → Bool → Option ℤ → Option ℤ
 three_more c false last = last

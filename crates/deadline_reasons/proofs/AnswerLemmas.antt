@@ -18,7 +18,7 @@ use Rattle.rule_periods.specs.declared.grant.Grant.{Grant}
 use Rattle.rule_periods.specs.declared.grant.Grant.TheVariants.{ByDays, ByHours, Until}
 use Rattle.rule_periods.specs.declared.period.Entered.{Entered as EnteredPeriod}
 use Rattle.rule_periods.specs.declared.period.Length.{Length}
-use Rattle.rule_periods.specs.declared.period.Length.TheVariants.{Days, Hours}
+use Rattle.rule_periods.specs.declared.period.Length.TheVariants.{Days, Hours, ToDay}
 use Rattle.rule_periods.specs.declared.period.Period.{Period}
 use Rattle.rule_periods.specs.declared.period.Period.TheVariants.{Rule, Entered}
 use Rattle.rule_periods.specs.Words.{DeadlineRowView, base_of_period, end_of_rule, end_of_length, extended_of, act_due, direction_of, grant_fits, granted, granted_if_it_fits, is_certain, is_in_hours, shown_end, shown_after, shown_of}
@@ -37,11 +37,13 @@ module _ (c : DaysView) (clock : ClockView) (row : DeadlineRowView) where
   abbrev base_by : Period → Length → Option Expiry
   base_by p (Days n) = option_map OnDay (last_day_of c (event_day row p) n (direction_of p) (adds_three row p))
   base_by p (Hours h) = option_map AtInstant (end_of_hours_from c clock (instant_of clock.zone row.event.day (60 * row.event.minute)) h (direction_of p))
+  base_by p ToDay = Some (OnDay row.event.day)
 
   entered_is : (entered : EnteredPeriod) (length : Length) → end_of_length c clock row.event length entered.direction (adds_three row (Entered entered)) ≡ base_by (Entered entered) length
   unfolding end_of_length
   entered_is entered (Days n) = refl
   entered_is entered (Hours h) = refl
+  entered_is entered ToDay = refl
 
   base_is : (p : Period) → base_of_period c clock row p ≡ base_by p (length_of row p)
   unfolding base_of_period end_of_rule
@@ -61,6 +63,8 @@ module _ (c : DaysView) (clock : ClockView) (row : DeadlineRowView) where
   begins_with (Hours n) (reason.HoursFrom instant) next h =
       ap (answer_from c clock row) h.1
       ∙ ap (λ e. with_grants c clock row (option_map AtInstant (end_of_hours_from c clock e n (direction_of row.period))) row.grants) h.0
+  begins_with ToDay (reason.Set day) next h =
+      ap (answer_from c clock row) h.1 ∙ ap (λ d. with_grants c clock row (Some (OnDay d)) row.grants) h.0
   begins_with length r next h = absurd h
 
   shown_is : shown_of c clock row ≡ with_grants c clock row (base_of_period c clock row row.period) row.grants

@@ -15,7 +15,7 @@ use Rattle.rule6.specs.Words.{next_day, meets_last_hour}
 use Rattle.rule_periods.specs.declared.grant.Grant.{Grant}
 use Rattle.rule_periods.specs.declared.grant.Grant.TheVariants.{ByDays, ByHours, Until}
 use Rattle.rule_periods.specs.declared.period.Length.{Length}
-use Rattle.rule_periods.specs.declared.period.Length.TheVariants.{Days, Hours}
+use Rattle.rule_periods.specs.declared.period.Length.TheVariants.{Days, Hours, ToDay}
 use Rattle.rule_periods.specs.Words.{DeadlineRowView, act_due, direction_of, grant_fits, is_certain, is_in_hours}
 use Rattle.deadline_reasons.specs.declared.look.Look.{Look}
 use Rattle.deadline_reasons.specs.declared.reason.Reason.{Reason}
@@ -39,10 +39,12 @@ module _ (c : DaysView) (clock : ClockView) (row : DeadlineRowView) where
   begins (Hours h) =
       let instant = instant_of clock.zone row.event.day (60 * row.event.minute) in
       (reason.HoursFrom instant, CountingHours instant h (direction_of row.period) row.grants)
+  begins ToDay = (reason.Set row.event.day, Runs row.event.day (record { three = false; grants = row.grants }))
 
   begins_one : (length : Length) (r : Reason) (next : Standing) → Begins clock row length r next → begins length ≡ (r, next)
   begins_one (Days n) (reason.Excluded day) next h = rw (h.1, h.0) refl
   begins_one (Hours n) (reason.HoursFrom instant) next h = rw (h.1, h.0) refl
+  begins_one ToDay (reason.Set day) next h = rw (h.1, h.0) refl
   begins_one length r next h = absurd h
 
   abbrev counts : ℤ → ℕ → Direction → ToCome → Reason × Standing

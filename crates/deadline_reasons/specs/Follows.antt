@@ -14,7 +14,7 @@ use Rattle.rule6.specs.Words.{next_day, hours_from, meets_last_hour}
 use Rattle.rule_periods.specs.declared.grant.Grant.{Grant}
 use Rattle.rule_periods.specs.declared.grant.Grant.TheVariants.{ByDays, ByHours, Until}
 use Rattle.rule_periods.specs.declared.period.Length.{Length}
-use Rattle.rule_periods.specs.declared.period.Length.TheVariants.{Days, Hours}
+use Rattle.rule_periods.specs.declared.period.Length.TheVariants.{Days, Hours, ToDay}
 use Rattle.rule_periods.specs.Words.{DeadlineRowView, act_due, direction_of, grant_fits, is_certain, is_in_hours}
 use Rattle.deadline_reasons.specs.declared.look.Look.{Look}
 use Rattle.deadline_reasons.specs.declared.reason.Reason.{Reason}
@@ -24,12 +24,14 @@ use Rattle.deadline_reasons.specs.Row.{length_of, event_day, adds_three, needs_a
 use Rattle.deadline_reasons.specs.Standing.{ToCome, Aim, LastDay, Hour, AccessibleDay, AccessibleHour, Standing, Unstarted, Counting, Looking, Runs, CountingHours, HoursEnd, RunsUntil, Moved, MovedUntil, Nowhere, Ended, grants_behind}
 
 -- Days are counted from the day of the event, which is excluded (Fed. R. Civ. P. 6(a)(1)(A)); hours from its instant,
--- at once (6(a)(2)(A)).
+-- at once (6(a)(2)(A)). Up to a date certain, which an order sets, nothing is counted (2009 Note to Fed. R. Civ. P. 6(a)).
 abbrev pub Begins : ClockView → DeadlineRowView → Length → Reason → Standing → Type 0
 Begins clock row (Days n) (reason.Excluded day) next =
     (day ≡ event_day row row.period) × (next ≡ Counting day n (direction_of row.period) (record { three = adds_three row row.period; grants = row.grants }))
 Begins clock row (Hours h) (reason.HoursFrom instant) next =
     (instant ≡ instant_of clock.zone row.event.day (60 * row.event.minute)) × (next ≡ CountingHours instant h (direction_of row.period) row.grants)
+Begins clock row ToDay (reason.Set day) next =
+    (day ≡ row.event.day) × (next ≡ Runs day (record { three = false; grants = row.grants }))
 Begins clock row length r next = ⊥
 
 -- Every day counts, and the last one is included (6(a)(1)(B), (C)).

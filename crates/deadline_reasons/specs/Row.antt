@@ -4,7 +4,7 @@ use Rattle.rule_periods.specs.declared.period.Length.{Length}
 use Rattle.rule_periods.specs.declared.period.Length.TheVariants.{Days}
 use Rattle.rule_periods.specs.declared.period.Period.{Period}
 use Rattle.rule_periods.specs.declared.period.Period.TheVariants.{Rule, Entered}
-use Rattle.rule_periods.specs.Words.{DeadlineRowView, terms_of, runs_from, service_rule_of, runs_from_service, kind_adds, act_due, direction_of, ends_certain, access_direction, is_moved_by_access}
+use Rattle.rule_periods.specs.Words.{DeadlineRowView, terms_of, runs_from, service_rule_of, runs_from_service, kind_adds, act_due, direction_of, certain_by, access_direction, is_moved_by_access}
 use Rattle.court_clock.specs.declared.direction.Direction.{Direction}
 
 -- how long the period is
@@ -25,7 +25,7 @@ adds_three row (Entered entered) = entered.served && kind_adds row.service row.e
 -- the time is one for filing and ends on no date certain, so that it matters whether the clerk's office was accessible
 -- (6(a)(3))
 abbrev pub needs_access : DeadlineRowView → Bool
-needs_access row = is_moved_by_access (act_due row) (ends_certain row.grants)
+needs_access row = is_moved_by_access (act_due row) (certain_by row.period row.grants)
 
 -- whose holidays are passed over where an accessible day is looked for
 abbrev pub access_holidays : DeadlineRowView → Direction

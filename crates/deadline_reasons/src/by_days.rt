@@ -1,4 +1,4 @@
-//! The reasons of a period that is stated in days.
+//! The reasons of a period that is stated in days, and of a day that an order sets.
 
 ghost use Rattle.std.specs.Prelude.{◌≡◌, ◌≤◌, true, false, [], ◌∷◌, List, IfOk};
 ghost use Rattle.court_clock.specs.Words.{ClockView, counted_from};
@@ -39,6 +39,22 @@ pub(crate) fn push_days(
     let expiry = count(days, reasons, event, n, row.period().direction())?;
     let last = three_more(days, row, reasons, expiry)?;
     let extended = extend_all(days, row, reasons, last)?;
+    close(days, clock, row, reasons, extended)
+}
+
+/// Adds the reasons of a deadline whose end an order sets.
+pub(crate) fn push_set(
+    days: &Days,
+    clock: &Clock,
+    row: &DeadlineRow,
+    reasons: &mut Vec<Reason>,
+) -> Result<(), AllocError>
+    requires { length_of row.now row.now.period ≡ stated.ToDay }
+    ensures { IfOk result (λ _. (shown : Shown) × LeadsOn days.now clock.now row.now reasons.old.items reasons.new.items Unstarted (Ended shown)) }
+{
+    let day = row.event().day();
+    push(reasons, Reason::Set(day))?;
+    let extended = extend_all(days, row, reasons, Some(day))?;
     close(days, clock, row, reasons, extended)
 }
 

@@ -7,7 +7,7 @@ ghost use Rattle.deadline_reasons.specs.Derivation.{IsDerivation};
 ghost use Rattle.deadline_reasons.specs.Inside.Leading.{LeadsOn};
 ghost use Rattle.deadline_reasons.specs.Standing.{Unstarted, Ended};
 
-use crate::by_days::push_days;
+use crate::by_days::{push_days, push_set};
 use crate::by_hours::push_hours;
 use crate::reason::Reason;
 use crate::row::length;
@@ -31,7 +31,7 @@ pub fn reasons_of(
     Ok(reasons)
 }
 
-/// Adds the reasons of a period of either kind.
+/// Adds the reasons of a period of any kind.
 fn push_all(
     days: &Days,
     clock: &Clock,
@@ -43,5 +43,6 @@ fn push_all(
     match length(row) {
         Length::Days(n) => push_days(days, clock, row, reasons, n),
         Length::Hours(h) => push_hours(days, clock, row, reasons, h),
+        Length::ToDay => push_set(days, clock, row, reasons),
     }
 }

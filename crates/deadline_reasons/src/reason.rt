@@ -34,6 +34,8 @@ pub enum Cause {
 pub enum Reason {
     /// The day of the event is excluded (Fed. R. Civ. P. 6(a)(1)(A)). Of two events it is the later.
     Excluded(Day),
+    /// An order sets the end on this day, a date certain: nothing is counted, and it isn't rolled (2009 Note to 6(a)).
+    Set(Day),
     /// This number of days is counted, every day counts, and this day is the last of them (6(a)(1)(B), (C)).
     Counted(u32, Day),
     /// The day is passed over, and the next one is looked at, away from the event (6(a)(1)(C), (a)(5), (a)(6)), or

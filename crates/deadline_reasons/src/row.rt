@@ -6,7 +6,7 @@ ghost use Rattle.deadline_reasons.specs.Row.{length_of, event_day, adds_three, n
 
 use court_clock::{Day, Direction};
 use rule_periods::{
-    DeadlineRow, Length, Period, access_direction, act_due, ends_certain, is_moved_by_access,
+    DeadlineRow, Length, Period, access_direction, act_due, certain_by, is_moved_by_access,
     kind_adds, runs_from, runs_from_service,
 };
 use rule6::ServiceKind;
@@ -59,7 +59,7 @@ fn adds_three(row: &DeadlineRow) -> bool
 pub(crate) fn needs_access(row: &DeadlineRow) -> bool
     ensures { result ≡ needs_access row.now }
 {
-    is_moved_by_access(act_due(row), ends_certain(row.grants()))
+    is_moved_by_access(act_due(row), certain_by(row.period(), row.grants()))
 }
 
 /// Whose holidays are passed over where an accessible day is looked for.

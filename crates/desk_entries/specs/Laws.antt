@@ -21,6 +21,7 @@ plain court = record { court = court; corrections = no_corrections }
 
 -- The answers to lines that have no fault, one by one, after a court's file and with nothing struck, are those that a run of
 -- clerk_office writes of their rows together: its text is these answers and then the sheets and calendars of the docket after them.
+-- (A row that the desk alone takes is answered as the definition of such a run answers it. clerk_office reads none.)
 abbrev pub AnswersAreTheRuns : Type 0
 AnswersAreTheRuns = (court : CourtView) (file : List ℕ) (lines : List (List ℕ)) → All (HasNoFault (names_of court)) lines → length lines < most_rows
     → run_text court (rows_in (names_of court) lines)

@@ -9,7 +9,7 @@ use Rattle.desk_register.specs.declared.cause.LineCause.{LineCause}
 use Rattle.desk_register.specs.declared.cause.LineCause.TheVariants as lines
 use Rattle.desk_entries.specs.Words.{too_many_words, unfound_words}
 use Rattle.row_forms.specs.declared.headings.columns.Column.{Column}
-use Rattle.row_forms.specs.declared.headings.columns.Column.TheVariants.{Case, Deadline, Motion, Date, Notice, SecondOrNone, Time, From, TimeOrNone, Start, To, Period, ServiceOrNone, Means, Grant, ByMotion, Cause, Neglect, Need, Judge, Judges, Slots, Holidays, Clerk, Command, Room}
+use Rattle.row_forms.specs.declared.headings.columns.Column.TheVariants.{Case, Deadline, Motion, Date, Notice, SecondOrNone, Time, From, TimeOrNone, Start, To, Period, ServiceOrNone, Means, Grant, ByMotion, Cause, Neglect, Need, Judge, Judges, Slots, Holidays, SetTime, Act, Clerk, Command, Room}
 use Rattle.desk_program.specs.declared.shown.LineEnds.TheVariants.{Escaped}
 use Rattle.desk_program.specs.Shown.{shown}
 use Rattle.row_forms.specs.Headings.Words.{column_at, columns_of, commands_listed, mark_of}
@@ -48,6 +48,8 @@ expected Judge = codes "a judge, or up to three joined by +"
 expected Judges = codes "a judge, or up to three joined by +"
 expected Slots = codes "half hours, as 2, or quarter hours, as 3q"
 expected Holidays = codes "federal or state"
+expected SetTime = codes "nothing, since an order sets a day as a whole"
+expected Act = codes "filing or service"
 expected Clerk = codes "what FORMATS.md has under Rows"
 expected Command = codes "what FORMATS.md has under Rows"
 expected Room = codes "what FORMATS.md has under Rows"

@@ -3,6 +3,7 @@ use Rattle.std.specs.Prelude.{◌≡◌, ◌≤◌, ℕ, true, false, IsTrue, Li
 use Rattle.sqlite_disk.specs.declared.Disk as disk
 use Rattle.desk_journal.specs.declared.journal_end.JournalEnd.{JournalEnd}
 use Rattle.desk_journal.specs.Words.{Frame, IsEndOf, IsWhole, StampView, StandsFor, entries_of}
+use Rattle.desk_register.specs.declared.standing.Standing.{Standing}
 use Rattle.desk_entries.specs.Words.{IsDocketed, are_rows}
 use Rattle.desk_warnings.specs.declared.register.HeldBack.{HeldBack}
 use Rattle.desk_program.specs.declared.desk.Desk.{Desk}
@@ -14,6 +15,10 @@ use Rattle.desk_program.specs.Desk.{KeepsDocket, disk_under, held_at, stamp_unde
 -- where its journal ended
 abbrev pub end_in : Remembered → JournalEnd
 end_in remembered = remembered.end
+
+-- what stood there
+abbrev pub standing_in : Remembered → Standing
+standing_in remembered = remembered.docketed.standing
 
 -- what is held back of the rows that are entered when the desk goes on
 abbrev pub held_in : Remembered → HeldBack

@@ -66,6 +66,8 @@ fn expected(column: Column) -> &'static str
         Column::Judge | Column::Judges => "a judge, or up to three joined by +",
         Column::Slots => "half hours, as 2, or quarter hours, as 3q",
         Column::Holidays => "federal or state",
+        Column::SetTime => "nothing, since an order sets a day as a whole",
+        Column::Act => "filing or service",
         Column::Clerk | Column::Command | Column::Room => "what FORMATS.md has under Rows",
     }
 }

@@ -4,7 +4,8 @@ ghost use Rattle.desk_journal.specs.Words.{BeginsWith, Frame, IsDurable, KeepsFr
 
 use crate::desk::Desk;
 use crate::faults::OpenFault;
-use desk_entries::Docketed;
+use court_days::Court;
+use desk_entries::{Docketed, Standing};
 use desk_journal::{Journal, JournalEnd, Stamp};
 use desk_warnings::{CarefulRegister, CarefulStanding, HeldBack};
 use sqlite_disk::Disk;
@@ -79,13 +80,27 @@ impl<D: Disk> Desk<D> {
 
 impl Remembered {
     ghost use Rattle.desk_program.specs.Desk.{IsUnopened};
-    ghost use Rattle.desk_program.specs.Remembered.{GivesStamp, GoesOnAs, Remembers, end_in, held_in, holds_back};
+    ghost use Rattle.desk_program.specs.Remembered.{GivesStamp, GoesOnAs, Remembers, end_in, held_in, holds_back, standing_in};
 
     /// Where the journal ended that was left.
     pub fn end(&self) -> &JournalEnd
         ensures { result.now ≡ end_in self.now }
     {
         &self.end
+    }
+
+    /// What stood there: the court, and what strikes come to.
+    pub fn standing(&self) -> &Standing
+        ensures { result.now ≡ standing_in self.now }
+    {
+        &self.docketed.standing
+    }
+
+    /// The court by which the docket went.
+    pub fn court(&self) -> &Court
+        ensures { result.now ≡ (standing_in self.now).court }
+    {
+        &self.docketed.standing.court
     }
 
     /// Goes on with a desk that was left, on its disk opened anew: only what others kept since is read and decided. What is kept there gets

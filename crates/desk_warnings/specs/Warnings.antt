@@ -7,7 +7,7 @@ use Rattle.court_clock.specs.Words.{ClockView}
 use Rattle.court_days.specs.Words.{CourtView}
 use Rattle.rule6.specs.declared.timeliness.Filing.{Filing}
 use Rattle.rule_periods.specs.declared.grant.Request.{Request}
-use Rattle.rule_periods.specs.Words.{DeadlineRowView, direction_of, runs_from, with_grant}
+use Rattle.rule_periods.specs.Words.{DeadlineRowView, runs_from, with_grant}
 use Rattle.hearing_slots.specs.declared.booking.Booking.{Booking}
 use Rattle.hearing_slots.specs.Words.{on_day}
 use Rattle.docket_rows.specs.declared.answer.Answer.TheVariants as answer
@@ -36,7 +36,7 @@ at_start court parts today (Some c) row =
 -- on an act: it comes before the day from which its period runs, where that is counted after its event
 abbrev pub on_act : Option DeadlineRowView → Filing → List ℕ
 on_act None filing = []
-on_act (Some row) filing = early_act (direction_of row.period) (runs_from row) (Some filing)
+on_act (Some row) filing = early_act row.period (runs_from row) (Some filing)
 
 -- on an extension: the end that it gives is past when it is asked for, or lies after the event it counts back from
 abbrev pub on_request : CourtView → Parts → Option DeadlineRowView → Request → List ℕ

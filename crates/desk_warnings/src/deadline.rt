@@ -29,12 +29,7 @@ pub(crate) fn push_act(
         return Ok(());
     };
     let row = row.row();
-    push_early_act(
-        text,
-        row.period().direction(),
-        runs_from(row),
-        Some(*filing),
-    )
+    push_early_act(text, row.period(), runs_from(row), Some(*filing))
 }
 
 /// Adds what a clerk is warned of an extension that isn't refused.

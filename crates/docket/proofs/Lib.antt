@@ -1,2 +1,3 @@
+mod ClerkLemmas
 mod SessionLemmas
 pub mod TimeLemmas

@@ -42,6 +42,16 @@ held_promised g desk desk_held desk_after held before after HasWritten keep same
     subst (λ (h : HeldBack). PromisesLines (standing_at desk) h kept before after HasWritten (g.may_leave (disk_under desk_after))) is
     (subst (λ (s : Standing). PromisesLines s (held_at desk_held) kept before after HasWritten (g.may_leave (disk_under desk_after))) same (promised kept (keep kept keeps)))
 
+-- What is promised of a turn, whose answers are gathered in an empty text, and which leaves the disk of its desk.
+pub turn_promised : {D : Type 0} (g : disk.Ghosts D) (desk desk_held desk_after : DeskOver D) (left : D) (held : HeldBack) (none said : List ℕ) (HasWritten : Type 0)
+    → ((kept : List (List ℕ)) → KeepsDocket g kept desk → KeepsDocket g kept desk_held) → standing_at desk_held ≡ standing_at desk → held_at desk_held ≡ held → none ≡ [] → left ≡ disk_under desk_after
+    → PromisesSession g (held_at desk_held) desk_held desk_after (Some none) (Some said) HasWritten
+    → (kept : List (List ℕ)) → KeepsDocket g kept desk → PromisesLines (standing_at desk) held kept (Some []) (Some said) HasWritten (g.may_leave left)
+turn_promised {D} g desk desk_held desk_after left held none said HasWritten keep same is nothing given promised kept keeps =
+    let whole : PromisesSession g held desk desk_after (Some none) (Some said) HasWritten = held_promised g desk desk_held desk_after held (Some none) (Some said) HasWritten keep same is promised in
+    subst (λ (d : D). PromisesLines (standing_at desk) held kept (Some []) (Some said) HasWritten (g.may_leave d)) (sym given)
+    (subst (λ (l : List ℕ). PromisesLines (standing_at desk) held kept (Some l) (Some said) HasWritten (g.may_leave (disk_under desk_after))) nothing (whole kept keeps))
+
 -- what follows of two things that are so of a value, if there is one
 pub ok_both : {A E : Type 0} (r : Result A E) (P Q S : A → Type 0) → ((a : A) → P a → Q a → S a) → IfOk r P → IfOk r Q → IfOk r S
 ok_both (Ok a) P Q S more h i = more a h i

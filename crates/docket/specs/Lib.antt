@@ -2,6 +2,7 @@ pub mod Endings
 pub mod Folder
 pub mod JournalFile
 pub mod Lines
+pub mod Lock
 pub mod Logs
 pub mod Reports
 pub mod Saved

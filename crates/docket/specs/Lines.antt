@@ -9,7 +9,7 @@ use Rattle.docket.specs.declared.fault.Fault.TheVariants.{Desk, Told}
 
 -- what is told of lines is JSON
 abbrev pub is_json : Lines → Bool
-is_json Plain = false
+is_json (Plain clerk) = false
 is_json (AsWritten style) = style.json
 
 -- the fault of so many lines: where it is told as JSON, standard error has all of it

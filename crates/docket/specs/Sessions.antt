@@ -1,8 +1,8 @@
 -- Sessions of lines, and what is said of a row that is struck or restored.
-use Rattle.std.specs.Prelude.{◌≡◌, ◌<◌, ◌⊎◌, ℕ, ℤ, List, ◌++◌, ⊤, Option, Result, Ok, Err, codes, string_bytes}
+use Rattle.std.specs.Prelude.{◌≡◌, ◌<◌, ◌⊎◌, ℕ, ℤ, IsTrue, List, ◌++◌, ⊤, Option, Result, Ok, Err, codes, string_bytes}
 use Rattle.sqlite_disk.specs.declared.Disk as disk
 use Rattle.court_clock.specs.Words.{day_text}
-use Rattle.desk_journal.specs.Words.{IsWhole, StandsFor}
+use Rattle.desk_journal.specs.Words.{BeginsWith, Frame, IsWhole, StandsFor}
 use Rattle.desk_register.specs.declared.standing.Standing.{Standing}
 use Rattle.desk_entries.specs.Words.{StandsAfter}
 use Rattle.desk_warnings.specs.declared.register.HeldBack.{HeldBack}
@@ -11,9 +11,10 @@ use Rattle.program_words.specs.declared.task.Correcting.{Correcting}
 use Rattle.desk_session.specs.declared.outcome.Tally.{Tally}
 use Rattle.desk_program.specs.declared.desk.Desk.{Desk}
 use Rattle.desk_program.specs.declared.faults.desk.DeskFault.TheVariants.{Faulty}
+use Rattle.desk_program.specs.declared.remembered.Remembered.{Remembered}
 use Rattle.desk_program.specs.declared.row_correction.RowCorrection.{RowCorrection}
 use Rattle.desk_program.specs.declared.row_correction.RowCorrection.TheVariants as done
-use Rattle.desk_program.specs.Words.{IsPromisedDocket, KeepsDocket, disk_under, standing_at}
+use Rattle.desk_program.specs.Words.{IsPromisedDocket, KeepsDocket, Remembers, disk_under, standing_at}
 use Rattle.docket.specs.declared.fault.Fault.{Fault}
 use Rattle.docket.specs.declared.fault.Fault.TheVariants as fault
 
@@ -42,6 +43,15 @@ pub record EntersFile (file : List ℕ) (held : HeldBack) (before after : Option
   pub whole : IsWhole file
   pub stands : StandsAfter entries under
   pub promised : PromisesLines under held entries before after HasWritten MayLeave
+
+-- A docket that was left goes on with a file that begins with what its journal was then: others have only appended to it since.
+abbrev pub IsLeftIn : (file : List ℕ) → Remembered → Type 0
+IsLeftIn file remembered = (fs : List Frame) × Remembers fs remembered × BeginsWith file fs
+
+-- Unless a wrong answer of the disk was taken as true, the file stands for some entries, of which none is damaged, and the desk keeps just
+-- these.
+abbrev pub Resumes : {D : Type 0} → (g : disk.Ghosts D) → (file : List ℕ) → Desk D → Type 0
+Resumes g file desk = IsTrue (g.is_clean (disk_under desk)) → (entries : List (List ℕ)) × StandsFor file entries × IsWhole file × KeepsDocket g entries desk
 
 -- what was done with a row, struck or restored, when, by which account and why
 unfoldable pub remark_text : (done : List ℕ) → (day : ℤ) → (account reason : List ℕ) → List ℕ

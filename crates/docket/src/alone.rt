@@ -1,4 +1,4 @@
-//! What the program does while no other one has the folder's journal open, but for entering rows.
+//! What the program does while no other one has the folder, but for entering rows.
 ghost use Rattle.std.specs.Prelude.{◌≡◌, ◌<◌, ◌≤◌, ◌++◌, codes, length, false, string_bytes, IfOk, OnOk};
 ghost use Rattle.court_clock.specs.Words.{day_text};
 ghost use Rattle.desk_register.specs.declared.standing.Standing.{Standing};
@@ -8,21 +8,35 @@ ghost use Rattle.docket.specs.Sessions.{done_text, remark_by, remark_text};
 ghost use Rattle.program_streams.specs.Words.{has_failed, watched};
 
 use crate::fault::Fault;
-use crate::folder::{end_desk, make_folder, opened, read_file, remove_spare, stamp_now, sync_made};
+use crate::folder::{
+    end_desk, gathered, make_folder, opened, put, read_file, remove_spare, stamp_now, sync_made,
+};
 use crate::journal_file::{check_place, journal_name};
+use crate::lock::lock_of;
+use crate::shared_file::share;
 use court_clock::Day;
 use court_days::Court;
-use desk_program::{Desk, DeskFault, RowCorrection, StrikingFault, check_court, open_file};
+use desk_program::{
+    Desk, DeskFault, FileFault, RowCorrection, StrikingFault, check_court, file_fault, open_file,
+};
 use desk_session::account_of;
 use program_main::today_by;
 use program_streams::Watched;
-use program_words::Correcting;
+use program_words::{Changing, Correcting};
 use sqlite_disk::Disk;
 use sqlite_std_file::Wary;
 use std::alloc::{AllocError, Global};
 use std::io::Write;
 use std::sync::Wait;
 use std::thread::Threads;
+
+// Lets those use a folder's journal who may use the folder.
+fn shared(rt: &HostRuntime, folder: &str, journal: &str) -> Result<(), FileFault> {
+    match share(rt, folder, journal) {
+        Ok(()) => Ok(()),
+        Err(error) => Err(file_fault(rt.alloc(), journal, error)),
+    }
+}
 
 /// Makes a folder with a court's file as the first entry of its journal, and has the disk keep it. A file with a fault makes no
 /// folder.
@@ -37,6 +51,7 @@ pub fn init(rt: &HostRuntime, folder: &str, court: &str) -> Result<(), Fault> {
     match Desk::begin(rt.alloc(), disk, file, stamp) {
         Ok(_) => {
             remove_spare(rt, folder);
+            shared(rt, folder, name.as_str())?;
             Ok(sync_made(rt, folder)?)
         }
         Err((fault, disk)) => {
@@ -127,6 +142,16 @@ fn corrected<D: Disk, W: Write>(
     )
 }
 
+/// Writes what was said while the folder was this program's, now that it is others' again.
+pub fn write_said<W: Write>(writer: &mut Watched<W>, said: &Watched<Vec<u8>>) -> Result<(), Fault>
+    requires { has_failed writer.old ≡ false }
+{
+    if said.failed() {
+        return Err(Fault::Desk(DeskFault::OutOfMemory));
+    }
+    Ok(put(writer, said.inner())?)
+}
+
 /// Writes what would change without a row, or with one that is struck, and strikes or restores it if no answer would, or where that is
 /// accepted.
 pub fn correct<H: Threads + Wait + Sync, W: Write>(
@@ -140,10 +165,12 @@ pub fn correct<H: Threads + Wait + Sync, W: Write>(
     requires { has_failed writer.old ≡ false }
 {
     let account = account_of(rt)?;
+    let lock = lock_of(rt, folder, correcting.wait)?;
     let (mut desk, entries) = opened(rt, threads, folder, Wary)?;
+    let mut said = gathered(rt.alloc());
     let ended = corrected(
         rt.alloc(),
-        writer,
+        &mut said,
         &mut desk,
         &entries,
         done,
@@ -151,6 +178,8 @@ pub fn correct<H: Threads + Wait + Sync, W: Write>(
         correcting,
     );
     end_desk(rt, folder, desk);
+    drop(lock);
+    write_said(writer, &said)?;
     Ok(ended?)
 }
 
@@ -161,14 +190,17 @@ pub fn change<H: Threads + Wait + Sync, W: Write>(
     threads: &H,
     writer: &mut Watched<W>,
     folder: &str,
-    court: &str,
-    accept: bool,
+    changing: &Changing,
 ) -> Result<(), Fault>
     requires { has_failed writer.old ≡ false }
 {
-    let file = read_file(rt, court)?;
+    let file = read_file(rt, changing.file.as_str())?;
+    let lock = lock_of(rt, folder, changing.wait)?;
     let (mut desk, entries) = opened(rt, threads, folder, Wary)?;
-    let ended = desk.change(rt.alloc(), &entries, &file, accept, writer);
+    let mut said = gathered(rt.alloc());
+    let ended = desk.change(rt.alloc(), &entries, &file, changing.accept, &mut said);
     end_desk(rt, folder, desk);
+    drop(lock);
+    write_said(writer, &said)?;
     Ok(ended?)
 }

@@ -9,6 +9,7 @@ ghost use Rattle.docket.specs.Reports.{WritesCases, WritesRows};
 ghost use Rattle.docket.specs.Sessions.{WithTally};
 ghost use Rattle.program_streams.specs.Words.{has_failed, watched};
 
+use crate::clerk::lines_of;
 use crate::fault::{Fault, taken};
 use crate::folder::{copied_beside, entries_beside, put};
 use crate::input::{reading_of, rows_of};
@@ -18,7 +19,6 @@ use desk_program::{
     Desk, DeskFault, OutputFault, ask as answer, checked_rows, write_cases, write_count,
     write_rows, write_struck,
 };
-use desk_session::ShortLines;
 use desk_warnings::HeldBack;
 use program_streams::Watched;
 use program_words::{AsOf, Lines, Style};
@@ -65,7 +65,7 @@ pub fn try_rows<H: Threads + Wait + Sync, W: Write, E: Write>(
     let mut desk = copied_beside(rt, threads, folder)?;
     desk.hold_back(held_back);
     match rows_of(rt, errors, desk.court(), lines, held_back.are_marked()) {
-        Ok(None) => tried(rt.alloc(), ShortLines::new(rt.stdin()), writer, desk),
+        Ok(None) => tried(rt.alloc(), lines_of(rt, lines)?, writer, desk),
         Ok(Some(rows)) => tried(rt.alloc(), rows.as_slice(), writer, desk),
         Err(fault) => Err(fault),
     }
@@ -120,7 +120,7 @@ pub fn ask<H: Threads + Wait + Sync, W: Write, E: Write>(
     let (docketed, entries) = docketed_beside(rt, threads, folder, as_of)?;
     drop(entries);
     match rows_of(rt, errors, &docketed.standing.court, lines, false) {
-        Ok(None) => answered(rt.alloc(), ShortLines::new(rt.stdin()), writer, docketed),
+        Ok(None) => answered(rt.alloc(), lines_of(rt, lines)?, writer, docketed),
         Ok(Some(rows)) => answered(rt.alloc(), rows.as_slice(), writer, docketed),
         Err(fault) => Err(fault),
     }

@@ -29,6 +29,8 @@ pub enum Fault {
     Missing(String),
     /// The file of the folder's journal can't be used, as this line says, which ends with LF.
     Unusable(String),
+    /// Other programs had the folder for as long as this one was to wait, as this line says, which ends with LF.
+    Waited(String),
     /// No court's file is written.
     NotWritten(WriteFault),
     /// Standard error says already what is wrong. The program ends with this status.
@@ -134,7 +136,7 @@ fn not_written<E: Write>(alloc: Global, errors: &mut Watched<E>, fault: &WriteFa
     ensures { (result ≡ write_status fault.now) ⊎ (result ≡ 5) }
 {
     let status = match fault {
-        WriteFault::BadYears => 1,
+        WriteFault::BadYears | WriteFault::BadHours => 1,
         WriteFault::NotReadBack => 2,
         WriteFault::OutOfMemory => return ended_by(alloc, errors, &DeskFault::OutOfMemory),
     };
@@ -156,6 +158,15 @@ fn unusable<E: Write>(errors: &mut Watched<E>, line: &str) -> u8
     10
 }
 
+// Says that other programs had the folder.
+fn waited<E: Write>(errors: &mut Watched<E>, line: &str) -> u8
+    ensures status { result ≡ 11 }
+    ensures line { IsGiven E.contents errors.old errors.new line.now }
+{
+    let _ = refused(errors, line);
+    11
+}
+
 /// Says on standard error why the program ends, as far as it can be written, and gives the status.
 pub fn told<E: Write>(alloc: Global, errors: &mut Watched<E>, fault: &Fault) -> u8
     ensures { IsTold fault.now result (IsGiven E.contents errors.old errors.new) }
@@ -165,6 +176,7 @@ pub fn told<E: Write>(alloc: Global, errors: &mut Watched<E>, fault: &Fault) -> 
         Fault::Input(fault) => runs::ended_by(alloc, errors, fault),
         Fault::Missing(line) => missing(errors, line.as_str()),
         Fault::Unusable(line) => unusable(errors, line.as_str()),
+        Fault::Waited(line) => waited(errors, line.as_str()),
         Fault::NotWritten(fault) => not_written(alloc, errors, fault),
         Fault::Told(status) => *status,
     }

@@ -1,5 +1,5 @@
 //! A folder with a journal.
-ghost use Rattle.std.specs.Prelude.{◌≡◌, ◌<◌, ◌≤◌, ℕ, List, Err, length, false, string_bytes, IfOk, OnErr, OnOk};
+ghost use Rattle.std.specs.Prelude.{◌≡◌, ◌<◌, ◌≤◌, [], ℕ, List, Err, length, false, string_bytes, IfOk, OnErr, OnOk};
 ghost use Rattle.std.specs.Io.KnownBytes.{Appends};
 ghost use Rattle.desk_journal.specs.Words.{IsDurable, batch_of};
 ghost use Rattle.docket.specs.Folder.{IsOpened, above_name, fault_in_memory, spare_name};
@@ -25,6 +25,14 @@ use std::thread::Threads;
 
 /// A docket over the journal of a folder.
 pub type FolderDesk = Desk<FileFrom<Wary>>;
+
+/// A text in memory to which is written, empty at first.
+pub fn gathered(alloc: Global) -> Watched<Vec<u8>>
+    ensures empty { (watched result).items ≡ [] }
+    ensures works { has_failed result ≡ false }
+{
+    Watched::new(Vec::new(alloc))
+}
 
 /// Writes bytes, in full.
 pub fn put<W: Write>(writer: &mut Watched<W>, bytes: &[u8]) -> Result<(), OutputFault>

@@ -132,7 +132,7 @@ pub fn rows_of<E: Write>(
     marked: bool,
 ) -> Result<Option<Vec<u8>>, Fault> {
     match lines {
-        Lines::Plain => Ok(None),
+        Lines::Plain(_) => Ok(None),
         Lines::AsWritten(style) => {
             let reading = reading_of(rt, errors, court, style, marked)?;
             Ok(Some(reading.placed))

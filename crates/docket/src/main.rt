@@ -3,21 +3,31 @@
 #![tactic(auto)]
 
 mod alone;
+mod answered;
 mod beside;
+mod clerk;
 mod court;
+mod court_update;
 mod enter;
 mod fault;
 mod folder;
 mod input;
 mod journal_file;
+mod keep;
+mod lock;
+mod locked_turn;
 mod logs;
+mod own_rows;
 mod place;
 mod progress;
 mod reports;
 mod saved;
+mod session;
 mod session_mark;
+mod shared_file;
 mod tasks;
 mod times;
+mod turn;
 
 use desk_program::{DeskFault, ended_by};
 use fault::{misspoken, told};

@@ -1,6 +1,6 @@
-//! Which file a name leads to, and standard input that ends once the name leads to another one.
-use std::fs;
-use std::io::{self, ErrorKind, Read};
+//! Which file a name leads to.
+use std::fs::{self, File, Metadata};
+use std::io;
 use std::os::unix::fs::MetadataExt;
 
 /// A file, as the system tells it from all others: by its device, and by its number there.
@@ -10,13 +10,22 @@ pub struct Place {
     number: u64,
 }
 
-/// The file to which a name leads, through links.
-pub fn place_of(rt: &HostRuntime, name: &str) -> io::Result<Place> {
-    let found = fs::metadata(rt, name)?;
-    Ok(Place {
+// The place of a file of which this is known.
+fn place_by(found: &Metadata) -> Place {
+    Place {
         device: found.dev(),
         number: found.ino(),
-    })
+    }
+}
+
+/// The file to which a name leads, through links.
+pub fn place_of(rt: &HostRuntime, name: &str) -> io::Result<Place> {
+    Ok(place_by(&fs::metadata(rt, name)?))
+}
+
+// The file that is open.
+fn place_in(file: &File) -> io::Result<Place> {
+    Ok(place_by(&file.metadata()?))
 }
 
 /// Whether a name leads to another file than this, or to none.
@@ -27,29 +36,10 @@ pub fn is_replaced(rt: &HostRuntime, name: &str, place: Place) -> bool {
     }
 }
 
-/// Standard input, whose reads fail once a name leads to another file than it did. A read looks after it has waited for its bytes, so
-/// that none of them is given that came after the change.
-#[derive(Drop)]
-pub struct GuardedInput<'a> {
-    rt: &'a HostRuntime,
-    name: String,
-    place: Place,
-}
-
-impl<'a> GuardedInput<'a> {
-    /// Standard input, guarded by what the name leads to.
-    pub fn new(rt: &'a HostRuntime, name: String, place: Place) -> GuardedInput<'a> {
-        GuardedInput { rt, name, place }
-    }
-}
-
-impl<'a> Read for GuardedInput<'a> {
-    fn read(&mut self, buf: &mut [u8]) -> io::Result<usize> {
-        let mut input = self.rt.stdin();
-        let count = input.read(buf)?;
-        if is_replaced(self.rt, self.name.as_str(), self.place) {
-            return Err(ErrorKind::Other.into());
-        }
-        Ok(count)
+/// Whether a file that is open is the one at its name.
+pub fn is_at(rt: &HostRuntime, name: &str, file: &File) -> bool {
+    match place_in(file) {
+        Ok(place) => !is_replaced(rt, name, place),
+        Err(_) => false,
     }
 }

@@ -4,8 +4,9 @@ ghost use Rattle.std.specs.Io.KnownBytes.{Appends};
 ghost use Rattle.docket.specs.Saved.{cut_name, day_at, many_line, one_line, saved_line};
 
 use crate::folder::{read_file, sync_folder};
+use crate::shared_file::new_file;
 use court_clock::Day;
-use desk_journal::tail_in;
+use desk_journal::{JournalEnd, JournalFault, tail_after, tail_in};
 use desk_program::{FileFault, file_fault};
 use desk_session::second_of;
 use program_runs::refused;
@@ -13,6 +14,7 @@ use program_streams::Watched;
 use std::alloc::{AllocError, Global};
 use std::fs::{self, File};
 use std::io::{self, ErrorKind, Write};
+use std::os::unix::fs::FileExt;
 
 // How many files there may be of what was cut off on one day.
 const MOST_CUT: u32 = 1_000;
@@ -69,27 +71,21 @@ fn saved_line(alloc: Global, count: usize, name: &str) -> Result<String, AllocEr
     }
 }
 
-// A new file of that name, if there is none yet.
-fn new_file(rt: &HostRuntime, name: &str) -> Result<Option<File>, FileFault> {
-    match File::create_new(rt, name) {
-        Ok(file) => Ok(Some(file)),
-        Err(error) if error.kind() == ErrorKind::AlreadyExists => Ok(None),
-        Err(error) => Err(file_fault(rt.alloc(), name, error)),
-    }
-}
-
 // A new file for what is cut off on that day, and its name: that of the first number of which there is none.
 fn cut_file(rt: &HostRuntime, folder: &str, day: Day) -> Result<(String, File), FileFault> {
     for number in 1..MOST_CUT {
         let name = cut_name(rt.alloc(), folder, day, number)?;
-        if let Some(file) = new_file(rt, name.as_str())? {
+        if let Some(file) = new_file(rt, folder, name.as_str())? {
             return Ok((name, file));
         }
     }
     let name = cut_name(rt.alloc(), folder, day, MOST_CUT)?;
-    match File::create_new(rt, name.as_str()) {
-        Ok(file) => Ok((name, file)),
-        Err(error) => Err(file_fault(rt.alloc(), name.as_str(), error)),
+    match new_file(rt, folder, name.as_str())? {
+        Some(file) => Ok((name, file)),
+        None => {
+            let error = io::Error::from(ErrorKind::AlreadyExists);
+            Err(file_fault(rt.alloc(), name.as_str(), error))
+        }
     }
 }
 
@@ -120,15 +116,8 @@ fn saved(rt: &HostRuntime, folder: &str, tail: &[u8]) -> Result<String, FileFaul
     }
 }
 
-/// Saves what a crash left after the last entry of a folder's journal, of which this is the name, and says so on standard error.
-/// The journal's file has to be open, so that no other program writes to it. Of a journal that is damaged, or has no entries, nothing is
-/// saved, since nothing of it is cut off.
-pub fn save_tail(rt: &HostRuntime, folder: &str, journal: &str) -> Result<(), FileFault> {
-    let bytes = read_file(rt, journal)?;
-    let tail = match tail_in(&bytes) {
-        Ok(tail) => tail,
-        Err(_) => return Ok(()),
-    };
+// Saves what is cut off, if there is something, and says so on standard error.
+fn save(rt: &HostRuntime, folder: &str, tail: &[u8]) -> Result<(), FileFault> {
     if tail.is_empty() {
         return Ok(());
     }
@@ -136,4 +125,42 @@ pub fn save_tail(rt: &HostRuntime, folder: &str, journal: &str) -> Result<(), Fi
     let line = saved_line(rt.alloc(), tail.len(), name.as_str())?;
     let _ = refused(&mut Watched::new(rt.stderr()), line.as_str());
     Ok(())
+}
+
+/// Saves what a crash left after the last entry of a folder's journal, of which this is the name, and says so on standard error.
+/// The journal's file has to be open, so that no other program writes to it. Of a journal that is damaged, or has no entries, nothing is
+/// saved, since nothing of it is cut off.
+pub fn save_tail(rt: &HostRuntime, folder: &str, journal: &str) -> Result<(), FileFault> {
+    let bytes = read_file(rt, journal)?;
+    match tail_in(&bytes) {
+        Ok(tail) => save(rt, folder, tail),
+        Err(_) => Ok(()),
+    }
+}
+
+// The bytes of a file from a place on.
+fn bytes_from(rt: &HostRuntime, name: &str, place: usize) -> io::Result<Vec<u8>> {
+    let file = File::open(rt, name)?;
+    let length = file.metadata()?.len() as usize;
+    let mut bytes = vec![in rt.alloc(); 0u8; length.saturating_sub(place)]?;
+    file.read_exact_at(bytes.as_mut_slice(), place as u64)?;
+    Ok(bytes)
+}
+
+/// The same of a journal that was left at this end: only what comes after it is read.
+pub fn save_tail_after(
+    rt: &HostRuntime,
+    folder: &str,
+    journal: &str,
+    end: &JournalEnd,
+) -> Result<(), FileFault> {
+    let bytes = match bytes_from(rt, journal, end.place()) {
+        Ok(bytes) => bytes,
+        Err(error) => return Err(file_fault(rt.alloc(), journal, error)),
+    };
+    match tail_after(rt.alloc(), &bytes, end) {
+        Ok(tail) => save(rt, folder, tail),
+        Err(JournalFault::OutOfMemory) => Err(FileFault::OutOfMemory),
+        Err(_) => Ok(()),
+    }
 }

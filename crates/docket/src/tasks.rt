@@ -5,6 +5,7 @@ ghost use Rattle.program_streams.specs.Words.{has_failed};
 use crate::alone::{change, correct, init};
 use crate::beside::{ask, cases, check, plain, rows, struck, try_rows};
 use crate::court::{check_file, write_file};
+use crate::court_update::update;
 use crate::enter::enter;
 use crate::fault::Fault;
 use crate::logs::log;
@@ -28,16 +29,9 @@ pub fn done<H: Threads + Wait + Sync, W: Write, E: Write>(
 {
     match task {
         Task::Init(folder, court) => init(rt, folder.as_str(), court.as_str())?,
-        Task::Enter(folder, lines, held_back, keeping) => enter(
-            rt,
-            threads,
-            writer,
-            errors,
-            folder.as_str(),
-            *lines,
-            *held_back,
-            *keeping,
-        )?,
+        Task::Enter(folder, entering) => {
+            enter(rt, threads, writer, errors, folder.as_str(), entering)?
+        }
         Task::Try(folder, lines, held_back) => {
             try_rows(
                 rt,
@@ -82,10 +76,15 @@ pub fn done<H: Threads + Wait + Sync, W: Write, E: Write>(
         Task::Log(folder, asked) => log(rt, threads, writer, folder.as_str(), asked)?,
         Task::Report(source, asked) => report(rt, threads, writer, source, asked)?,
         Task::Memo(source, asked) => memo(rt, threads, writer, source, asked)?,
-        Task::CourtCheck(file, asked) => return check_file(rt, writer, file.as_str(), asked),
-        Task::CourtWrite(court, from, to) => write_file(rt.alloc(), writer, *court, *from, *to)?,
-        Task::CourtChange(folder, file, accept) => {
-            change(rt, threads, writer, folder.as_str(), file.as_str(), *accept)?
+        Task::CourtCheck(file, asked, clock_time) => {
+            return check_file(rt, writer, file.as_str(), *asked, *clock_time);
+        }
+        Task::CourtWrite(court, writing) => write_file(rt, writer, errors, *court, writing)?,
+        Task::CourtUpdate(folder, updating) => {
+            update(rt, threads, writer, errors, folder.as_str(), *updating)?
+        }
+        Task::CourtChange(folder, changing) => {
+            change(rt, threads, writer, folder.as_str(), changing)?
         }
     }
     Ok(0)

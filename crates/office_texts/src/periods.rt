@@ -2,7 +2,7 @@
 
 ghost use Rattle.std.specs.Prelude.{◌≡◌, OnOk};
 ghost use Rattle.office_texts.specs.Added.{AddsText};
-ghost use Rattle.office_texts.specs.Periods.{act_text, direction_text, entered_text, length_text, period_text, start_text};
+ghost use Rattle.office_texts.specs.Periods.{act_text, direction_text, entered_text, length_text, measured_text, period_text, set_text, start_text};
 
 use crate::numbers::push_number;
 use court_clock::Direction;
@@ -10,7 +10,7 @@ use rule_periods::{Entered, Length, Period};
 use rule6::Act;
 use std::alloc::AllocError;
 
-/// Adds the code of a period that the Rules set, or the five words of one that a court enters.
+/// Adds the code of a period that the Rules set, the five words of one that a court enters, or the two of a day that an order sets.
 #[tactic(auto, unfolding(crate::specs::Periods::period_text))]
 pub(crate) fn push_period(text: &mut String, period: &Period) -> Result<(), AllocError>
     ensures { OnOk result (AddsText text.old text.new (period_text period.now)) }
@@ -21,9 +21,28 @@ pub(crate) fn push_period(text: &mut String, period: &Period) -> Result<(), Allo
     }
 }
 
-/// Adds the five words of a period that a court enters.
 fn push_entered(text: &mut String, entered: &Entered) -> Result<(), AllocError>
     ensures { OnOk result (AddsText text.old text.new (entered_text entered.now)) }
+{
+    if entered.length.is_set() {
+        push_set(text, entered)
+    } else {
+        push_measured(text, entered)
+    }
+}
+
+/// Adds the two words of a day that an order sets.
+fn push_set(text: &mut String, entered: &Entered) -> Result<(), AllocError>
+    ensures { OnOk result (AddsText text.old text.new (set_text entered.now)) }
+{
+    push_length(text, entered.length)?;
+    text.push_str("/")?;
+    text.push_str(act_word(entered.act))
+}
+
+/// Adds the five words of a period that a court enters.
+fn push_measured(text: &mut String, entered: &Entered) -> Result<(), AllocError>
+    ensures { OnOk result (AddsText text.old text.new (measured_text entered.now)) }
 {
     push_length(text, entered.length)?;
     text.push_str("/")?;
@@ -48,6 +67,7 @@ fn push_length(text: &mut String, length: Length) -> Result<(), AllocError>
             push_number(text, u64::from(hours))?;
             text.push_str("h")
         }
+        Length::ToDay => text.push_str("set"),
     }
 }
 

@@ -29,13 +29,17 @@ folder_line name = with_rule (new_app name) (place_rule (codes "folder"))
 abbrev pub kept_line : (name : Text) → App
 kept_line name = with_rule (folder_line name) (text_rule (codes "as-of"))
 
+-- how long to wait for others
+abbrev pub with_wait : App → App
+with_wait line = with_rule line (text_rule (codes "wait"))
+
 -- how lines are written that people write
 abbrev pub with_style : App → App
 with_style line = with_rule (with_rule line (text_rule (codes "dates"))) (flag_rule (codes "json"))
 
--- one that takes a folder and lines
+-- one that takes a folder and lines, and whose they are
 abbrev pub lines_line : (name : Text) → App
-lines_line name = with_style (with_rule (folder_line name) (flag_rule (codes "as-written")))
+lines_line name = with_rule (with_style (with_rule (folder_line name) (flag_rule (codes "as-written")))) (text_rule (codes "clerk"))
 
 -- one that takes a folder and rows, which may be held back
 abbrev pub rows_line : (name : Text) → App
@@ -45,7 +49,7 @@ abbrev pub init_line : App
 init_line = with_rule (folder_line (codes "init")) (needed_rule (codes "court"))
 
 abbrev pub enter_line : App
-enter_line = with_rule (with_rule (rows_line (codes "enter")) (flag_rule (codes "all-or-nothing"))) (flag_rule (codes "keep-refused"))
+enter_line = with_wait (with_rule (with_rule (rows_line (codes "enter")) (flag_rule (codes "all-or-nothing"))) (flag_rule (codes "keep-refused")))
 
 abbrev pub ask_line : App
 ask_line = with_rule (lines_line (codes "ask")) (text_rule (codes "as-of"))
@@ -53,9 +57,9 @@ ask_line = with_rule (lines_line (codes "ask")) (text_rule (codes "as-of"))
 abbrev pub plain_line : App
 plain_line = with_style (folder_line (codes "plain"))
 
--- a row, why it is struck or restored, and whether it is though answers differ
+-- a row, why it is struck or restored, whether it is though answers differ, and how long to wait
 abbrev pub with_correction : App → App
-with_correction line = with_rule (with_rule (with_rule line (place_rule (codes "row"))) (needed_rule (codes "reason"))) (flag_rule (codes "accept"))
+with_correction line = with_wait (with_rule (with_rule (with_rule line (place_rule (codes "row"))) (needed_rule (codes "reason"))) (flag_rule (codes "accept")))
 
 abbrev pub correction_line : (name : Text) → App
 correction_line name = with_correction (folder_line name)
@@ -74,11 +78,22 @@ sheet_line = with_rule (with_rule (with_source (new_app (codes "sheet"))) (text_
 abbrev pub check_line : App
 check_line = with_rule (with_rule (with_rule (new_app (codes "check")) (place_rule (codes "file"))) (text_rule (codes "today"))) (flag_rule (codes "capital"))
 
+-- the names and the hours that a court has of its own
+abbrev pub with_own : App → App
+with_own line = with_rule (with_rule (with_rule (with_rule line (text_rule (codes "judges"))) (text_rule (codes "rooms"))) (text_rule (codes "opens"))) (text_rule (codes "closes"))
+
 abbrev pub write_line : App
-write_line = with_rule (with_rule (with_rule (new_app (codes "write")) (needed_rule (codes "court"))) (needed_rule (codes "from"))) (needed_rule (codes "to"))
+write_line = with_own (with_rule (with_rule (with_rule (new_app (codes "write")) (needed_rule (codes "court"))) (needed_rule (codes "from"))) (needed_rule (codes "to")))
+
+-- whether a file is taken though answers differ, and how long to wait for others
+abbrev pub with_taking : App → App
+with_taking line = with_wait (with_rule line (flag_rule (codes "accept")))
+
+abbrev pub update_line : App
+update_line = with_taking (with_rule (folder_line (codes "update")) (needed_rule (codes "to")))
 
 abbrev pub change_line : App
-change_line = with_rule (with_rule (folder_line (codes "change")) (place_rule (codes "file"))) (flag_rule (codes "accept"))
+change_line = with_taking (with_rule (folder_line (codes "change")) (place_rule (codes "file")))
 
 -- ---- the whole
 
@@ -103,4 +118,4 @@ command_line = with_subcommand (with_subcommand (with_memo (with_reports (with_k
 
 -- the words after `court`
 abbrev pub court_line : App
-court_line = with_subcommand (with_subcommand (with_subcommand (bare_line (codes "docket court")) check_line.top) write_line.top) change_line.top
+court_line = with_subcommand (with_subcommand (with_subcommand (with_subcommand (bare_line (codes "docket court")) check_line.top) write_line.top) update_line.top) change_line.top

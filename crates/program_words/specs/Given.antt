@@ -48,6 +48,25 @@ at_most_9999 n = if nat_le n 9999 then Some n else None
 abbrev pub year_of : Text → Option ℕ
 year_of text = option_and_then at_most_9999 (number_of text)
 
+-- so many seconds: a day at most
+abbrev pub at_most_a_day : ℕ → Option ℕ
+at_most_a_day n = if nat_le n 86400 then Some n else None
+
+abbrev pub seconds_of : Text → Option ℕ
+seconds_of text = option_and_then at_most_a_day (number_of text)
+
+-- how many are waited: 30 where nothing is said
+abbrev pub wait_of : Option Text → Option ℕ
+wait_of None = Some 30
+wait_of (Some text) = seconds_of text
+
+-- the number of a clerk
+abbrev pub as_clerk : ℕ → Option ℕ
+as_clerk n = if nat_le 1 n && nat_le n 64 then Some n else None
+
+abbrev pub clerk_of : Text → Option ℕ
+clerk_of text = option_and_then as_clerk (number_of text)
+
 -- one line with something in it
 abbrev pub is_line : Text → Bool
 is_line text = nat_le 1 (length text) && list_all (nat_le 32) text

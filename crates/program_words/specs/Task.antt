@@ -6,7 +6,7 @@ use Rattle.std.specs.declared.alloc.Global.{Global}
 use Rattle.clap.specs.Kinds.{or_else}
 use Rattle.clap.specs.Words.{Kinds, Row, Text, first_of}
 use Rattle.clap.specs.declared.error.kind.ErrorKind.TheVariants.{ArgumentConflict, MissingRequiredArgument}
-use Rattle.court_clock.specs.Words.{day_of_text}
+use Rattle.court_clock.specs.Words.{day_of_text, minute_of_text}
 use Rattle.court_writing.specs.Words.{district_named, of_district, zone_text}
 use Rattle.desk_warnings.specs.declared.register.HeldBack.{HeldBack}
 use Rattle.desk_warnings.specs.declared.register.HeldBack.TheVariants.{Nothing, Warned}
@@ -21,7 +21,9 @@ use Rattle.program_words.specs.AsOf.{as_of_faults, as_of_in, report_as_of_faults
 use Rattle.program_words.specs.declared.subcommand.Subcommand.{Subcommand}
 use Rattle.program_words.specs.declared.subcommand.Subcommand.TheVariants as sub
 use Rattle.program_words.specs.declared.task.AsOf.{AsOf}
+use Rattle.program_words.specs.declared.task.Changing.{Changing}
 use Rattle.program_words.specs.declared.task.Correcting.{Correcting}
+use Rattle.program_words.specs.declared.task.Entering.{Entering}
 use Rattle.program_words.specs.declared.task.Keeping.{Keeping}
 use Rattle.program_words.specs.declared.task.Keeping.TheVariants.{Each, Together}
 use Rattle.program_words.specs.declared.task.Lines.{Lines}
@@ -31,8 +33,10 @@ use Rattle.program_words.specs.declared.task.Source.{Source}
 use Rattle.program_words.specs.declared.task.Source.TheVariants as source
 use Rattle.program_words.specs.declared.task.Style.{Style}
 use Rattle.program_words.specs.declared.task.Task.{Task}
+use Rattle.program_words.specs.declared.task.Updating.{Updating}
+use Rattle.program_words.specs.declared.task.Writing.{Writing}
 use Rattle.program_words.specs.declared.task.Task.TheVariants as task
-use Rattle.program_words.specs.Given.{faults_beside, faults_if_given, faults_reading, faults_together, faults_without, is_flag, line_of, order_of, year_of}
+use Rattle.program_words.specs.Given.{clerk_of, faults_beside, faults_if_given, faults_reading, faults_together, faults_without, is_flag, line_of, order_of, seconds_of, wait_of, year_of}
 
 -- ---- which subcommand a name means
 
@@ -60,6 +64,7 @@ abbrev pub court_meant : (name : Text) → Subcommand
 court_meant name =
     if bytes_eq name (codes "check") then sub.CourtCheck
     else if bytes_eq name (codes "write") then sub.CourtWrite
+    else if bytes_eq name (codes "update") then sub.CourtUpdate
     else sub.CourtChange
 
 -- ---- what was given
@@ -78,17 +83,21 @@ style_of given = record { order = option_and_then order_of (first_of (codes "dat
 abbrev pub style_faults : List Row → Kinds
 style_faults given = faults_if_given order_of (first_of (codes "dates") given)
 
--- how lines are read
+-- how lines are read, and whose they are where they name no clerk
 abbrev pub lines_of : List Row → Lines
-lines_of given = if has (codes "as-written") given then lines.AsWritten (style_of given) else lines.Plain
+lines_of given = if has (codes "as-written") given then lines.AsWritten (style_of given) else lines.Plain (option_and_then clerk_of (first_of (codes "clerk") given))
 
 -- `--dates` and `--json` count beside `--as-written` alone
 abbrev pub beside_faults : List Row → Kinds
 beside_faults given =
     or_else (faults_beside (is_some (first_of (codes "dates") given)) (has (codes "as-written") given)) (faults_beside (has (codes "json") given) (has (codes "as-written") given))
 
+-- a list that people write names its clerks itself
+abbrev pub clerk_faults : List Row → Kinds
+clerk_faults given = or_else (faults_together (has (codes "as-written") given) (is_some (first_of (codes "clerk") given))) (faults_if_given clerk_of (first_of (codes "clerk") given))
+
 abbrev pub lines_faults : List Row → Kinds
-lines_faults given = or_else (beside_faults given) (style_faults given)
+lines_faults given = or_else (or_else (beside_faults given) (style_faults given)) (clerk_faults given)
 
 -- whether rows are held back that draw a warning, and which day counts as today
 abbrev pub held_back_of : List Row → HeldBack
@@ -107,16 +116,57 @@ keeping_of given = if has (codes "all-or-nothing") given then Together (has (cod
 abbrev pub keeping_faults : List Row → Kinds
 keeping_faults given = faults_beside (has (codes "keep-refused") given) (has (codes "all-or-nothing") given)
 
+-- how long to wait for others
+abbrev pub wait_faults : List Row → Kinds
+wait_faults given = faults_if_given seconds_of (first_of (codes "wait") given)
+
+-- how rows are entered
+pub record IsEntering (given : List Row) (entering : Entering) : Type 0 where
+  pub lines : entering.lines ≡ lines_of given
+  pub held_back : entering.held_back ≡ held_back_of given
+  pub keeping : entering.keeping ≡ keeping_of given
+  pub wait : wait_of (first_of (codes "wait") given) ≡ Some entering.wait
+
+abbrev pub entering_faults : List Row → Kinds
+entering_faults given = or_else (or_else (lines_faults given) (or_else (held_back_faults given) (keeping_faults given))) (wait_faults given)
+
 -- which row is struck or restored, why, and whether it is though answers differ
 pub record IsCorrecting (clock_time : ℤ) (given : List Row) (correcting : Correcting) : Type 0 where
   pub row : option_and_then number_of (first_of (codes "row") given) ≡ Some correcting.row
   pub reason : option_and_then line_of (first_of (codes "reason") given) ≡ Some (string_bytes correcting.reason)
   pub clock : correcting.clock_time ≡ clock_time
   pub accept : correcting.accept ≡ has (codes "accept") given
+  pub wait : wait_of (first_of (codes "wait") given) ≡ Some correcting.wait
 
--- the faults of the row and of why
+-- the faults of the row, of why, and of how long to wait
 abbrev pub correcting_faults : List Row → Kinds
-correcting_faults given = or_else (faults_reading number_of (first_of (codes "row") given)) (faults_reading line_of (first_of (codes "reason") given))
+correcting_faults given = or_else (or_else (faults_reading number_of (first_of (codes "row") given)) (faults_reading line_of (first_of (codes "reason") given))) (wait_faults given)
+
+-- what a court's file has that is written
+pub record IsWriting (given : List Row) (writing : Writing) : Type 0 where
+  pub from : option_and_then year_of (first_of (codes "from") given) ≡ Some writing.from
+  pub to : option_and_then year_of (first_of (codes "to") given) ≡ Some writing.to
+  pub opens : writing.opens ≡ option_and_then minute_of_text (first_of (codes "opens") given)
+  pub closes : writing.closes ≡ option_and_then minute_of_text (first_of (codes "closes") given)
+  pub judges : option_map string_bytes writing.judges ≡ first_of (codes "judges") given
+  pub rooms : option_map string_bytes writing.rooms ≡ first_of (codes "rooms") given
+
+abbrev pub writing_faults : List Row → Kinds
+writing_faults given =
+    or_else (or_else (faults_reading year_of (first_of (codes "from") given)) (faults_reading year_of (first_of (codes "to") given)))
+    (or_else (faults_if_given minute_of_text (first_of (codes "opens") given)) (faults_if_given minute_of_text (first_of (codes "closes") given)))
+
+-- years that are added to a court's file
+pub record IsUpdating (given : List Row) (updating : Updating) : Type 0 where
+  pub to : option_and_then year_of (first_of (codes "to") given) ≡ Some updating.to
+  pub accept : updating.accept ≡ has (codes "accept") given
+  pub wait : wait_of (first_of (codes "wait") given) ≡ Some updating.wait
+
+-- another court's file
+pub record IsChanging (given : List Row) (changing : Changing) : Type 0 where
+  pub file : IsText (codes "file") given changing.file
+  pub accept : changing.accept ≡ has (codes "accept") given
+  pub wait : wait_of (first_of (codes "wait") given) ≡ Some changing.wait
 
 -- which entries of a folder are listed
 pub record IsLog (clock_time : ℤ) (given : List Row) (asked : LogAsked) : Type 0 where
@@ -203,8 +253,7 @@ sheet_asked clock_time case = record {
 -- the subcommand asks for that, by the clock's time
 abbrev pub IsTask : (clock_time : ℤ) → Subcommand → (name : Text) → List Row → Task → Type 0
 IsTask clock_time sub.Init name given (task.Init folder court) = IsText (codes "folder") given folder × IsText (codes "court") given court
-IsTask clock_time sub.Enter name given (task.Enter folder lines held_back keeping) =
-    IsText (codes "folder") given folder × (lines ≡ lines_of given) × (held_back ≡ held_back_of given) × (keeping ≡ keeping_of given)
+IsTask clock_time sub.Enter name given (task.Enter folder entering) = IsText (codes "folder") given folder × IsEntering given entering
 IsTask clock_time sub.Try name given (task.Try folder lines held_back) = IsText (codes "folder") given folder × (lines ≡ lines_of given) × (held_back ≡ held_back_of given)
 IsTask clock_time sub.Ask name given (task.Ask folder lines as_of) = IsText (codes "folder") given folder × (lines ≡ lines_of given) × (as_of ≡ as_of_in clock_time given)
 IsTask clock_time sub.Plain name given (task.Plain folder style) = IsText (codes "folder") given folder × (style ≡ style_of given)
@@ -219,13 +268,12 @@ IsTask clock_time sub.Report name given (task.Report of asked) = IsSource clock_
 IsTask clock_time sub.Memo name given (task.Memo of asked) = IsSource clock_time given of × IsMemoAsked given asked
 IsTask clock_time sub.Sheet name given (task.Report of asked) =
     IsSheetSource clock_time given of × (asked ≡ sheet_asked clock_time (option_and_then case_called (case_given given)))
-IsTask clock_time sub.CourtCheck name given (task.CourtCheck file asked) =
-    IsText (codes "file") given file × (asked.today ≡ option_and_then day_of_text (first_of (codes "today") given)) × (asked.capital ≡ has (codes "capital") given)
-IsTask clock_time sub.CourtWrite name given (task.CourtWrite court from to) =
-    (option_and_then district_named (first_of (codes "court") given) ≡ Some (of_district court.code.now court.state (zone_text court.zone)))
-    × (option_and_then year_of (first_of (codes "from") given) ≡ Some from) × (option_and_then year_of (first_of (codes "to") given) ≡ Some to)
-IsTask clock_time sub.CourtChange name given (task.CourtChange folder file accept) =
-    IsText (codes "folder") given folder × IsText (codes "file") given file × (accept ≡ has (codes "accept") given)
+IsTask clock_time sub.CourtCheck name given (task.CourtCheck file asked shown) =
+    IsText (codes "file") given file × (asked.today ≡ option_and_then day_of_text (first_of (codes "today") given)) × (asked.capital ≡ has (codes "capital") given) × (asked.state ≡ None) × (shown ≡ clock_time)
+IsTask clock_time sub.CourtWrite name given (task.CourtWrite court writing) =
+    (option_and_then district_named (first_of (codes "court") given) ≡ Some (of_district court.code.now court.state (zone_text court.zone))) × IsWriting given writing
+IsTask clock_time sub.CourtUpdate name given (task.CourtUpdate folder updating) = IsText (codes "folder") given folder × IsUpdating given updating
+IsTask clock_time sub.CourtChange name given (task.CourtChange folder changing) = IsText (codes "folder") given folder × IsChanging given changing
 IsTask clock_time subcommand name given other = ⊥
 
 -- the faults of a folder, and of as of when it is read
@@ -235,8 +283,7 @@ kept_faults given = or_else (faults_without (first_of (codes "folder") given)) (
 -- the faults of what it was given, of which the first counts
 abbrev pub faults_given : Subcommand → List Row → Kinds
 faults_given sub.Init given = or_else (faults_without (first_of (codes "folder") given)) (faults_without (first_of (codes "court") given))
-faults_given sub.Enter given =
-    or_else (faults_without (first_of (codes "folder") given)) (or_else (lines_faults given) (or_else (held_back_faults given) (keeping_faults given)))
+faults_given sub.Enter given = or_else (faults_without (first_of (codes "folder") given)) (entering_faults given)
 faults_given sub.Try given = or_else (faults_without (first_of (codes "folder") given)) (or_else (lines_faults given) (held_back_faults given))
 faults_given sub.Ask given = or_else (faults_without (first_of (codes "folder") given)) (or_else (lines_faults given) (as_of_faults given))
 faults_given sub.Plain given = or_else (faults_without (first_of (codes "folder") given)) (style_faults given)
@@ -252,6 +299,6 @@ faults_given sub.Memo given = or_else (report_source_faults given) (memo_faults 
 faults_given sub.Sheet given = or_else (sheet_source_faults given) (faults_reading case_called (case_given given))
 faults_given sub.Court given = MissingRequiredArgument ∷ []
 faults_given sub.CourtCheck given = or_else (faults_without (first_of (codes "file") given)) (faults_unless (is_day_taken (first_of (codes "today") given)))
-faults_given sub.CourtWrite given =
-    or_else (faults_reading district_named (first_of (codes "court") given)) (or_else (faults_reading year_of (first_of (codes "from") given)) (faults_reading year_of (first_of (codes "to") given)))
-faults_given sub.CourtChange given = or_else (faults_without (first_of (codes "folder") given)) (faults_without (first_of (codes "file") given))
+faults_given sub.CourtWrite given = or_else (faults_reading district_named (first_of (codes "court") given)) (writing_faults given)
+faults_given sub.CourtUpdate given = or_else (or_else (faults_without (first_of (codes "folder") given)) (faults_reading year_of (first_of (codes "to") given))) (wait_faults given)
+faults_given sub.CourtChange given = or_else (or_else (faults_without (first_of (codes "folder") given)) (faults_without (first_of (codes "file") given))) (wait_faults given)

@@ -5,9 +5,8 @@ ghost use Rattle.clap.specs.Words.{app_of};
 ghost use Rattle.program_words.specs.CommandLine.{bare_line, command_line, with_kept, with_rows};
 
 use crate::court_commands::court;
-use crate::folder_commands::{
-    ask, cases, check, enter, init, log, plain, restore, rows, sheet, strike, struck, trial,
-};
+use crate::folder_commands::{cases, check, init, log, restore, rows, sheet, strike, struck};
+use crate::input_commands::{ask, enter, plain, trial};
 use clap::Command;
 use program_main::with_subcommand;
 use report_memo::with_memo;

@@ -4,20 +4,25 @@ ghost use Rattle.std.specs.Prelude.{◌≡◌, IfOk, ℤ};
 ghost use Rattle.clap.specs.Words.{Text, found_of, rows_of};
 ghost use Rattle.program_main.specs.Options.Words.{IsAnswerFor};
 ghost use Rattle.program_words.specs.declared.subcommand.Subcommand.{Subcommand};
-ghost use Rattle.program_words.specs.Task.{IsTask, faults_given};
+ghost use Rattle.program_words.specs.Task.{IsTask, IsWriting, faults_given, writing_faults};
 
 use crate::given::{both, has_flag, needed};
-use crate::task::Task;
+use crate::task::{Changing, Task, Updating, Writing};
 use crate::tasks::folder_in;
-use crate::values::{court_in, day_if_given, year_in};
+use crate::values::{court_in, day_if_given, minute_if_given, text_if_given, wait_in, year_in};
 use clap::ArgMatches;
+use court_clock::Instant;
 use court_file_check::Asked as CheckAsked;
 use program_main::OptionsFault;
 use std::alloc::Global;
 
-/// A court's file that is checked.
-pub(crate) fn check(alloc: Global, given: &ArgMatches<'_>) -> Result<Task, OptionsFault>
-    ensures task { (clock_time : ℤ) (name : Text) → IfOk result (IsTask clock_time Subcommand.CourtCheck name (rows_of (found_of given.now))) }
+/// A court's file that is checked, at the clock's time.
+pub(crate) fn check(
+    alloc: Global,
+    clock_time: Instant,
+    given: &ArgMatches<'_>,
+) -> Result<Task, OptionsFault>
+    ensures task { (name : Text) → IfOk result (IsTask clock_time Subcommand.CourtCheck name (rows_of (found_of given.now))) }
     ensures faults { IsAnswerFor (faults_given Subcommand.CourtCheck (rows_of (found_of given.now))) result }
 {
     let (file, today) = both(
@@ -25,7 +30,36 @@ pub(crate) fn check(alloc: Global, given: &ArgMatches<'_>) -> Result<Task, Optio
         day_if_given(alloc, given),
     )?;
     let capital = has_flag(given, "capital");
-    Ok(Task::CourtCheck(file, CheckAsked { today, capital }))
+    let asked = CheckAsked {
+        today,
+        capital,
+        state: None,
+    };
+    Ok(Task::CourtCheck(file, asked, clock_time))
+}
+
+/// What a court's file has that is written.
+fn writing_in(alloc: Global, given: &ArgMatches<'_>) -> Result<Writing, OptionsFault>
+    ensures writing { IfOk result (IsWriting (rows_of (found_of given.now))) }
+    ensures faults { IsAnswerFor (writing_faults (rows_of (found_of given.now))) result }
+{
+    let years = both(
+        year_in(alloc, given, "from", "--from <YEAR>"),
+        year_in(alloc, given, "to", "--to <YEAR>"),
+    );
+    let hours = both(
+        minute_if_given(alloc, given, "opens", "--opens <HH:MM>"),
+        minute_if_given(alloc, given, "closes", "--closes <HH:MM>"),
+    );
+    let ((from, to), (opens, closes)) = both(years, hours)?;
+    Ok(Writing {
+        from,
+        to,
+        opens,
+        closes,
+        judges: text_if_given(alloc, given, "judges")?,
+        rooms: text_if_given(alloc, given, "rooms")?,
+    })
 }
 
 /// A court's file that is written.
@@ -33,12 +67,22 @@ pub(crate) fn write(alloc: Global, given: &ArgMatches<'_>) -> Result<Task, Optio
     ensures task { (clock_time : ℤ) (name : Text) → IfOk result (IsTask clock_time Subcommand.CourtWrite name (rows_of (found_of given.now))) }
     ensures faults { IsAnswerFor (faults_given Subcommand.CourtWrite (rows_of (found_of given.now))) result }
 {
-    let years = both(
-        year_in(alloc, given, "from", "--from <YEAR>"),
+    let (court, writing) = both(court_in(alloc, given), writing_in(alloc, given))?;
+    Ok(Task::CourtWrite(court, writing))
+}
+
+/// Years that are added to a folder's court's file.
+pub(crate) fn update(alloc: Global, given: &ArgMatches<'_>) -> Result<Task, OptionsFault>
+    ensures task { (clock_time : ℤ) (name : Text) → IfOk result (IsTask clock_time Subcommand.CourtUpdate name (rows_of (found_of given.now))) }
+    ensures faults { IsAnswerFor (faults_given Subcommand.CourtUpdate (rows_of (found_of given.now))) result }
+{
+    let which = both(
+        folder_in(alloc, given),
         year_in(alloc, given, "to", "--to <YEAR>"),
     );
-    let (court, (from, to)) = both(court_in(alloc, given), years)?;
-    Ok(Task::CourtWrite(court, from, to))
+    let ((folder, to), wait) = both(which, wait_in(alloc, given))?;
+    let accept = has_flag(given, "accept");
+    Ok(Task::CourtUpdate(folder, Updating { to, accept, wait }))
 }
 
 /// Another court's file for a folder.
@@ -46,10 +90,12 @@ pub(crate) fn change(alloc: Global, given: &ArgMatches<'_>) -> Result<Task, Opti
     ensures task { (clock_time : ℤ) (name : Text) → IfOk result (IsTask clock_time Subcommand.CourtChange name (rows_of (found_of given.now))) }
     ensures faults { IsAnswerFor (faults_given Subcommand.CourtChange (rows_of (found_of given.now))) result }
 {
-    let (folder, file) = both(
+    let which = both(
         folder_in(alloc, given),
         needed(alloc, given, "file", "<FILE>"),
-    )?;
+    );
+    let ((folder, file), wait) = both(which, wait_in(alloc, given))?;
     let accept = has_flag(given, "accept");
-    Ok(Task::CourtChange(folder, file, accept))
+    let changing = Changing { file, accept, wait };
+    Ok(Task::CourtChange(folder, changing))
 }

@@ -8,6 +8,7 @@ mod court_tasks;
 mod courts;
 mod folder_commands;
 mod given;
+mod input_commands;
 mod input_tasks;
 mod kept_tasks;
 mod options;
@@ -17,5 +18,8 @@ mod tasks;
 mod values;
 mod words;
 
-pub use task::{AsOf, Correcting, Keeping, Lines, LogAsked, Source, Style, Task};
+pub use task::{
+    AsOf, Changing, Correcting, Entering, Keeping, Lines, LogAsked, Source, Style, Task, Updating,
+    Writing,
+};
 pub use words::asked_of;

@@ -42,6 +42,8 @@ pub(crate) enum Subcommand {
     CourtCheck,
     /// `court write`.
     CourtWrite,
+    /// `court update`.
+    CourtUpdate,
     /// `court change`.
     CourtChange,
 }
@@ -77,6 +79,7 @@ pub(crate) fn court_meant(name: &str) -> Subcommand
     match name {
         "check" => Subcommand::CourtCheck,
         "write" => Subcommand::CourtWrite,
+        "update" => Subcommand::CourtUpdate,
         _ => Subcommand::CourtChange,
     }
 }

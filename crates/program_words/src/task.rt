@@ -17,7 +17,7 @@ pub enum Task {
     /// `init`: a new folder, and the court's file that it begins with.
     Init(String, String),
     /// `enter`: rows, which are kept in the folder and answered.
-    Enter(String, Lines, HeldBack, Keeping),
+    Enter(String, Entering),
     /// `try`: rows, which are answered as `enter` would, and not kept.
     Try(String, Lines, HeldBack),
     /// `ask`: questions, which are answered, and as of when.
@@ -42,12 +42,15 @@ pub enum Task {
     Report(Source, ReportAsked),
     /// `memo`.
     Memo(Source, MemoAsked),
-    /// `court check`: a court's file, and what is known of its use.
-    CourtCheck(String, CheckAsked),
-    /// `court write`: the court whose file is written, and the first and the last year.
-    CourtWrite(CourtName, u16, u16),
-    /// `court change`: a folder, the other court's file, and whether it is taken though answers differ.
-    CourtChange(String, String, bool),
+    /// `court check`: a court's file, what is known of its use, and the instant that the clock shows, by which it is today where no
+    /// other day is said.
+    CourtCheck(String, CheckAsked, Instant),
+    /// `court write`: the court whose file is written, and what the file has.
+    CourtWrite(CourtName, Writing),
+    /// `court update`: a folder, and up to which year its court's file is to go.
+    CourtUpdate(String, Updating),
+    /// `court change`: a folder, and the other court's file.
+    CourtChange(String, Changing),
 }
 
 /// Of what a report is.
@@ -94,8 +97,9 @@ pub struct LogAsked {
 /// How the lines of standard input are read.
 #[derive(Clone, Copy, Debug)]
 pub enum Lines {
-    /// As plain rows.
-    Plain,
+    /// As plain rows, each of the clerk whose number it begins with; or, where a number is given, all of that clerk, and they begin with
+    /// their command.
+    Plain(Option<u8>),
     /// As people write them.
     AsWritten(Style),
 }
@@ -118,6 +122,19 @@ pub enum Keeping {
     Together(bool),
 }
 
+/// How rows are entered.
+#[derive(Clone, Copy, Debug)]
+pub struct Entering {
+    /// How their lines are read.
+    pub lines: Lines,
+    /// Which rows are held back.
+    pub held_back: HeldBack,
+    /// Which rows are kept.
+    pub keeping: Keeping,
+    /// How many seconds to wait while another program keeps rows.
+    pub wait: u32,
+}
+
 /// A row that is struck or restored, and what is said of that.
 #[derive(Debug, Drop)]
 pub struct Correcting {
@@ -129,4 +146,45 @@ pub struct Correcting {
     pub clock_time: Instant,
     /// Whether it is done though answers differ.
     pub accept: bool,
+    /// How many seconds to wait while another program keeps rows.
+    pub wait: u32,
+}
+
+/// What a court's file has that is written.
+#[derive(Debug, Drop)]
+pub struct Writing {
+    /// The first year.
+    pub from: u16,
+    /// The last year.
+    pub to: u16,
+    /// When the office opens, in minutes from midnight.
+    pub opens: Option<u16>,
+    /// When it closes.
+    pub closes: Option<u16>,
+    /// A file with the names of judges.
+    pub judges: Option<String>,
+    /// A file with the names of rooms.
+    pub rooms: Option<String>,
+}
+
+/// Years that are added to a folder's court's file.
+#[derive(Clone, Copy, Debug)]
+pub struct Updating {
+    /// The last year.
+    pub to: u16,
+    /// Whether the file is taken though answers differ.
+    pub accept: bool,
+    /// How many seconds to wait while another program keeps rows.
+    pub wait: u32,
+}
+
+/// Another court's file for a folder.
+#[derive(Debug, Drop)]
+pub struct Changing {
+    /// The file.
+    pub file: String,
+    /// Whether it is taken though answers differ.
+    pub accept: bool,
+    /// How many seconds to wait while another program keeps rows.
+    pub wait: u32,
 }

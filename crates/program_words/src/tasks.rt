@@ -10,7 +10,7 @@ ghost use Rattle.program_words.specs.Task.{IsCorrecting, IsSheetSource, IsSource
 use crate::as_of::report_as_of;
 use crate::given::{apart, both, has_flag, is_given, mistake, needed, text_in};
 use crate::task::{AsOf, Correcting, Source, Task};
-use crate::values::{case_in, line_in, row_in};
+use crate::values::{case_in, line_in, row_in, wait_in};
 use clap::ArgMatches;
 use court_clock::Instant;
 use office_texts::CaseCalled;
@@ -51,16 +51,18 @@ fn correcting(
     ensures correcting { IfOk result (IsCorrecting clock_time (rows_of (found_of given.now))) }
     ensures faults { IsAnswerFor (correcting_faults (rows_of (found_of given.now))) result }
 {
-    let (row, reason) = both(
+    let which = both(
         row_in(alloc, given),
         line_in(alloc, given, "reason", "--reason <TEXT>"),
-    )?;
+    );
+    let ((row, reason), wait) = both(which, wait_in(alloc, given))?;
     let accept = has_flag(given, "accept");
     Ok(Correcting {
         row,
         reason,
         clock_time,
         accept,
+        wait,
     })
 }
 

@@ -5,24 +5,24 @@ ghost use Rattle.std.specs.List.{list_all};
 ghost use Rattle.std.specs.Option.{option_and_then};
 ghost use Rattle.clap.specs.declared.error.kind.ErrorKind.{ErrorKind};
 ghost use Rattle.clap.specs.Words.{first_of, found_of, rows_of};
-ghost use Rattle.court_clock.specs.Words.{day_of_text};
+ghost use Rattle.court_clock.specs.Words.{day_of_text, minute_of_text};
 ghost use Rattle.court_writing.specs.Words.{district_named, of_district, zone_text};
 ghost use Rattle.program_main.specs.Options.Words.{IsAnswerFor, IsFaultAmong};
 ghost use Rattle.office_texts.specs.Names.Words.{case_called};
 ghost use Rattle.program_main.specs.Texts.Words.{day_said, faults_unless, is_case_taken, is_day_taken, is_said_taken, number_of};
-ghost use Rattle.program_words.specs.Given.{faults_if_given, faults_reading, is_line, line_of, order_of, year_of};
+ghost use Rattle.program_words.specs.Given.{clerk_of, faults_if_given, faults_reading, is_line, line_of, order_of, seconds_of, wait_of, year_of};
 
 use crate::courts::nearest_names;
 use crate::given::{missing, mistake, text_in};
 use clap::ArgMatches;
-use court_clock::Day;
+use court_clock::{Day, minute_from_text};
 use court_writing::CourtName;
 use office_texts::CaseCalled;
 use program_main::{
     DaySaid, OptionsFault, case_option, case_said, day_option, number_of, said_option,
 };
 use row_fields::DateOrder;
-use std::alloc::Global;
+use std::alloc::{AllocError, Global};
 
 /// The order that a text names.
 fn order_of(text: &str) -> Option<DateOrder>
@@ -108,6 +108,64 @@ pub(crate) fn row_if_given(
     }
 }
 
+/// The seconds that a text writes: a number up to 86400.
+fn seconds_of(text: &str) -> Option<u32>
+    ensures { result ≡ seconds_of text.now }
+{
+    match number_of(text) {
+        Some(number) if number <= 86_400 => Some(number),
+        _ => None,
+    }
+}
+
+/// The number of the clerk that a text writes.
+pub(crate) fn clerk_number(text: &str) -> Option<u8>
+    ensures { result ≡ clerk_of text.now }
+{
+    match number_of(text) {
+        Some(number) if number >= 1 && number <= 64 => Some(number as u8),
+        _ => None,
+    }
+}
+
+/// Whose rows are that name no clerk, if that was given. BadWords where the text of `--clerk` is no such number.
+pub(crate) fn clerk_in(alloc: Global, given: &ArgMatches<'_>) -> Result<Option<u8>, OptionsFault>
+    ensures clerk { IfOk result (λ clerk. clerk ≡ option_and_then clerk_of (first_of (codes "clerk") (rows_of (found_of given.now)))) }
+    ensures faults { IsAnswerFor (faults_if_given clerk_of (first_of (codes "clerk") (rows_of (found_of given.now)))) result }
+{
+    match text_in(given, "clerk") {
+        None => Ok(None),
+        Some(text) => match clerk_number(text) {
+            Some(clerk) => Ok(Some(clerk)),
+            None => Err(unread(
+                alloc,
+                text,
+                "--clerk <N>",
+                "write the clerk's number, from 1 to 64",
+            )),
+        },
+    }
+}
+
+/// How many seconds to wait for others: 30 where nothing is said. BadWords where the text of `--wait` is no such number.
+pub(crate) fn wait_in(alloc: Global, given: &ArgMatches<'_>) -> Result<u32, OptionsFault>
+    ensures wait { IfOk result (λ wait. wait_of (first_of (codes "wait") (rows_of (found_of given.now))) ≡ Some wait) }
+    ensures faults { IsAnswerFor (faults_if_given seconds_of (first_of (codes "wait") (rows_of (found_of given.now)))) result }
+{
+    match text_in(given, "wait") {
+        None => Ok(30),
+        Some(text) => match seconds_of(text) {
+            Some(wait) => Ok(wait),
+            None => Err(unread(
+                alloc,
+                text,
+                "--wait <SECONDS>",
+                "write a number of seconds from 0 to 86400",
+            )),
+        },
+    }
+}
+
 /// The year that a text writes: a number up to 9999.
 fn year_of(text: &str) -> Option<u16>
     ensures { result ≡ year_of text.now }
@@ -135,6 +193,39 @@ pub(crate) fn year_in(
             Some(year) => Ok(year),
             None => Err(unread(alloc, text, shown, "write a year as 2030")),
         },
+    }
+}
+
+/// The minute of the day of that name, if one was given. The words call it by `shown`. BadWords where its text is none.
+pub(crate) fn minute_if_given(
+    alloc: Global,
+    given: &ArgMatches<'_>,
+    name: &str,
+    shown: &str,
+) -> Result<Option<u16>, OptionsFault>
+    ensures minute { IfOk result (λ minute. minute ≡ option_and_then minute_of_text (first_of name.now (rows_of (found_of given.now)))) }
+    ensures faults { IsAnswerFor (faults_if_given minute_of_text (first_of name.now (rows_of (found_of given.now)))) result }
+{
+    match text_in(given, name) {
+        None => Ok(None),
+        Some(text) => match minute_from_text(text) {
+            Some(minute) => Ok(Some(minute)),
+            None => Err(unread(alloc, text, shown, "write a time as 08:30 or 17:00")),
+        },
+    }
+}
+
+/// The text of that name, if one was given.
+pub(crate) fn text_if_given(
+    alloc: Global,
+    given: &ArgMatches<'_>,
+    name: &str,
+) -> Result<Option<String>, AllocError>
+    ensures { IfOk result (λ text. option_map string_bytes text ≡ first_of name.now (rows_of (found_of given.now))) }
+{
+    match text_in(given, name) {
+        None => Ok(None),
+        Some(text) => Ok(Some(String::from_str(alloc, text)?)),
     }
 }
 

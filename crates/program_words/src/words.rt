@@ -50,8 +50,9 @@ fn task_of(
         Subcommand::Memo => tasks::memo(alloc, clock_time, given),
         Subcommand::Sheet => tasks::sheet(alloc, clock_time, given),
         Subcommand::Court => Err(missing(alloc, "the command after 'court'")),
-        Subcommand::CourtCheck => court_tasks::check(alloc, given),
+        Subcommand::CourtCheck => court_tasks::check(alloc, clock_time, given),
         Subcommand::CourtWrite => court_tasks::write(alloc, given),
+        Subcommand::CourtUpdate => court_tasks::update(alloc, given),
         Subcommand::CourtChange => court_tasks::change(alloc, given),
     }
 }

@@ -6,6 +6,7 @@ mod event;
 mod extension;
 mod hearing;
 mod holidays;
+mod set;
 
 pub use deadline::{push_deadline_notes, push_start_notes};
 pub use end::push_early_act;

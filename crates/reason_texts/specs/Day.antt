@@ -18,6 +18,7 @@ day_of_grant (ByHours h) = None
 -- the day that a reason is about, where it is about one; an instant lies on the day that the court's clock shows
 abbrev pub day_shown : ClockView → Reason → Option ℤ
 day_shown clock (reason.Excluded day) = Some day
+day_shown clock (reason.Set day) = Some day
 day_shown clock (reason.Counted n day) = Some day
 day_shown clock (reason.PassedOver day cause) = Some day
 day_shown clock (reason.RunsTo day) = Some day

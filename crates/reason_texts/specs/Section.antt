@@ -26,6 +26,8 @@ extended_by false = codes "6(b)"
 -- by which a reason goes
 abbrev pub section_of : Course → Reason → List ℕ
 section_of course (reason.Excluded day) = codes "6(a)(1)(A)"
+-- the Committee Note says that 6(a) doesn't apply where a time is fixed
+section_of course (reason.Set day) = codes "6(a), 2009 Note"
 section_of course (reason.Counted n day) = codes "6(a)(1)(B)"
 section_of course (reason.PassedOver day cause) = looked_by course.search course.direction
 section_of course (reason.RunsTo day) = looked_by course.search course.direction

@@ -81,6 +81,7 @@ outage_text outage = minute_time outage.from ++ codes " to " ++ minute_time outa
 -- the words that a reason begins with
 abbrev pub first_words : Reason → List ℕ
 first_words (reason.Excluded day) = codes "day of the event, excluded"
+first_words (reason.Set day) = codes "set for this day by an order"
 first_words (reason.Counted n day) = codes "day "
 first_words (reason.PassedOver day cause) = []
 first_words (reason.RunsTo day) = codes "the time runs to this day"

@@ -16,6 +16,7 @@ pub fn day_shown(clock: &Clock, reason: &Reason) -> Option<Day>
 {
     match *reason {
         Reason::Excluded(day)
+        | Reason::Set(day)
         | Reason::Counted(_, day)
         | Reason::PassedOver(day, _)
         | Reason::RunsTo(day)

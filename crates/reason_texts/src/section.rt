@@ -22,6 +22,8 @@ fn section_of(course: &Course, reason: &Reason) -> &'static str
 {
     match *reason {
         Reason::Excluded(_) => "6(a)(1)(A)",
+        // The Committee Note says that 6(a) doesn't apply where a time is fixed.
+        Reason::Set(_) => "6(a), 2009 Note",
         Reason::Counted(_, _) => "6(a)(1)(B)",
         Reason::PassedOver(_, _) | Reason::RunsTo(_) | Reason::SameTime(_, _) => looked_by(course),
         Reason::ThreeAdded(_) => "6(d)",

@@ -36,6 +36,7 @@ fn first_words(reason: &Reason) -> &'static str
 {
     match *reason {
         Reason::Excluded(_) => "day of the event, excluded",
+        Reason::Set(_) => "set for this day by an order",
         Reason::Counted(_, _) => "day ",
         Reason::PassedOver(_, _) => "",
         Reason::RunsTo(_) => "the time runs to this day",

@@ -1,5 +1,5 @@
 -- The period of a deadline, and its extensions.
-use Rattle.std.specs.Prelude.{ℕ, ℤ, List, [], ◌∷◌, Option, Some, None, codes}
+use Rattle.std.specs.Prelude.{ℕ, ℤ, List, [], ◌∷◌, Option, Some, None, codes, if◌then◌else◌}
 use Rattle.json.specs.Json.{Json, string}
 use Rattle.rule6.specs.declared.service.ServiceKind.{ServiceKind}
 use Rattle.rule6.specs.declared.service.ServiceKind.TheVariants.{HandA, LeftB, MailC, ClerkD, ElectronicE, OtherF}
@@ -10,15 +10,15 @@ use Rattle.rule_periods.specs.declared.period.Length.{Length}
 use Rattle.rule_periods.specs.declared.period.Length.TheVariants as lengths
 use Rattle.rule_periods.specs.declared.period.Period.{Period}
 use Rattle.rule_periods.specs.declared.period.Period.TheVariants as period
-use Rattle.rule_periods.specs.Words.{mark_code, rule_code}
+use Rattle.rule_periods.specs.Words.{is_set_length, mark_code, rule_code}
 use Rattle.office_texts.specs.Words.{act_text, direction_text, start_text}
 use Rattle.report_json.specs.Times.{day_value}
 use Rattle.report_json.specs.Values.{Field, amount, field, object_of, or_null}
 
--- the code of a period that the Rules set, and what a court entered
+-- the code of a period that the Rules set, or `set` where an order sets its end; and what a court entered
 abbrev pub code_of : Period → Option (List ℕ)
 code_of (period.Rule rule) = Some (rule_code rule)
-code_of (period.Entered entered) = None
+code_of (period.Entered entered) = if is_set_length entered.length then Some (codes "set") else None
 
 abbrev pub entered_of : Period → Option Entered
 entered_of (period.Rule rule) = None
@@ -27,10 +27,12 @@ entered_of (period.Entered entered) = Some entered
 abbrev pub days_of_length : Length → Option ℕ
 days_of_length (lengths.Days n) = Some n
 days_of_length (lengths.Hours n) = None
+days_of_length lengths.ToDay = None
 
 abbrev pub hours_of_length : Length → Option ℕ
 hours_of_length (lengths.Days n) = None
 hours_of_length (lengths.Hours n) = Some n
+hours_of_length lengths.ToDay = None
 
 -- a period that a court entered, by its five words
 abbrev pub entered_fields : Entered → List Field

@@ -13,12 +13,13 @@ use rule_periods::{Entered, Grant, Length, Period};
 use rule6::{Act, ServiceKind};
 use std::alloc::AllocError;
 
-/// The code of a period that the Rules set.
+/// The code of a period that the Rules set, or `set` where an order sets its end.
 pub(crate) fn code_of(period: &Period) -> Option<&'static str>
     ensures { option_copied result ≡ code_of period.now }
 {
     match period {
         Period::Rule(rule) => Some(rule.code()),
+        Period::Entered(entered) if entered.length.is_set() => Some("set"),
         Period::Entered(_) => None,
     }
 }
@@ -74,7 +75,7 @@ fn days_of_length(length: Length) -> Option<u32>
 {
     match length {
         Length::Days(days) => Some(days),
-        Length::Hours(_) => None,
+        Length::Hours(_) | Length::ToDay => None,
     }
 }
 
@@ -82,7 +83,7 @@ fn hours_of_length(length: Length) -> Option<u32>
     ensures { result ≡ hours_of_length length }
 {
     match length {
-        Length::Days(_) => None,
+        Length::Days(_) | Length::ToDay => None,
         Length::Hours(hours) => Some(hours),
     }
 }

@@ -2,7 +2,7 @@
 
 ghost use Rattle.std.specs.Prelude.{◌≡◌, OnOk};
 ghost use Rattle.office_texts.specs.Words.{AddsText};
-ghost use Rattle.report_texts.specs.Periods.{act_words, entered_words, length_words, mark_words, period_words, start_words, unit_words};
+ghost use Rattle.report_texts.specs.Periods.{act_words, entered_words, from_words, length_words, mark_words, period_words, start_words, unit_words};
 
 use court_clock::Direction;
 use office_texts::push_number;
@@ -26,7 +26,7 @@ fn push_entered(text: &mut String, entered: &Entered) -> Result<(), AllocError>
     ensures { OnOk result (AddsText text.old text.new (entered_words entered.now)) }
 {
     push_length(text, entered.length)?;
-    text.push_str(start_words(entered.direction, entered.served))?;
+    text.push_str(from_words(entered))?;
     text.push_str(act_words(entered.act))?;
     push_mark(text, entered.mark)
 }
@@ -43,6 +43,7 @@ fn push_length(text: &mut String, length: Length) -> Result<(), AllocError>
             push_number(text, u64::from(hours))?;
             text.push_str(unit_words(hours, " hour", " hours"))
         }
+        Length::ToDay => text.push_str("set by an order"),
     }
 }
 
@@ -51,6 +52,17 @@ pub fn unit_words<'a>(count: u32, one: &'a str, more: &'a str) -> &'a str
     ensures { result.now ≡ unit_words count one.now more.now }
 {
     if count == 1 { one } else { more }
+}
+
+/// From where an entered period is measured; nothing where an order sets its end.
+fn from_words(entered: &Entered) -> &'static str
+    ensures { result.now ≡ from_words entered.now }
+{
+    if entered.length.is_set() {
+        ""
+    } else {
+        start_words(entered.direction, entered.served)
+    }
 }
 
 /// On which side of what it runs from a period lies.

@@ -41,6 +41,13 @@ list_said word =
     else if is_one_of word (codes "state" ∷ []) then Clear (codes "state")
     else Unknown
 
+-- what has to be done in time
+unfoldable pub act_said : List ℕ → Said (List ℕ)
+act_said word =
+    if is_one_of word (codes "filing" ∷ codes "file" ∷ codes "tofile" ∷ []) then Clear (codes "filing")
+    else if is_one_of word (codes "service" ∷ codes "serve" ∷ codes "toserve" ∷ []) then Clear (codes "service")
+    else Unknown
+
 -- a Rule's number, as people cite it: `4(m)`, `Rule 4(m)`, `FRCP 4(m)`, `Fed. R. Civ. P. 4(m)`
 abbrev pub cited : List ℕ → List (List ℕ)
 cited number = number ∷ (codes "rule" ++ number) ∷ (codes "frcp" ++ number) ∷ (codes "fedrcivp" ++ number) ∷ []

@@ -4,7 +4,7 @@ pub use Rattle.row_fields.specs.Letters.{bare, folded}
 pub use Rattle.row_fields.specs.Numbers.{numbers_in}
 pub use Rattle.row_fields.specs.Laws.{NumbersStayWhole}
 pub use Rattle.row_fields.specs.Choices.{is_one_of}
-unfoldable pub use Rattle.row_fields.specs.Choices.{answer_said, list_said, means_said, rule_said, service_said}
+unfoldable pub use Rattle.row_fields.specs.Choices.{act_said, answer_said, list_said, means_said, rule_said, service_said}
 unfoldable pub use Rattle.row_fields.specs.Named.{section_said}
 unfoldable pub use Rattle.row_fields.specs.Dates.{date_said}
 unfoldable pub use Rattle.row_fields.specs.Times.{time_said}

@@ -1,7 +1,7 @@
 //! Fields that say one of a few words. Each word is folded: in small letters, with its letters and digits alone.
 
 ghost use Rattle.std.specs.Prelude.{◌≡◌};
-ghost use Rattle.row_fields.specs.Choices.{answer_said, list_said, means_said, one_rule_said, rule_said, service_said};
+ghost use Rattle.row_fields.specs.Choices.{act_said, answer_said, list_said, means_said, one_rule_said, rule_said, service_said};
 ghost use Rattle.row_fields.specs.Said.{said_map};
 
 use crate::said::Said;
@@ -54,6 +54,18 @@ pub fn list_said(word: &str) -> Said<&'static str>
     match word {
         "federal" | "fed" => Said::Clear("federal"),
         "state" => Said::Clear("state"),
+        _ => Said::Unknown,
+    }
+}
+
+/// What has to be done in time.
+#[tactic(auto, unfolding(crate::specs::Choices::act_said))]
+pub fn act_said(word: &str) -> Said<&'static str>
+    ensures { said_map (λ plain. plain.now) result ≡ act_said word.now }
+{
+    match word {
+        "filing" | "file" | "tofile" => Said::Clear("filing"),
+        "service" | "serve" | "toserve" => Said::Clear("service"),
         _ => Said::Unknown,
     }
 }

@@ -12,9 +12,9 @@ use Rattle.row_forms.specs.declared.row.Work.{Work}
 use Rattle.row_forms.specs.Bounds.{IsOfClerk, RowsAreBounded}
 use Rattle.row_forms.specs.Columns.{◌>>=◌, column}
 use Rattle.row_forms.specs.Fields.Numbers.{number_of}
-use Rattle.row_forms.specs.Forms.{work_of}
+use Rattle.row_forms.specs.Forms.{office_work_of}
 use Rattle.row_forms.specs.CourtNames.{CourtNames}
-use Rattle.row_forms.specs.Rows.{clerk_of, in_row, most_rows, row_of, rows_read_from, rows_read}
+use Rattle.row_forms.specs.Rows.{clerk_of, in_row, most_rows, office_row_of, rows_read_from, rows_read}
 
 -- a clerk's number that was read
 clerk_within : (clerks : ℕ) (field : List ℕ) (clerk : ℕ) → clerk_of clerks field ≡ Some clerk → (1 ≤ clerk) × (clerk ≤ clerks)
@@ -35,9 +35,9 @@ clerk_within clerks field clerk h = by (number_of field) h
     by (Some n) e = tested n (leb 1 n) (leb n clerks) refl refl e
 
 -- a row that was read
-row_within : (clerks : ℕ) (names : CourtNames) (fields : List (List ℕ)) (row : Row) → row_of clerks names fields ≡ Ok row → IsOfClerk clerks row
-unfolding row_of
-row_within clerks names fields row h = by (list_all is_utf8 fields) (ltb (length fields) 2) (clerk_of clerks (column fields 1)) refl (work_of names fields) h
+row_within : (clerks : ℕ) (names : CourtNames) (fields : List (List ℕ)) (row : Row) → office_row_of clerks names fields ≡ Ok row → IsOfClerk clerks row
+unfolding office_row_of
+row_within clerks names fields row h = by (list_all is_utf8 fields) (ltb (length fields) 2) (clerk_of clerks (column fields 1)) refl (office_work_of names fields) h
   where
     by : (text few : Bool) (found : Option ℕ) → clerk_of clerks (column fields 1) ≡ found → (work : Result Work RowCause)
         → cond (not text) (Err NotText) (cond few (Err WrongCount) (ok_or found BadClerk >>= (λ clerk. work >>= (λ work. Ok (record { clerk = clerk; work = work }))))) ≡ Ok row
@@ -59,9 +59,9 @@ bounded clerks names n [] rows few h =
     let none : [] ≡ rows = cc h in
     rw (← none) (omega arith, All-nil (IsOfClerk clerks))
 bounded clerks names n (fields ∷ more) rows few h =
-    by (ltb most_rows n) refl (row_of clerks names fields) refl (rows_read_from clerks names (n + 1) more) (λ later small. bounded clerks names (n + 1) more later small) h
+    by (ltb most_rows n) refl (office_row_of clerks names fields) refl (rows_read_from clerks names (n + 1) more) (λ later small. bounded clerks names (n + 1) more later small) h
   where
-    by : (past : Bool) → ltb most_rows n ≡ past → (r : Result Row RowCause) → row_of clerks names fields ≡ r → (rest : Result (List Row) (ℕ × RowCause))
+    by : (past : Bool) → ltb most_rows n ≡ past → (r : Result Row RowCause) → office_row_of clerks names fields ≡ r → (rest : Result (List Row) (ℕ × RowCause))
         → ((later : List Row) → n + 1 ≤ most_rows + 1 → rest ≡ Ok later → (length later + (n + 1) ≤ most_rows + 1) × All (IsOfClerk clerks) later)
         → (in_row n (cond past (Err TooManyRows) r) >>= (λ row. rest >>= (λ rows. Ok (row ∷ rows)))) ≡ Ok rows
         → (length rows + n ≤ most_rows + 1) × All (IsOfClerk clerks) rows

@@ -6,12 +6,12 @@ use Rattle.row_forms.specs.declared.fault.RowCause.TheVariants.{TooManyRows}
 use Rattle.row_forms.specs.FirstFault.{AreSpelled, FirstFaultIsTold, IsFirstFault}
 use Rattle.row_forms.specs.Columns.{◌>>=◌}
 use Rattle.row_forms.specs.CourtNames.{CourtNames}
-use Rattle.row_forms.specs.Rows.{in_row, most_rows, numbered_row, row_of, rows_read_from}
+use Rattle.row_forms.specs.Rows.{in_row, most_rows, numbered_row, office_row_of, rows_read_from}
 
 pub first_fault_is_told_lem : FirstFaultIsTold
 unfolding rows_read_from
 first_fault_is_told_lem clerks names n [] = record { count = refl; each = λ i fields row none. cc none }
-first_fault_is_told_lem clerks names n (f ∷ fs) = by (cond (ltb most_rows n) (Err TooManyRows) (row_of clerks names f)) refl (rows_read_from clerks names (n + 1) fs) (first_fault_is_told_lem clerks names (n + 1) fs)
+first_fault_is_told_lem clerks names n (f ∷ fs) = by (cond (ltb most_rows n) (Err TooManyRows) (office_row_of clerks names f)) refl (rows_read_from clerks names (n + 1) fs) (first_fault_is_told_lem clerks names (n + 1) fs)
   where
     at_first : (i : ℕ) (r : Result Row (ℕ × RowCause)) → i ≡ 0 → numbered_row clerks names n f ≡ r → numbered_row clerks names (i + n) f ≡ r
     at_first i r e h = let same : i + n ≡ n = omega arith in rw same h
@@ -35,7 +35,7 @@ first_fault_is_told_lem clerks names n (f ∷ fs) = by (cond (ltb most_rows n) (
         let same : suc i + n ≡ i + (n + 1) = omega arith in
         rw same (later.before i fields (omega arith) at_fields)
 
-    by : (r : Result Row RowCause) → cond (ltb most_rows n) (Err TooManyRows) (row_of clerks names f) ≡ r → (rest : Result (List Row) (ℕ × RowCause))
+    by : (r : Result Row RowCause) → cond (ltb most_rows n) (Err TooManyRows) (office_row_of clerks names f) ≡ r → (rest : Result (List Row) (ℕ × RowCause))
         → MatchResult rest (AreSpelled clerks names (n + 1) fs) (λ fault. IsFirstFault clerks names (n + 1) fs fault.0 fault.1)
         → MatchResult (in_row n r >>= (λ row. rest >>= (λ rows. Ok (row ∷ rows)))) (AreSpelled clerks names n (f ∷ fs)) (λ fault. IsFirstFault clerks names n (f ∷ fs) fault.0 fault.1)
     by (Err cause) e rest later = record { place = 0; numbered = omega arith; fault = ap (in_row n) e; within = omega arith; before = λ i fields none. absurd (omega arith) }

@@ -1,21 +1,34 @@
 -- Command words, their forms, and what rows of each form ask for.
-use Rattle.std.proofs.Common.{◌≡◌, ℕ, Bool, true, false, List, Option, Some, None, Result, Ok, Err, cond, refl, rules, sym, ap, subst}
-use Rattle.std.specs.Option.{ok_or}
+use Rattle.std.proofs.Common.{◌≡◌, ◌==◌, ℕ, Bool, true, false, List, Option, Some, None, Result, Ok, Err, cond, length, not, refl, rules, sym, ap, subst}
+use Rattle.std.specs.List.{find}
+use Rattle.std.specs.Option.{is_some, ok_or}
 use Rattle.std.proofs.lemmas.Slice.Eq.{bytes_eq-Decides}
 use Rattle.hearing_slots.proofs.CallerLemmas.{find-Some}
 use Rattle.row_forms.specs.declared.fault.RowCause.{RowCause}
 use Rattle.row_forms.specs.declared.fault.RowCause.TheVariants.{UnknownCommand, WrongCount}
+use Rattle.row_forms.specs.declared.forms.periods.Measured.{Measured}
 use Rattle.row_forms.specs.declared.forms.table.Form.{Form}
-use Rattle.row_forms.specs.declared.forms.table.Form.TheVariants.{Open}
+use Rattle.row_forms.specs.declared.forms.table.Form.TheVariants.{Open, Start}
 use Rattle.row_forms.specs.declared.row.Work.{Work}
-use Rattle.row_forms.specs.Columns.{◌>>=◌, column}
-use Rattle.row_forms.specs.Forms.{RowsAskByTheirWords, form_asking, read_as, work_of}
-use Rattle.row_forms.specs.Forms.Table.{CommandWordsNameForms, command_word, form_of, forms, is_word_of}
+use Rattle.row_forms.specs.declared.row.Work.TheVariants.{Command}
+use Rattle.docket_rows.specs.declared.command.Command.TheVariants as command
+use Rattle.rule_periods.specs.Words.{is_set}
+use Rattle.row_forms.specs.Columns.{◌>>=◌, column, number_in}
+use Rattle.row_forms.specs.Forms.{RowsAskByTheirWords, form_asking, read_as, start_row, work_as, work_of}
+use Rattle.row_forms.specs.Forms.Periods.{measured_from}
+use Rattle.row_forms.specs.Forms.Table.{CommandWordsNameForms, columns_of_form, command_word, form_of, forms, is_word_of, office_form_of, office_forms}
 use Rattle.row_forms.specs.CourtNames.{CourtNames}
+use Rattle.row_forms.specs.Office.{is_office_work}
+use Rattle.row_forms.proofs.PeriodLemmas.{measured_counted}
+
+-- a form that is found among some by a word has that word
+pub named_in : (among : List Form) (word : List ℕ) (form : Form) → find (is_word_of word) among ≡ Some form → command_word form ≡ word
+unfolding is_word_of
+named_in among word form h = sym ((bytes_eq-Decides word (command_word form)).0 (find-Some (is_word_of word) among form h).passes)
 
 named : (word : List ℕ) (form : Form) → form_of word ≡ Some form → command_word form ≡ word
-unfolding form_of is_word_of
-named word form h = sym ((bytes_eq-Decides word (command_word form)).0 (find-Some (is_word_of word) forms form h).passes)
+unfolding form_of
+named word form h = named_in forms word form h
 
 -- of each form: the second line is checked for every other form
 itself : (form : Form) → form_of (command_word form) ≡ Some form
@@ -25,6 +38,18 @@ itself other = refl
 
 pub command_words_name_forms_lem : CommandWordsNameForms
 command_words_name_forms_lem word form = (named word form, λ same. subst (λ (w : List ℕ). form_of w ≡ Some form) same (itself form))
+
+-- a word that clerk_office takes names the same form at the desk
+pub at_desk : (word : List ℕ) (form : Form) → office_form_of word ≡ Some form → form_of word ≡ Some form
+unfolding office_form_of
+at_desk word form h = (command_words_name_forms_lem word form).1 (named_in office_forms word form h)
+
+pub known_at_desk : (word : List ℕ) → is_some (office_form_of word) ≡ true → is_some (form_of word) ≡ true
+known_at_desk word known = by (office_form_of word) refl known
+  where
+    by : (found : Option Form) → office_form_of word ≡ found → is_some found ≡ true → is_some (form_of word) ≡ true
+    by None same none = cc none
+    by (Some form) same some = ap is_some (at_desk word form same)
 
 -- what is read, if anything is, is asked for by rows of that form
 record Asks (form : Form) (r : Result Work RowCause) : Type 0 where
@@ -41,13 +66,31 @@ counted : (form : Form) (wrong : Bool) (r : Result Work RowCause) → Asks form 
 counted form true r h = record { asks = λ work none. cc none }
 counted form false r h = h
 
+-- a row of `start` asks for a period that is counted
+pub start_is : (fields : List (List ℕ)) (work : Work) → start_row fields ≡ Ok work → (form_asking work ≡ Start) × (is_office_work work ≡ true)
+start_is fields work h = by (number_in fields 3) (measured_from fields 4) refl h
+  where
+    by : (case : Result ℕ RowCause) (m : Result Measured RowCause) → measured_from fields 4 ≡ m
+        → (case >>= (λ (n : ℕ). m >>= (λ (x : Measured). Ok (Command (command.Start n x.period x.event x.second x.service))))) ≡ Ok work
+        → (form_asking work ≡ Start) × (is_office_work work ≡ true)
+    by (Err cause) m same e = cc e
+    by (Ok n) (Err cause) same e = cc e
+    by (Ok n) (Ok x) same e =
+        let is : Command (command.Start n x.period x.event x.second x.service) ≡ work = cc e in
+        let plain : is_set x.period ≡ false = measured_counted fields 4 x same in
+        let asks : form_asking (Command (command.Start n x.period x.event x.second x.service)) ≡ Start = rw plain refl in
+        let office : is_office_work (Command (command.Start n x.period x.event x.second x.service)) ≡ true = rw plain refl in
+        rw (← is) (asks, office)
+
 -- of each form, as above
 form_asks : (names : CourtNames) (form : Form) (fields : List (List ℕ)) → Asks form (read_as names form fields)
 form_asks names Open fields = search (rules, counted, after, done) depth 12
+form_asks names Start fields =
+    counted Start (not (length fields == length (columns_of_form Start))) (start_row fields) (record { asks = λ work h. (start_is fields work h).0 })
 form_asks names other fields = search (rules, counted, after, done) depth 12
 
 pub rows_ask_by_their_words_lem : RowsAskByTheirWords
-unfolding work_of
+unfolding work_of work_as
 rows_ask_by_their_words_lem names fields work h = by (form_of (column fields 2)) h
   where
     by : (found : Option Form) → (ok_or found UnknownCommand >>= (λ form. read_as names form fields)) ≡ Ok work → found ≡ Some (form_asking work)

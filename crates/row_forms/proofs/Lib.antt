@@ -5,6 +5,7 @@ pub mod PanelLemmas
 pub mod PeriodLemmas
 pub mod FormLemmas
 pub mod TakenLemmas
+pub mod OfficeLemmas
 pub mod RecordsLemmas
 pub mod TextLemmas
 pub mod ReadingLemmas

@@ -10,7 +10,7 @@ use Rattle.row_forms.specs.declared.fault.RowError.{RowError}
 use Rattle.row_forms.specs.declared.fault.RowError.TheVariants.{Fault, OutOfMemory}
 use Rattle.row_forms.specs.Columns.{◌>>=◌}
 use Rattle.row_forms.specs.CourtNames.{CourtNames}
-use Rattle.row_forms.specs.Rows.{AnswersRow, AnswersRows, most_rows, row_of, rows_read_from}
+use Rattle.row_forms.specs.Rows.{AnswersRow, AnswersRows, most_rows, office_row_of, row_of, rows_read_from}
 
 -- the rows after others that were read before them
 abbrev pub behind_rows : List Row → Result (List Row) (ℕ × RowCause) → Result (List Row) (ℕ × RowCause)
@@ -25,7 +25,7 @@ within : (number : ℕ) → number ≤ most_rows → ltb most_rows number ≡ fa
 within number few = grind (arith, nat_tests)
 
 -- a record that spells a row
-pub rows_read_from-row : (clerks : ℕ) (names : CourtNames) (number : ℕ) (fields : List (List ℕ)) (later : List (List (List ℕ))) (before : List Row) (row : Row) → number ≤ most_rows → row_of clerks names fields ≡ Ok row
+pub rows_read_from-row : (clerks : ℕ) (names : CourtNames) (number : ℕ) (fields : List (List ℕ)) (later : List (List (List ℕ))) (before : List Row) (row : Row) → number ≤ most_rows → office_row_of clerks names fields ≡ Ok row
     → behind_rows before (rows_read_from clerks names number (fields ∷ later)) ≡ behind_rows (before ++ row ∷ []) (rows_read_from clerks names (number + 1) later)
 unfolding rows_read_from
 rows_read_from-row clerks names number fields later before row few spelled = rw (within number few, spelled) (by (rows_read_from clerks names (number + 1) later))
@@ -35,7 +35,7 @@ rows_read_from-row clerks names number fields later before row few spelled = rw 
     by (Err fault) = refl
 
 -- a record that spells none
-pub rows_read_from-fault : (clerks : ℕ) (names : CourtNames) (number : ℕ) (fields : List (List ℕ)) (later : List (List (List ℕ))) (before : List Row) (cause : RowCause) → number ≤ most_rows → row_of clerks names fields ≡ Err cause
+pub rows_read_from-fault : (clerks : ℕ) (names : CourtNames) (number : ℕ) (fields : List (List ℕ)) (later : List (List (List ℕ))) (before : List Row) (cause : RowCause) → number ≤ most_rows → office_row_of clerks names fields ≡ Err cause
     → behind_rows before (rows_read_from clerks names number (fields ∷ later)) ≡ Err (number, cause)
 unfolding rows_read_from
 rows_read_from-fault clerks names number fields later before cause few fault = rw (within number few, fault)
@@ -44,9 +44,13 @@ pub row_of_no_text : (clerks : ℕ) (names : CourtNames) (fields : List (List �
 unfolding row_of
 row_of_no_text clerks names fields fails = rw fails
 
+pub office_row_of_no_text : (clerks : ℕ) (names : CourtNames) (fields : List (List ℕ)) → list_all is_utf8 fields ≡ false → office_row_of clerks names fields ≡ Err NotText
+unfolding office_row_of
+office_row_of_no_text clerks names fields fails = rw fails
+
 -- the same, of what reading it answered
 pub rows_read_from-err : {X : Type 0} (view : X → List Row) (clerks : ℕ) (names : CourtNames) (number : ℕ) (fields : List (List ℕ)) (later : List (List (List ℕ))) (before : List Row) (all : Result (List Row) (ℕ × RowCause)) (error : RowError) → number ≤ most_rows
-    → behind_rows before (rows_read_from clerks names number (fields ∷ later)) ≡ all → AnswersRow number (Err error) (row_of clerks names fields) → AnswersRows view (Err error) all
+    → behind_rows before (rows_read_from clerks names number (fields ∷ later)) ≡ all → AnswersRow number (Err error) (office_row_of clerks names fields) → AnswersRows view (Err error) all
 rows_read_from-err view clerks names number fields later before all (Fault n cause) few so_far fault =
     sym so_far ∙ rows_read_from-fault clerks names number fields later before cause few fault.0 ∙ ap (λ m. Err (m, cause)) (sym fault.1)
 rows_read_from-err view clerks names number fields later before all OutOfMemory few so_far fault = absurd fault

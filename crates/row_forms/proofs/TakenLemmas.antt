@@ -7,19 +7,20 @@ use Rattle.row_forms.specs.declared.fault.RowCause.{RowCause}
 use Rattle.row_forms.specs.declared.fault.RowCause.TheVariants.{BadClerk, BadField, NotText, UnknownCommand, WrongCount}
 use Rattle.row_forms.specs.declared.forms.table.Form.{Form}
 use Rattle.row_forms.specs.declared.forms.table.Form.TheVariants as form
-use Rattle.row_forms.specs.declared.headings.columns.Column.TheVariants.{TimeOrNone, SecondOrNone, ServiceOrNone, Clerk, Command}
+use Rattle.row_forms.specs.declared.headings.columns.Column.TheVariants.{TimeOrNone, SecondOrNone, ServiceOrNone, SetTime, Clerk, Command}
 use Rattle.row_forms.specs.declared.row.Row.{Row}
 use Rattle.row_forms.specs.declared.row.Work.{Work}
 use Rattle.row_forms.specs.Columns.{◌>>=◌, column, day_in, number_in}
 use Rattle.row_forms.specs.CourtNames.{CourtNames}
 use Rattle.row_forms.specs.Fields.Choices.{kind_if_given}
-use Rattle.row_forms.specs.Fields.Times.{day_if_given, minute_or_midnight}
-use Rattle.row_forms.specs.Forms.{fields_as, read_as, work_of}
+use Rattle.row_forms.specs.Fields.Times.{day_if_given, minute_of_set, minute_or_midnight}
+use Rattle.row_forms.specs.Forms.{fields_as, office_work_of, read_as, work_as, work_of}
 use Rattle.row_forms.specs.Forms.Periods.{measured_from}
 use Rattle.row_forms.specs.Forms.Settings.{setting_in}
-use Rattle.row_forms.specs.Forms.Table.{columns_of_form, form_of}
-use Rattle.row_forms.specs.Rows.{clerk_of, row_of}
-use Rattle.row_forms.specs.Taken.{BracketsShowWhatMayBeEmpty, EmptyFieldsAreTaken, RowsFollowTheTable, fault_in_form, fault_of, first_untaken, takes}
+use Rattle.row_forms.specs.Forms.Table.{columns_of_form, form_of, office_form_of}
+use Rattle.row_forms.specs.Rows.{clerk_of, office_row_of, row_asking, row_of}
+use Rattle.row_forms.specs.Taken.{BracketsShowWhatMayBeEmpty, EmptyFieldsAreTaken, RowsFollowTheTable, fault_by_table, fault_in_form, fault_of, first_untaken, takes}
+use Rattle.row_forms.proofs.FormLemmas.{known_at_desk}
 
 -- what is read is refused at this column, or at none
 record Follows {A : Type 0} (r : Result A RowCause) (untaken : Option ℕ) : Type 0 where
@@ -47,40 +48,46 @@ module _ (clerks : ℕ) (names : CourtNames) (fields : List (List ℕ)) where
     starts form.Open command = rw (clerk, command) refl
     starts other command = rw (clerk, command) refl
 
-    work_follows : fault_of (work_of names fields) ≡ fault_in_form clerks names fields (form_of (column fields 2))
-    unfolding work_of
-    work_follows = by (form_of (column fields 2)) refl
-      where
-        counted : (f : Form) (wrong : Bool) → is_some (form_of (column fields 2)) ≡ true
-            → fault_of (cond wrong (Err WrongCount) (fields_as names f fields)) ≡ cond wrong (Some WrongCount) (option_map BadField (first_untaken clerks names fields 1 (columns_of_form f)))
-        counted f true command = refl
-        counted f false command = (form_follows f).is ∙ ap (option_map BadField) (sym (starts f command))
+    counted : (f : Form) (wrong : Bool) → takes clerks names Command (column fields 2) ≡ true
+        → fault_of (cond wrong (Err WrongCount) (fields_as names f fields)) ≡ cond wrong (Some WrongCount) (option_map BadField (first_untaken clerks names fields 1 (columns_of_form f)))
+    counted f true command = refl
+    counted f false command = (form_follows f).is ∙ ap (option_map BadField) (sym (starts f command))
 
-        by : (found : Option Form) → form_of (column fields 2) ≡ found → fault_of (ok_or found UnknownCommand >>= (λ f. read_as names f fields)) ≡ fault_in_form clerks names fields found
-        by None e = refl
-        by (Some f) e = counted f (not (length fields == length (columns_of_form f))) (ap is_some e)
+    -- by a table whose words the desk has too
+    work_follows : (found : Option Form) → (is_some found ≡ true → takes clerks names Command (column fields 2) ≡ true) → fault_of (work_as names found fields) ≡ fault_in_form clerks names fields found
+    unfolding work_as
+    work_follows None known = refl
+    work_follows (Some f) known = counted f (not (length fields == length (columns_of_form f))) (known refl)
 
-pub rows_follow_the_table_lem : RowsFollowTheTable
-unfolding row_of
-rows_follow_the_table_lem clerks names fields = by (list_all is_utf8 fields) (ltb (length fields) 2) (clerk_of clerks (column fields 1)) refl
+row_follows : (clerks : ℕ) (names : CourtNames) (fields : List (List ℕ)) (found : Option Form) → (is_some found ≡ true → takes clerks names Command (column fields 2) ≡ true)
+    → fault_of (row_asking clerks (work_as names found fields) fields) ≡ fault_by_table clerks names fields found
+row_follows clerks names fields found known = by (list_all is_utf8 fields) (ltb (length fields) 2) (clerk_of clerks (column fields 1)) refl
   where
     kept : (more : Work → Row) (r : Result Work RowCause) → fault_of (r >>= (λ work. Ok (more work))) ≡ fault_of r
     kept more (Ok work) = refl
     kept more (Err cause) = refl
 
-    by : (text few : Bool) (found : Option ℕ) → clerk_of clerks (column fields 1) ≡ found
-        → fault_of {A = Row} (cond (not text) (Err NotText) (cond few (Err WrongCount) (ok_or found BadClerk >>= (λ clerk. work_of names fields >>= (λ work. Ok (record { clerk = clerk; work = work }))))))
-        ≡ cond (not text) (Some NotText) (cond few (Some WrongCount) (cond (not (is_some found)) (Some BadClerk) (fault_in_form clerks names fields (form_of (column fields 2)))))
-    by false few found e = refl
-    by true true found e = refl
+    by : (text few : Bool) (number : Option ℕ) → clerk_of clerks (column fields 1) ≡ number
+        → fault_of {A = Row} (cond (not text) (Err NotText) (cond few (Err WrongCount) (ok_or number BadClerk >>= (λ clerk. work_as names found fields >>= (λ work. Ok (record { clerk = clerk; work = work }))))))
+        ≡ cond (not text) (Some NotText) (cond few (Some WrongCount) (cond (not (is_some number)) (Some BadClerk) (fault_in_form clerks names fields found)))
+    by false few number e = refl
+    by true true number e = refl
     by true false None e = refl
-    by true false (Some clerk) e = kept (λ work. record { clerk = clerk; work = work }) (work_of names fields) ∙ work_follows clerks names fields (ap is_some e)
+    by true false (Some clerk) e = kept (λ work. record { clerk = clerk; work = work }) (work_as names found fields) ∙ work_follows clerks names fields (ap is_some e) found known
+
+pub rows_follow_the_table_lem : RowsFollowTheTable
+unfolding row_of work_of office_row_of office_work_of
+rows_follow_the_table_lem = record {
+  desk = λ clerks names fields. row_follows clerks names fields (form_of (column fields 2)) (λ known. known);
+  office = λ clerks names fields. row_follows clerks names fields (office_form_of (column fields 2)) (known_at_desk (column fields 2));
+}
 
 pub empty_fields_are_taken_lem : EmptyFieldsAreTaken
-unfolding minute_or_midnight day_if_given kind_if_given
+unfolding minute_or_midnight day_if_given kind_if_given minute_of_set
 empty_fields_are_taken_lem TimeOrNone clerks names e = refl
 empty_fields_are_taken_lem SecondOrNone clerks names e = refl
 empty_fields_are_taken_lem ServiceOrNone clerks names e = refl
+empty_fields_are_taken_lem SetTime clerks names e = refl
 empty_fields_are_taken_lem other clerks names e = cc e
 
 pub brackets_show_what_may_be_empty_lem : BracketsShowWhatMayBeEmpty

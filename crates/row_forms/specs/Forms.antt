@@ -2,25 +2,33 @@
 pub mod Periods
 pub mod Settings
 pub mod Table
-use Rattle.std.specs.Prelude.{◌≡◌, ◌==◌, not, ℕ, List, length, Some, Result, Ok, Err, if◌then◌else◌}
+use Rattle.std.specs.Prelude.{◌≡◌, ◌==◌, not, ℕ, false, List, length, Option, Some, None, Result, Ok, Err, if◌then◌else◌}
 use Rattle.std.specs.Option.{ok_or}
+use Rattle.court_clock.specs.declared.direction.Direction.TheVariants.{After}
 use Rattle.court_clock.specs.Words.{minute_of_text}
+use Rattle.rule6.specs.declared.timeliness.Act.{Act}
+use Rattle.rule_periods.specs.declared.mark.Mark.TheVariants.{Plain}
+use Rattle.rule_periods.specs.declared.period.Length.TheVariants.{ToDay}
+use Rattle.rule_periods.specs.declared.period.Period.{Period}
+use Rattle.rule_periods.specs.declared.period.Period.TheVariants.{Entered}
+use Rattle.rule_periods.specs.Words.{is_set}
 use Rattle.docket_rows.specs.declared.command.Command.TheVariants as command
 use Rattle.docket_rows.specs.declared.query.Query.TheVariants as query
 use Rattle.row_forms.specs.declared.fault.RowCause.{RowCause}
 use Rattle.row_forms.specs.declared.fault.RowCause.TheVariants.{UnknownCommand, WrongCount}
 use Rattle.row_forms.specs.declared.forms.table.Form.{Form}
-use Rattle.row_forms.specs.declared.forms.table.Form.TheVariants.{Open, Start, File, Extend, Motion, Book, Move, Cancel, Holiday, Inaccessible, Compute, Sheet, Calendar}
+use Rattle.row_forms.specs.declared.forms.table.Form.TheVariants.{Open, Start, File, Extend, Motion, Book, Move, Cancel, Holiday, Inaccessible, Compute, Sheet, Calendar, Set}
 use Rattle.row_forms.specs.declared.row.Work.{Work}
 use Rattle.row_forms.specs.declared.row.Work.TheVariants.{Command, Query}
 use Rattle.row_forms.specs.Columns.{◌>>=◌, column, in_column, day_in, number_in}
 use Rattle.row_forms.specs.Fields.Choices.{is_so, list_of, means_of}
 use Rattle.row_forms.specs.Fields.Grants.{grant_of, need_of}
-use Rattle.row_forms.specs.Fields.Times.{ending_minute}
+use Rattle.row_forms.specs.Fields.Period.{act_of}
+use Rattle.row_forms.specs.Fields.Times.{ending_minute, minute_of_set}
 use Rattle.row_forms.specs.CourtNames.{CourtNames, number_named}
 use Rattle.row_forms.specs.Forms.Periods.{measured_from}
 use Rattle.row_forms.specs.Forms.Settings.{setting_in}
-use Rattle.row_forms.specs.Forms.Table.{columns_of_form, form_of}
+use Rattle.row_forms.specs.Forms.Table.{columns_of_form, form_of, office_form_of}
 
 -- a row of `open`
 abbrev pub open_row : List (List ℕ) → Result Work RowCause
@@ -101,6 +109,19 @@ calendar_row names fields = do
   day ← day_in fields 4
   Ok (Query (query.JudgeDay (number_named names.judges (column fields 3)) day))
 
+-- the period of an act that an order wants by the day of the event
+abbrev pub set_to : Act → Period
+set_to act = Entered (record { length = ToDay; direction = After; act = act; served = false; mark = Plain })
+
+-- a row of `set`: an order sets a deadline for a day
+abbrev pub set_row : List (List ℕ) → Result Work RowCause
+set_row fields = do
+  case ← number_in fields 3
+  day ← day_in fields 4
+  minute ← in_column 5 (minute_of_set (column fields 5))
+  act ← in_column 6 (act_of (column fields 6))
+  Ok (Command (command.Start case (set_to act) (record { day = day; minute = minute }) None None))
+
 -- what the fields of a row of this form ask for
 abbrev pub fields_as : CourtNames → Form → List (List ℕ) → Result Work RowCause
 fields_as names Open fields = open_row fields
@@ -122,22 +143,31 @@ fields_as names Sheet fields = do
   case ← number_in fields 3
   Ok (Query (query.Sheet case))
 fields_as names Calendar fields = calendar_row names fields
+fields_as names Set fields = set_row fields
 
 -- what a row of this form asks for, which has a field for each column
 abbrev pub read_as : CourtNames → Form → List (List ℕ) → Result Work RowCause
 read_as names form fields =
     if not (length fields == length (columns_of_form form)) then Err WrongCount else fields_as names form fields
 
--- what a row asks for
-unfoldable pub work_of : CourtNames → List (List ℕ) → Result Work RowCause
-work_of names fields = do
-  form ← ok_or (form_of (column fields 2)) UnknownCommand
+-- what a row asks for whose command word names this form, if it names one
+unfoldable pub work_as : CourtNames → Option Form → List (List ℕ) → Result Work RowCause
+work_as names found fields = do
+  form ← ok_or found UnknownCommand
   read_as names form fields
+
+-- what a row of the desk asks for
+unfoldable pub work_of : CourtNames → List (List ℕ) → Result Work RowCause
+work_of names fields = work_as names (form_of (column fields 2)) fields
+
+-- what a row of clerk_office asks for
+unfoldable pub office_work_of : CourtNames → List (List ℕ) → Result Work RowCause
+office_work_of names fields = work_as names (office_form_of (column fields 2)) fields
 
 -- the form of the rows that ask for this
 abbrev pub form_asking : Work → Form
 form_asking (Command (command.OpenCase case filed)) = Open
-form_asking (Command (command.Start case period event second service)) = Start
+form_asking (Command (command.Start case period event second service)) = if is_set period then Set else Start
 form_asking (Command (command.FileAct case deadline filing)) = File
 form_asking (Command (command.Extend case deadline request)) = Extend
 form_asking (Command (command.Motion case served need)) = Motion

@@ -9,6 +9,7 @@ pub mod Numbered
 pub mod FirstFault
 pub mod Taken
 pub mod Bounds
+pub mod Office
 pub mod Words
 pub mod Headings
 pub mod Line

@@ -1,4 +1,4 @@
--- The rows that records spell, or their first fault.
+-- The rows that records spell, or their first fault. Rows one after another are those of clerk_office; the desk reads each by itself.
 use Rattle.std.specs.Prelude.{◌≡◌, ℕ, ◌+◌, ◌&&◌, not, List, [], ◌∷◌, length, nat_lt, nat_le, Option, Some, None, Result, Ok, Err, if◌then◌else◌}
 use Rattle.std.specs.List.{list_all}
 use Rattle.std.specs.Option.{ok_or, option_and_then}
@@ -9,24 +9,33 @@ use Rattle.row_forms.specs.declared.fault.RowCause.TheVariants.{BadClerk, WrongC
 use Rattle.row_forms.specs.declared.fault.RowError.{RowError}
 use Rattle.row_forms.specs.declared.fault.RowError.TheVariants.{Fault, OutOfMemory}
 use Rattle.row_forms.specs.declared.row.Row.{Row}
+use Rattle.row_forms.specs.declared.row.Work.{Work}
 use Rattle.row_forms.specs.Columns.{◌>>=◌, column}
 use Rattle.row_forms.specs.Fields.Numbers.{number_of}
-use Rattle.row_forms.specs.Forms.{work_of}
+use Rattle.row_forms.specs.Forms.{office_work_of, work_of}
 use Rattle.row_forms.specs.CourtNames.{CourtNames}
 
 -- a clerk's number, from 1 to the number of clerks
 unfoldable pub clerk_of : ℕ → List ℕ → Option ℕ
 clerk_of clerks field = option_and_then (λ n. if nat_le 1 n && nat_le n clerks then Some n else None) (number_of field)
 
--- the row that a record spells, or its fault: the first in this order
-unfoldable pub row_of : ℕ → CourtNames → List (List ℕ) → Result Row RowCause
-row_of clerks names fields =
+-- the row that a record spells which asks for this, or its fault: the first in this order
+abbrev pub row_asking : ℕ → (asked : Result Work RowCause) → List (List ℕ) → Result Row RowCause
+row_asking clerks asked fields =
     if not (list_all is_utf8 fields) then Err NotText
     else if nat_lt (length fields) 2 then Err WrongCount
     else do
       clerk ← ok_or (clerk_of clerks (column fields 1)) BadClerk
-      work ← work_of names fields
+      work ← asked
       Ok (record { clerk = clerk; work = work })
+
+-- the row of the desk that a record spells, or its fault
+unfoldable pub row_of : ℕ → CourtNames → List (List ℕ) → Result Row RowCause
+row_of clerks names fields = row_asking clerks (work_of names fields) fields
+
+-- the row of clerk_office that a record spells, or its fault
+unfoldable pub office_row_of : ℕ → CourtNames → List (List ℕ) → Result Row RowCause
+office_row_of clerks names fields = row_asking clerks (office_work_of names fields) fields
 
 -- a fault, with the number of its row
 abbrev pub in_row : {A : Type 0} → ℕ → Result A RowCause → Result A (ℕ × RowCause)
@@ -39,7 +48,7 @@ most_rows = 100_000
 
 -- the row that the record of this number spells, counted from 1: there are only as many rows as the office takes
 abbrev pub numbered_row : ℕ → CourtNames → ℕ → List (List ℕ) → Result Row (ℕ × RowCause)
-numbered_row clerks names number fields = in_row number (if nat_lt most_rows number then Err TooManyRows else row_of clerks names fields)
+numbered_row clerks names number fields = in_row number (if nat_lt most_rows number then Err TooManyRows else office_row_of clerks names fields)
 
 -- the rows of records, the first of which has this number, or the first fault with its row's number
 unfoldable pub rows_read_from : ℕ → CourtNames → ℕ → List (List (List ℕ)) → Result (List Row) (ℕ × RowCause)

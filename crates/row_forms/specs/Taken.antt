@@ -8,18 +8,18 @@ use Rattle.row_forms.specs.declared.fault.RowCause.{RowCause}
 use Rattle.row_forms.specs.declared.fault.RowCause.TheVariants.{BadClerk, BadField, NotText, UnknownCommand, WrongCount}
 use Rattle.row_forms.specs.declared.forms.table.Form.{Form}
 use Rattle.row_forms.specs.declared.headings.columns.Column.{Column}
-use Rattle.row_forms.specs.declared.headings.columns.Column.TheVariants.{Clerk, Command, Case, Deadline, Motion, Period, Date, Time, Start, TimeOrNone, SecondOrNone, ServiceOrNone, Means, Grant, ByMotion, Cause, Neglect, Need, Holidays, From, To, Judge, Judges, Room, Slots, Notice}
+use Rattle.row_forms.specs.declared.headings.columns.Column.TheVariants.{Clerk, Command, Case, Deadline, Motion, Period, Date, Time, Start, TimeOrNone, SecondOrNone, ServiceOrNone, Means, Grant, ByMotion, Cause, Neglect, Need, Holidays, From, To, Judge, Judges, Room, Slots, Notice, SetTime, Act}
 use Rattle.row_forms.specs.Columns.{column}
 use Rattle.row_forms.specs.CourtNames.{CourtNames}
 use Rattle.row_forms.specs.Fields.Choices.{is_so, kind_if_given, list_of, means_of}
 use Rattle.row_forms.specs.Fields.Grants.{grant_of, need_of}
 use Rattle.row_forms.specs.Fields.Hearings.{panel_named, slots_of}
 use Rattle.row_forms.specs.Fields.Numbers.{number_of}
-use Rattle.row_forms.specs.Fields.Period.{period_of}
-use Rattle.row_forms.specs.Fields.Times.{day_if_given, ending_minute, minute_or_midnight, slot_at}
-use Rattle.row_forms.specs.Forms.Table.{columns_of_form, form_of}
+use Rattle.row_forms.specs.Fields.Period.{act_of, period_of}
+use Rattle.row_forms.specs.Fields.Times.{day_if_given, ending_minute, minute_of_set, minute_or_midnight, slot_at}
+use Rattle.row_forms.specs.Forms.Table.{columns_of_form, form_of, office_form_of}
 use Rattle.row_forms.specs.Headings.Columns.{mark_of, may_be_empty}
-use Rattle.row_forms.specs.Rows.{clerk_of, row_of}
+use Rattle.row_forms.specs.Rows.{clerk_of, office_row_of, row_of}
 
 -- a column takes this field: any text is a judge's or a room's name
 abbrev pub takes : (clerks : ℕ) → CourtNames → Column → List ℕ → Bool
@@ -49,6 +49,8 @@ takes clerks names Judges field = is_some (panel_named names.judges field)
 takes clerks names Room field = true
 takes clerks names Slots field = is_some (slots_of field)
 takes clerks names Notice field = is_some (day_of_text field)
+takes clerks names SetTime field = is_some (minute_of_set field)
+takes clerks names Act field = is_some (act_of field)
 
 module _ (clerks : ℕ) (names : CourtNames) (fields : List (List ℕ)) where
   -- the number of the first column that doesn't take its field, of columns the first of which has this number
@@ -63,22 +65,23 @@ module _ (clerks : ℕ) (names : CourtNames) (fields : List (List ℕ)) where
       if not (length fields == length (columns_of_form form)) then Some WrongCount
       else option_map BadField (first_untaken 1 (columns_of_form form))
 
-  -- what is wrong with a row by the table of forms: the first in this order
-  abbrev pub fault_by_table : Option RowCause
-  fault_by_table =
+  -- what is wrong with a row whose command word names this form in a table, if it names one: the first in this order
+  abbrev pub fault_by_table : Option Form → Option RowCause
+  fault_by_table form =
       if not (list_all is_utf8 fields) then Some NotText
       else if nat_lt (length fields) 2 then Some WrongCount
       else if not (takes clerks names Clerk (column fields 1)) then Some BadClerk
-      else fault_in_form (form_of (column fields 2))
+      else fault_in_form form
 
 -- what is wrong with a row, as it was read
 abbrev pub fault_of : {A : Type 0} → Result A RowCause → Option RowCause
 fault_of (Ok x) = None
 fault_of (Err cause) = Some cause
 
--- A row is refused for what the table of forms says, and for nothing else.
-abbrev pub RowsFollowTheTable : Type 0
-RowsFollowTheTable = (clerks : ℕ) (names : CourtNames) (fields : List (List ℕ)) → fault_of (row_of clerks names fields) ≡ fault_by_table clerks names fields
+-- A row is refused for what the table of forms says, and for nothing else: at the desk by its table, and by clerk_office by its own.
+pub record RowsFollowTheTable : Type 0 where
+  pub desk : (clerks : ℕ) (names : CourtNames) (fields : List (List ℕ)) → fault_of (row_of clerks names fields) ≡ fault_by_table clerks names fields (form_of (column fields 2))
+  pub office : (clerks : ℕ) (names : CourtNames) (fields : List (List ℕ)) → fault_of (office_row_of clerks names fields) ≡ fault_by_table clerks names fields (office_form_of (column fields 2))
 
 -- A column whose field may be empty takes an empty field.
 abbrev pub EmptyFieldsAreTaken : Type 0

@@ -11,15 +11,16 @@ unfoldable pub use Rattle.row_forms.specs.Fields.Grants.{grant_of, need_of}
 pub use Rattle.row_forms.specs.Fields.Hearings.{joined_names}
 unfoldable pub use Rattle.row_forms.specs.Fields.Hearings.{panel_named, slots_of}
 pub use Rattle.row_forms.specs.Columns.{column, in_column}
-pub use Rattle.row_forms.specs.Forms.Table.{CommandWordsNameForms, columns_of_form, command_word, forms}
-unfoldable pub use Rattle.row_forms.specs.Forms.Table.{form_of}
+pub use Rattle.row_forms.specs.Forms.Table.{CommandWordsNameForms, columns_of_form, command_word, forms, office_forms}
+unfoldable pub use Rattle.row_forms.specs.Forms.Table.{form_of, office_form_of}
 pub use Rattle.row_forms.specs.Forms.{RowsAskByTheirWords, fields_as, form_asking, read_as}
-unfoldable pub use Rattle.row_forms.specs.Forms.{work_of}
-pub use Rattle.row_forms.specs.Rows.{AnswersRows, in_row, most_rows, numbered_row}
-unfoldable pub use Rattle.row_forms.specs.Rows.{clerk_of, row_of, rows_read_from, rows_read}
+unfoldable pub use Rattle.row_forms.specs.Forms.{office_work_of, work_as, work_of}
+pub use Rattle.row_forms.specs.Rows.{AnswersRows, in_row, most_rows, numbered_row, row_asking}
+unfoldable pub use Rattle.row_forms.specs.Rows.{clerk_of, office_row_of, row_of, rows_read_from, rows_read}
 pub use Rattle.row_forms.specs.Records.{MeetsNoText, TakesAnyRow, TakesText, records_left}
 pub use Rattle.row_forms.specs.FirstFault.{AreSpelled, FirstFaultIsTold, IsFirstFault}
 pub use Rattle.row_forms.specs.Fault.{cause_text}
 pub use Rattle.row_forms.specs.Bounds.{IsClerk, IsOfClerk, RowsAreBounded}
 pub use Rattle.row_forms.specs.Numbered.{rows_of}
 unfoldable pub use Rattle.row_forms.specs.Numbered.{numbered_from}
+pub use Rattle.row_forms.specs.Office.{OfficeRowsAreReadAlike, RowsAreOfficeWork, is_office_work}

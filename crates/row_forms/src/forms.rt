@@ -2,7 +2,7 @@
 
 ghost use Rattle.std.specs.Prelude.{◌≡◌};
 ghost use Rattle.csv.specs.Records.{fields_of};
-ghost use Rattle.row_forms.specs.Forms.{calendar_row, cancel_row, compute_row, extend_row, file_row, holiday_row, inaccessible_row, motion_row, open_row, read_as, start_row, work_of};
+ghost use Rattle.row_forms.specs.Forms.{calendar_row, cancel_row, compute_row, extend_row, file_row, holiday_row, inaccessible_row, motion_row, open_row, read_as, set_row, set_to, start_row, work_as};
 ghost use Rattle.row_forms.specs.CourtNames.{names_of};
 
 use crate::columns::{column, day_in, number_in};
@@ -10,30 +10,32 @@ use crate::fault::RowCause;
 use crate::fields::choices::{is_so, list_of, means_of};
 use crate::fields::grants::{grant_of, need_of};
 use crate::fields::hearings::judge_named;
-use crate::fields::times::ending_minute;
+use crate::fields::period::act_of;
+use crate::fields::times::{ending_minute, minute_of_set};
 use crate::row::Work;
-use court_clock::minute_from_text;
+use court_clock::{Direction, minute_from_text};
 use court_days::Court;
 use csv::StringRecord;
 use docket_rows::{Command, Query};
 use periods::measured_from;
-use rule_periods::{Event, Request};
-use rule6::Filing;
+use rule_periods::{Entered, Event, Length, Mark, Period, Request};
+use rule6::{Act, Filing};
 use settings::setting_in;
-use table::{Form, columns_of_form, form_of};
+use table::columns_of_form;
 
 mod periods;
 mod settings;
 mod table;
 
 pub use table::{COMMANDS, columns_of, commands, commands_listed};
+pub(crate) use table::{Form, form_of, office_form_of};
 
-/// What a row of that court asks for.
-#[tactic(auto, unfolding(crate::specs::Forms::work_of))]
-pub fn work_of(court: &Court, fields: &StringRecord) -> Result<Work, RowCause>
-    ensures { result ≡ work_of (names_of court.now) (fields_of fields.now) }
+/// What a row of that court asks for whose command word names this form, if it names one.
+#[tactic(auto, unfolding(crate::specs::Forms::work_as))]
+pub fn work_as(court: &Court, found: Option<Form>, fields: &StringRecord) -> Result<Work, RowCause>
+    ensures { result ≡ work_as (names_of court.now) found (fields_of fields.now) }
 {
-    let form = form_of(column(fields, 2)).ok_or(RowCause::UnknownCommand)?;
+    let form = found.ok_or(RowCause::UnknownCommand)?;
     read_as(court, form, fields)
 }
 
@@ -58,6 +60,7 @@ fn read_as(court: &Court, form: Form, fields: &StringRecord) -> Result<Work, Row
         Form::Compute => compute_row(fields),
         Form::Sheet => Ok(Work::Query(Query::Sheet(number_in(fields, 3)?))),
         Form::Calendar => calendar_row(court, fields),
+        Form::Set => set_row(fields),
     }
 }
 
@@ -175,4 +178,34 @@ fn calendar_row(court: &Court, fields: &StringRecord) -> Result<Work, RowCause>
     let judge = judge_named(court, column(fields, 3));
     let day = day_in(fields, 4)?;
     Ok(Work::Query(Query::JudgeDay(judge, day)))
+}
+
+// A deadline that an order sets for a day.
+fn set_row(fields: &StringRecord) -> Result<Work, RowCause>
+    ensures { result ≡ set_row (fields_of fields.now) }
+{
+    let case = number_in(fields, 3)?;
+    let day = day_in(fields, 4)?;
+    let minute = minute_of_set(column(fields, 5)).ok_or(RowCause::BadField(5))?;
+    let act = act_of(column(fields, 6)).ok_or(RowCause::BadField(6))?;
+    Ok(Work::Command(Command::Start {
+        case,
+        period: set_to(act),
+        event: Event::new(day, minute),
+        second: None,
+        service: None,
+    }))
+}
+
+// The period of an act that an order wants by the day of the event.
+fn set_to(act: Act) -> Period
+    ensures { result ≡ set_to act }
+{
+    Period::Entered(Entered {
+        length: Length::ToDay,
+        direction: Direction::After,
+        act,
+        served: false,
+        mark: Mark::Plain,
+    })
 }

@@ -5,6 +5,7 @@ ghost use Rattle.row_forms.specs.Fields.Period.{CodesAreReadBack};
 ghost use Rattle.row_forms.specs.FirstFault.{FirstFaultIsTold};
 ghost use Rattle.row_forms.specs.Forms.{RowsAskByTheirWords};
 ghost use Rattle.row_forms.specs.Forms.Table.{CommandWordsNameForms};
+ghost use Rattle.row_forms.specs.Office.{OfficeRowsAreReadAlike, RowsAreOfficeWork};
 ghost use Rattle.row_forms.specs.Taken.{BracketsShowWhatMayBeEmpty, EmptyFieldsAreTaken, RowsFollowTheTable};
 
 use rule_periods::codes_name_periods;
@@ -21,11 +22,19 @@ pub fn rows_ask_by_their_words()
     ensures { RowsAskByTheirWords }
 {}
 
-/// A row is refused exactly where the table of forms says so: it has another number of fields than its form has columns,
-/// or this is its first column that doesn't take its field.
+/// A row is refused exactly where the table of forms says so, at the desk by its table and by clerk_office by its own: it has
+/// another number of fields than its form has columns, or this is its first column that doesn't take its field.
 #[tactic(auto, using(crate::proofs::TakenLemmas::rows_follow_the_table_lem))]
 pub fn rows_follow_the_table()
     ensures { RowsFollowTheTable }
+{}
+
+/// The desk reads a row of clerk_office as that does, and such a row asks for nothing that the desk alone takes: its period is one
+/// of the Rules, or a number of days or hours.
+#[tactic(auto, using(crate::proofs::OfficeLemmas::rows_are_office_work_lem))]
+pub fn office_rows_are_read_alike()
+    ensures alike { OfficeRowsAreReadAlike }
+    ensures rows { RowsAreOfficeWork }
 {}
 
 /// A column that may be empty takes an empty field, and is shown in brackets, as no other is.

@@ -18,7 +18,7 @@ pub use forms::{COMMANDS, columns_of, commands, commands_listed};
 pub use headings::{Column, column_at, mark_of, may_be_empty, name_of};
 pub use laws::{
     codes_are_read_back, command_words_name_forms, empty_fields_are_taken, first_fault_is_told,
-    rows_are_bounded, rows_ask_by_their_words, rows_follow_the_table,
+    office_rows_are_read_alike, rows_are_bounded, rows_ask_by_their_words, rows_follow_the_table,
 };
 pub use line::{Line, push_row_text, read_clerk, read_line};
 pub use numbered::{NumberedRow, numbered_rows};

@@ -5,14 +5,15 @@ ghost use Rattle.std.specs.List.{list_all};
 ghost use Rattle.std.specs.Str.{is_utf8};
 ghost use Rattle.csv.specs.Reading.{default_config, records, strip_bom};
 ghost use Rattle.csv.specs.Records.{fields_of};
-ghost use Rattle.row_forms.specs.Rows.{AnswersRow, AnswersRows, clerk_of, row_of, rows_read_from, rows_read};
+ghost use Rattle.row_forms.specs.Forms.{work_as};
+ghost use Rattle.row_forms.specs.Rows.{AnswersRow, AnswersRows, clerk_of, office_row_of, row_asking, row_of, rows_read_from, rows_read};
 ghost use Rattle.row_forms.specs.CourtNames.{names_of};
 ghost use Rattle.row_forms.specs.Records.{TakesAnyRow, TakesText, MeetsNoText, records_left};
 
 use crate::columns::column;
 use crate::fault::{RowCause, RowError};
 use crate::fields::numbers::number_of;
-use crate::forms::work_of;
+use crate::forms::{Form, form_of, office_form_of, work_as};
 use crate::row::{Row, RowTypes};
 use court_days::Court;
 use csv::{ErrorKind, Reader, ReaderBuilder, StringRecord};
@@ -21,9 +22,9 @@ use std::alloc::{AllocError, Global};
 /// How many rows the office takes.
 pub const MAX_ROWS: u32 = 100_000;
 
-/// The rows of a text in CSV, for a run with this number of clerks. The text has no header; its records may differ in
-/// their number of fields; blank lines are skipped and not counted. Judges and rooms are numbered as the court's file
-/// has them. The first row that can't be read is the fault.
+/// The rows of a text in CSV, in the forms of clerk_office, for a run with this number of clerks. The text has no header; its
+/// records may differ in their number of fields; blank lines are skipped and not counted. Judges and rooms are numbered as
+/// the court's file has them. The first row that can't be read is the fault.
 #[tactic(auto, unfolding(crate::specs::Rows::rows_read))]
 pub fn read_rows(
     alloc: Global,
@@ -86,25 +87,47 @@ fn numbered_row(
     fields: &StringRecord,
 ) -> Result<Row, RowError>
     requires { list_all is_utf8 (fields_of fields.now) ≡ true }
-    ensures { AnswersRow number result (row_of clerks (names_of court.now) (fields_of fields.now)) }
+    ensures { AnswersRow number result (office_row_of clerks (names_of court.now) (fields_of fields.now)) }
 {
-    match row_of(clerks, court, fields) {
+    match office_row_of(clerks, court, fields) {
         Ok(row) => Ok(row),
         Err(cause) => Err(RowError::Fault(number, cause)),
     }
 }
 
-/// The row that a record spells, for an office with this number of clerks, or the cause why it spells none.
-#[tactic(auto, unfolding(crate::specs::Rows::row_of))]
+/// The row that a record spells in the forms of the desk, for this number of clerks, or the cause why it spells none.
+#[tactic(auto, unfolding(crate::specs::Rows::row_of, crate::specs::Forms::work_of))]
 pub fn row_of(clerks: u8, court: &Court, fields: &StringRecord) -> Result<Row, RowCause>
     requires { list_all is_utf8 (fields_of fields.now) ≡ true }
     ensures { result ≡ row_of clerks (names_of court.now) (fields_of fields.now) }
+{
+    row_as(clerks, court, form_of(column(fields, 2)), fields)
+}
+
+// The same in the forms of clerk_office.
+#[tactic(auto, unfolding(crate::specs::Rows::office_row_of, crate::specs::Forms::office_work_of))]
+fn office_row_of(clerks: u8, court: &Court, fields: &StringRecord) -> Result<Row, RowCause>
+    requires { list_all is_utf8 (fields_of fields.now) ≡ true }
+    ensures { result ≡ office_row_of clerks (names_of court.now) (fields_of fields.now) }
+{
+    row_as(clerks, court, office_form_of(column(fields, 2)), fields)
+}
+
+// The row that a record spells whose command word names this form, if it names one.
+fn row_as(
+    clerks: u8,
+    court: &Court,
+    found: Option<Form>,
+    fields: &StringRecord,
+) -> Result<Row, RowCause>
+    requires { list_all is_utf8 (fields_of fields.now) ≡ true }
+    ensures { result ≡ row_asking clerks (work_as (names_of court.now) found (fields_of fields.now)) (fields_of fields.now) }
 {
     if fields.len() < 2 {
         return Err(RowCause::WrongCount);
     }
     let clerk = clerk_of(clerks, column(fields, 1)).ok_or(RowCause::BadClerk)?;
-    let work = work_of(court, fields)?;
+    let work = work_as(court, found, fields)?;
     Ok(Row { clerk, work })
 }
 

@@ -9,10 +9,10 @@ use std::alloc::{AllocError, Global};
 use strsim::osa_distance;
 
 /// The headings of columns.
-const HEADINGS: [&str; 23] = [
+const HEADINGS: [&str; 24] = [
     "clerk", "command", "case", "deadline", "motion", "period", "date", "time", "second", "kind",
     "means", "grant", "cause", "neglect", "need", "list", "from", "to", "judge", "room", "slots",
-    "notice", "note",
+    "notice", "act", "note",
 ];
 
 /// The word from which a text that is folded differs by no more than a slip: a letter that is added, lost or another, or two
@@ -108,6 +108,7 @@ fn nearest_in(
         }
         Column::Holidays => nearest_of(alloc, word, &["federal", "state"]),
         Column::Need => nearest_of(alloc, word, &["exparte"]),
+        Column::Act => nearest_of(alloc, word, &["filing", "service"]),
         _ => Ok(None),
     }
 }

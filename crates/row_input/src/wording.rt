@@ -31,6 +31,8 @@ fn held(column: Column) -> &'static str {
         Column::Room => "a room of the court's file",
         Column::Slots => "half hours, as 2, or quarter hours, as 3q",
         Column::Notice => "the day on which notice was served, as 2025-09-02",
+        Column::SetTime => "nothing, since an order sets a day as a whole",
+        Column::Act => "filing or service",
     }
 }
 
@@ -42,7 +44,7 @@ pub(crate) fn expected(flaw: Flaw) -> &'static str {
         Flaw::Excess => "nothing, since the row has no column for it",
         Flaw::NoCommand => commands_listed(),
         Flaw::NoHeading => {
-            "a heading: clerk, command, case, deadline, motion, period, date, time, second, kind, means, grant, cause, neglect, need, list, from, to, judge, room, slots, notice or note"
+            "a heading: clerk, command, case, deadline, motion, period, date, time, second, kind, means, grant, cause, neglect, need, list, from, to, judge, room, slots, notice, act or note"
         }
         Flaw::TwiceNamed => "another heading, since a column before it has this one",
     }

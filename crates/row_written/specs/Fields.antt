@@ -8,9 +8,9 @@ use Rattle.row_forms.specs.Words.{CourtNames, is_number}
 use Rattle.row_fields.specs.declared.said.Said.{Said}
 use Rattle.row_fields.specs.declared.said.Said.TheVariants.{Unknown, Clear}
 use Rattle.row_fields.specs.declared.dates.DateOrder.{DateOrder}
-use Rattle.row_fields.specs.Words.{answer_said, bare, date_said, folded, list_said, means_said, rule_said, said_map, section_said, service_said, time_said}
+use Rattle.row_fields.specs.Words.{act_said, answer_said, bare, date_said, folded, list_said, means_said, rule_said, said_map, section_said, service_said, time_said}
 use Rattle.row_forms.specs.declared.headings.columns.Column.{Column}
-use Rattle.row_forms.specs.declared.headings.columns.Column.TheVariants.{Clerk, Command, Case, Deadline, Motion, Period, Date, Time, Start, TimeOrNone, SecondOrNone, ServiceOrNone, Means, Grant, ByMotion, Cause, Neglect, Need, Holidays, From, To, Judge, Judges, Room, Slots, Notice}
+use Rattle.row_forms.specs.declared.headings.columns.Column.TheVariants.{Clerk, Command, Case, Deadline, Motion, Period, Date, Time, Start, TimeOrNone, SecondOrNone, ServiceOrNone, Means, Grant, ByMotion, Cause, Neglect, Need, Holidays, From, To, Judge, Judges, Room, Slots, Notice, SetTime, Act}
 use Rattle.row_written.specs.Names.{name_said, panel_said}
 
 -- this, where it is so, and else nothing that is known
@@ -63,6 +63,7 @@ word_in Cause word = answer_said word
 word_in Neglect word = answer_said word
 word_in Holidays word = list_said word
 word_in ServiceOrNone word = service_said word
+word_in Act word = act_said word
 word_in _ word = section_said word
 
 abbrev pub word_said : Column → List ℕ → Said (List ℕ)
@@ -86,6 +87,7 @@ abbrev pub may_be_empty : Column → Bool
 may_be_empty TimeOrNone = true
 may_be_empty SecondOrNone = true
 may_be_empty ServiceOrNone = true
+may_be_empty SetTime = true
 may_be_empty _ = false
 
 -- what a field says that isn't left empty
@@ -116,6 +118,9 @@ filled_said names order Judges text = panel_said names.judges text
 filled_said names order Room text = name_said names.rooms text
 filled_said names order Slots text = slots_said text
 filled_said names order Notice text = said_map day_text (date_said order text)
+-- an order sets a day as a whole
+filled_said names order SetTime text = Unknown
+filled_said names order Act text = word_said Act text
 
 -- what a field of a column says, as a plain row writes it
 unfoldable pub field_said : CourtNames → Option DateOrder → Column → List ℕ → Said (List ℕ)

@@ -50,6 +50,7 @@ heading_said word =
     else if is_one_of word (codes "room" ∷ codes "courtroom" ∷ []) then Some (codes "room")
     else if is_one_of word (codes "slots" ∷ []) then Some (codes "slots")
     else if is_one_of word (codes "notice" ∷ codes "noticeserved" ∷ []) then Some (codes "notice")
+    else if is_one_of word (codes "act" ∷ []) then Some (codes "act")
     else if is_one_of word (codes "note" ∷ codes "notes" ∷ codes "remarks" ∷ codes "comment" ∷ codes "comments" ∷ []) then Some (codes "note")
     else None
 

@@ -14,8 +14,8 @@ use case_numbers::case_read;
 use court_clock::Day;
 use court_days::Court;
 use row_fields::{
-    DateOrder, Said, answer_said, bare, date_said, folded, list_said, means_said, rule_said,
-    section_said, service_said, time_said,
+    DateOrder, Said, act_said, answer_said, bare, date_said, folded, list_said, means_said,
+    rule_said, section_said, service_said, time_said,
 };
 use row_forms::Column;
 use std::alloc::{AllocError, Global};
@@ -181,6 +181,7 @@ fn word_said(alloc: Global, column: Column, text: &str) -> Result<Said<String>, 
         Column::ByMotion | Column::Cause | Column::Neglect => answer_said(word.as_str()),
         Column::Holidays => list_said(word.as_str()),
         Column::ServiceOrNone => service_said(word.as_str()),
+        Column::Act => act_said(word.as_str()),
         _ => section_said(word.as_str()),
     };
     owned(alloc, said)
@@ -231,7 +232,7 @@ fn may_be_empty(column: Column) -> bool
 {
     matches!(
         column,
-        Column::TimeOrNone | Column::SecondOrNone | Column::ServiceOrNone
+        Column::TimeOrNone | Column::SecondOrNone | Column::ServiceOrNone | Column::SetTime
     )
 }
 
@@ -262,13 +263,16 @@ fn filled_said(
         | Column::ByMotion
         | Column::Cause
         | Column::Neglect
-        | Column::Holidays => word_said(alloc, column, text),
+        | Column::Holidays
+        | Column::Act => word_said(alloc, column, text),
         Column::Grant => grant_said(alloc, order, text),
         Column::Need => need_said(alloc, text),
         Column::Judge => name_said(alloc, court, Named::Judges, text),
         Column::Judges => panel_said(alloc, court, text),
         Column::Room => name_said(alloc, court, Named::Rooms, text),
         Column::Slots => slots_said(alloc, text),
+        // An order sets a day as a whole.
+        Column::SetTime => Ok(Said::Unknown),
     }
 }
 

@@ -72,6 +72,7 @@ pub fn heading_said(word: &str) -> Option<&'static str>
         "room" | "courtroom" => Some("room"),
         "slots" => Some("slots"),
         "notice" | "noticeserved" => Some("notice"),
+        "act" => Some("act"),
         "note" | "notes" | "remarks" | "comment" | "comments" => Some("note"),
         _ => None,
     }

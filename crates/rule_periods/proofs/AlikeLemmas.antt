@@ -15,7 +15,7 @@ use Rattle.rule_periods.specs.declared.grant.Grant.{Grant}
 use Rattle.rule_periods.specs.declared.grant.Grant.TheVariants as grant
 use Rattle.rule_periods.specs.declared.grant.Request.{Request}
 use Rattle.rule_periods.specs.declared.period.Length.{Length}
-use Rattle.rule_periods.specs.declared.period.Length.TheVariants.{Days, Hours}
+use Rattle.rule_periods.specs.declared.period.Length.TheVariants.{Days, Hours, ToDay}
 use Rattle.rule_periods.specs.declared.period.Period.{Period}
 use Rattle.rule_periods.specs.declared.period.Period.TheVariants as period
 use Rattle.rule_periods.specs.Base.{base_of_period, end_of_length, kind_adds}
@@ -26,7 +26,7 @@ use Rattle.rule_periods.specs.Extended.{by_hours, extended_of, granted, granted_
 use Rattle.rule_periods.specs.Extension.{extension_refusal, is_asked_in_time}
 use Rattle.rule_periods.specs.Grant.{grant_fits}
 use Rattle.rule_periods.specs.Period.{direction_of, is_in_hours}
-use Rattle.rule_periods.specs.Showing.{access_direction, accessed, ends_certain, is_moved_by_access, shown_after, shown_end, shown_of}
+use Rattle.rule_periods.specs.Showing.{access_direction, accessed, certain_by, is_moved_by_access, shown_after, shown_end, shown_of}
 
 module _ (a b : ClockView) (same : IsSameCourtClock a b) where
   -- before any extension
@@ -35,6 +35,7 @@ module _ (a b : ClockView) (same : IsSameCourtClock a b) where
   length_alike c event (Days n) direction added = refl
   length_alike c event (Hours h) direction added =
       rw (instant_alike a.zone b.zone same.zone event.day (60 * event.minute), end_of_hours_alike a b same c (instant_of b.zone event.day (60 * event.minute)) h direction) refl
+  length_alike c event ToDay direction added = refl
 
   pub base_alike : (c : DaysView) (row : DeadlineRowView) (p : Period) → base_of_period c a row p ≡ base_of_period c b row p
   unfolding base_of_period
@@ -77,7 +78,7 @@ module _ (a b : ClockView) (same : IsSameCourtClock a b) where
   pub shown_alike : (c : DaysView) (row : DeadlineRowView) → shown_of c a row ≡ shown_of c b row
   unfolding shown_of
   shown_alike c row =
-      let certain = ends_certain row.grants in
+      let certain = certain_by row.period row.grants in
       let direction = access_direction (direction_of row.period) row.grants in
       ap (shown_after c a (act_due row) certain direction) (extended_alike c row)
       ∙ shown_after_alike c (act_due row) certain direction (extended_of c b row)

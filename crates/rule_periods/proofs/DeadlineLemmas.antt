@@ -16,8 +16,8 @@ use Rattle.rule_periods.specs.Deadline.{DeadlineRowView, with_grant}
 use Rattle.rule_periods.specs.Due.{act_due}
 use Rattle.rule_periods.specs.Extended.{extended_of, granted_if_it_fits}
 use Rattle.rule_periods.specs.Grant.{is_certain}
-use Rattle.rule_periods.specs.Period.{direction_of, is_in_hours}
-use Rattle.rule_periods.specs.Showing.{ends_certain, access_direction, shown_after, shown_of}
+use Rattle.rule_periods.specs.Period.{direction_of, is_in_hours, is_set}
+use Rattle.rule_periods.specs.Showing.{certain_by, access_direction, shown_after, shown_of}
 
 -- a test that all pass, and one more passes
 pub all_push : (test : Grant → Bool) (grants : List Grant) (grant : Grant) → list_all test grants ≡ true → test grant ≡ true → list_all test (grants ++ grant ∷ []) ≡ true
@@ -54,6 +54,6 @@ extended_of-push c clock row grant =
 pub shown_of-push : (c : DaysView) (clock : ClockView) (row : DeadlineRowView) (grant : Grant) → shown_of c clock (with_grant row grant) ≡ shown_after c clock (act_due row) (is_certain grant) After (granted_if_it_fits c clock (is_in_hours row.period) (extended_of c clock row) grant)
 unfolding shown_of
 shown_of-push c clock row grant =
-    let certain : ends_certain (row.grants ++ grant ∷ []) ≡ is_certain grant = ap (λ g. option_map_or is_certain g false) (last-push row.grants grant) in
+    let certain : certain_by row.period (row.grants ++ grant ∷ []) ≡ is_certain grant = ap (λ g. option_map_or is_certain g (is_set row.period)) (last-push row.grants grant) in
     let direction = access_direction-push (direction_of row.period) row.grants grant in
     rw (certain, direction, extended_of-push c clock row grant) refl

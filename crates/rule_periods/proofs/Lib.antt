@@ -3,3 +3,4 @@ pub mod CallerLemmas
 pub mod DeadlineLemmas
 pub mod NoticeLemmas
 pub mod RuleLemmas
+pub mod SetLemmas

@@ -6,7 +6,7 @@ use Rattle.rule6.specs.declared.timeliness.Act.{Act}
 use Rattle.rule6.specs.declared.service.ServiceKind.{ServiceKind}
 use Rattle.rule_periods.specs.declared.period.Entered.{Entered}
 use Rattle.rule_periods.specs.declared.period.Length.{Length}
-use Rattle.rule_periods.specs.declared.period.Length.TheVariants.{Days, Hours}
+use Rattle.rule_periods.specs.declared.period.Length.TheVariants.{Days, Hours, ToDay}
 use Rattle.rule_periods.specs.declared.mark.Mark.{Mark}
 use Rattle.rule_periods.specs.declared.mark.Mark.TheVariants as mark
 use Rattle.rule_periods.specs.declared.period.Period.{Period}
@@ -47,13 +47,31 @@ extension_of (period.Entered entered) day = extension_of_mark entered.mark
 abbrev pub is_hour_length : Length → Bool
 is_hour_length (Days n) = false
 is_hour_length (Hours h) = true
+is_hour_length ToDay = false
+
+-- a length in days, which are counted
+abbrev pub is_day_length : Length → Bool
+is_day_length (Days n) = true
+is_day_length (Hours h) = false
+is_day_length ToDay = false
+
+-- an order sets the end: a date certain, up to which nothing is counted
+abbrev pub is_set_length : Length → Bool
+is_set_length (Days n) = false
+is_set_length (Hours h) = false
+is_set_length ToDay = true
 
 -- a period counted in hours
 abbrev pub is_in_hours : Period → Bool
 is_in_hours (period.Rule rule) = false
 is_in_hours (period.Entered entered) = is_hour_length entered.length
 
--- a length of 1 to 3,650 days or 1 to 8,760 hours
+-- a period whose end an order sets
+abbrev pub is_set : Period → Bool
+is_set (period.Rule rule) = false
+is_set (period.Entered entered) = is_set_length entered.length
+
+-- a length of 1 to 3,650 days or 1 to 8,760 hours, or none where an order sets the end
 abbrev pub is_days : ℕ → Bool
 is_days n = nat_le 1 n && nat_le n 3650
 
@@ -63,6 +81,7 @@ is_hour_count h = nat_le 1 h && nat_le h 8760
 abbrev pub is_length : Length → Bool
 is_length (Days n) = is_days n
 is_length (Hours h) = is_hour_count h
+is_length ToDay = true
 
 abbrev pub has_length : Period → Bool
 has_length (period.Rule rule) = true
@@ -97,7 +116,7 @@ is_second_for true (Some d) = true
 -- For another no kind is given.
 abbrev pub is_kind_for_entered : Entered → Option ServiceKind → Bool
 is_kind_for_entered entered kind =
-    if entered.served then is_given kind && (is_after entered.direction && not (is_hour_length entered.length)) else not (is_given kind)
+    if entered.served then is_given kind && (is_after entered.direction && is_day_length entered.length) else not (is_given kind)
 
 -- the kind of service and the second day suit the period
 abbrev pub suits : Period → Option ℤ → Option ServiceKind → Bool

@@ -1,5 +1,5 @@
 -- What is shown of a deadline.
-use Rattle.std.specs.Prelude.{◌-◌, length, slice_get, Bool, false, not, List, [], ◌∷◌, option_map, Option, Some, None, if◌then◌else◌}
+use Rattle.std.specs.Prelude.{◌≡◌, ◌-◌, length, slice_get, Bool, true, false, not, List, [], ◌∷◌, option_map, Option, Some, None, if◌then◌else◌}
 use Rattle.std.specs.Option.{option_and_then, option_map_or}
 use Rattle.court_clock.specs.declared.direction.Direction.{Direction}
 use Rattle.court_clock.specs.declared.direction.Direction.TheVariants.{After}
@@ -13,15 +13,16 @@ use Rattle.rule6.specs.Words.{extended_day, extended_end}
 use Rattle.rule_periods.specs.declared.expiry.Expiry.{Expiry}
 use Rattle.rule_periods.specs.declared.expiry.Expiry.TheVariants.{OnDay, AtInstant}
 use Rattle.rule_periods.specs.declared.grant.Grant.{Grant}
+use Rattle.rule_periods.specs.declared.period.Period.{Period}
 use Rattle.rule_periods.specs.Deadline.{DeadlineRowView}
 use Rattle.rule_periods.specs.Due.{act_due}
 use Rattle.rule_periods.specs.Extended.{extended_of}
 use Rattle.rule_periods.specs.Grant.{is_certain}
-use Rattle.rule_periods.specs.Period.{direction_of}
+use Rattle.rule_periods.specs.Period.{direction_of, is_set}
 
--- the last extension is to a date certain
-abbrev pub ends_certain : List Grant → Bool
-ends_certain grants = option_map_or is_certain (slice_get grants (length grants - 1)) false
+-- the end is a date certain: the last extension is to one, or there is none and an order set the end
+abbrev pub certain_by : Period → List Grant → Bool
+certain_by period grants = option_map_or is_certain (slice_get grants (length grants - 1)) (is_set period)
 
 -- whose holidays count where the clerk's office was inaccessible: the period's, or, once an extension was granted,
 -- those of a period after an event
@@ -45,8 +46,8 @@ shown_end act None = shown.Beyond
 shown_end act (Some (OnDay last)) = shown.Last last act
 shown_end act (Some (AtInstant end)) = shown.Until end
 
--- What is shown of an end after extensions, of which the last may be to a date certain, with the direction whose
--- holidays count for access.
+-- What is shown of an end after extensions, which may be a date certain, with the direction whose holidays count for
+-- access.
 unfoldable pub shown_after : DaysView → ClockView → Act → Bool → Direction → Option Expiry → Shown
 shown_after c clock act certain direction end =
     shown_end act (if is_moved_by_access act certain then option_and_then (accessed c clock direction) end else end)
@@ -54,4 +55,9 @@ shown_after c clock act certain direction end =
 -- what is shown of a deadline: its last day or the end of its hours, or that no covered day qualifies
 unfoldable pub shown_of : DaysView → ClockView → DeadlineRowView → Shown
 shown_of c clock row =
-    shown_after c clock (act_due row) (ends_certain row.grants) (access_direction (direction_of row.period) row.grants) (extended_of c clock row)
+    shown_after c clock (act_due row) (certain_by row.period row.grants) (access_direction (direction_of row.period) row.grants) (extended_of c clock row)
+
+-- A deadline that an order set, and that wasn't extended, ends on the day that was set: whatever days are open, and whenever the
+-- clerk's office was inaccessible.
+abbrev pub SetDaysStay : Type 0
+SetDaysStay = (c : DaysView) (clock : ClockView) (row : DeadlineRowView) → is_set row.period ≡ true → row.grants ≡ [] → shown_of c clock row ≡ shown.Last row.event.day (act_due row)

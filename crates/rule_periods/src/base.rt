@@ -70,6 +70,8 @@ fn end_of_length(
             let end = end_of_hours(days, clock, begins, h, direction)?;
             Some(Expiry::AtInstant(end))
         }
+        // A date certain, which an order sets, isn't rolled.
+        Length::ToDay => Some(Expiry::OnDay(event.day())),
     }
 }
 

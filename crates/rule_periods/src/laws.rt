@@ -1,7 +1,8 @@
-//! Laws of the definitions: what reading the code of a period, or the word of a mark, means.
+//! Laws of the definitions: what reading the code of a period, or the word of a mark, means, and when what an order set ends.
 
 ghost use Rattle.rule_periods.specs.Mark.{CodesNameMarks};
 ghost use Rattle.rule_periods.specs.Rule.{CodesNamePeriods};
+ghost use Rattle.rule_periods.specs.Showing.{SetDaysStay};
 
 /// A text is read as the one period of the Rules that has it for its code, and as none where there is none.
 pub fn codes_name_periods()
@@ -12,4 +13,10 @@ pub fn codes_name_periods()
 #[tactic(auto, unfolding(crate::specs::Mark::mark_of_code))]
 pub fn codes_name_marks()
     ensures { CodesNameMarks }
+{}
+
+/// A deadline that an order set, and that wasn't extended, ends on the day that was set: it isn't rolled, and no outage moves it.
+#[tactic(auto, using(crate::proofs::SetLemmas::set_days_stay_lem))]
+pub fn set_days_stay()
+    ensures { SetDaysStay }
 {}

@@ -1,7 +1,7 @@
 //! Periods: those that the Rules set, and those that a court enters.
 
 ghost use Rattle.std.specs.Prelude.{◌≡◌};
-ghost use Rattle.rule_periods.specs.Period.{act_of, direction_of, extension_of, is_in_hours};
+ghost use Rattle.rule_periods.specs.Period.{act_of, direction_of, extension_of, is_in_hours, is_set, is_set_length};
 
 use crate::mark::Mark;
 use crate::rule::{ExtensionRule, RulePeriod};
@@ -15,6 +15,21 @@ pub enum Length {
     Days(u32),
     /// A number of hours, 1 to 8,760 (Fed. R. Civ. P. 6(a)(2)).
     Hours(u32),
+    /// None: an order sets the end, a date certain, which is the day of the event. Rule 6(a) doesn't apply to it
+    /// (2009 Committee Note).
+    ToDay,
+}
+
+impl Length {
+    /// Whether an order sets the end, so that nothing is counted.
+    pub fn is_set(self) -> bool
+        ensures { result ≡ is_set_length self }
+    {
+        match self {
+            Length::Days(_) | Length::Hours(_) => false,
+            Length::ToDay => true,
+        }
+    }
 }
 
 /// A period that a court enters.
@@ -82,9 +97,19 @@ impl Period {
         match self {
             Period::Rule(_) => false,
             Period::Entered(entered) => match entered.length {
-                Length::Days(_) => false,
+                Length::Days(_) | Length::ToDay => false,
                 Length::Hours(_) => true,
             },
+        }
+    }
+
+    /// Whether an order sets the period's end, so that nothing is counted.
+    pub fn is_set(self) -> bool
+        ensures { result ≡ is_set self }
+    {
+        match self {
+            Period::Rule(_) => false,
+            Period::Entered(entered) => entered.length.is_set(),
         }
     }
 }

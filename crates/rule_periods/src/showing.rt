@@ -1,33 +1,34 @@
 //! What is shown of a deadline.
 
 ghost use Rattle.std.specs.Prelude.{◌≡◌, Some};
-ghost use Rattle.rule_periods.specs.Showing.{ends_certain, access_direction, accessed, is_moved_by_access, shown_end, shown_after, shown_of};
+ghost use Rattle.rule_periods.specs.Showing.{certain_by, access_direction, accessed, is_moved_by_access, shown_end, shown_after, shown_of};
 
 use crate::deadline::DeadlineRow;
 use crate::due::act_due;
 use crate::expiry::Expiry;
 use crate::extended::extended;
 use crate::grant::{Grant, is_certain};
+use crate::period::Period;
 use court_clock::{Clock, Direction};
 use court_days::Days;
 use rule6::{Act, Shown, extended_for_access, extended_for_access_hours};
 
 /// What is shown of a deadline (Fed. R. Civ. P. 6): the end of its period from its event, with the days that service
-/// adds (6(d)), with its extensions in order (6(b)), and, where the act is a filing and the last extension isn't to a
-/// date certain, moved where the clerk's office was inaccessible (6(a)(3)). `Beyond` where no covered day qualifies.
+/// adds (6(d)), with its extensions in order (6(b)), and, where the act is a filing and the end is no date certain, moved
+/// where the clerk's office was inaccessible (6(a)(3)). `Beyond` where no covered day qualifies.
 #[tactic(auto, unfolding(crate::specs::Showing::shown_of))]
 pub fn shown(days: &Days, clock: &Clock, row: &DeadlineRow) -> Shown
     ensures { result ≡ shown_of days.now clock.now row.now }
 {
     let act = act_due(row);
-    let certain = ends_certain(row.grants());
+    let certain = certain_by(row.period(), row.grants());
     let direction = access_direction(row.period().direction(), row.grants());
     let end = extended(days, clock, row);
     shown_after(days, clock, act, certain, direction, end)
 }
 
-/// What is shown of an end after extensions, of which the last may be to a date certain. `direction` says whose
-/// holidays count where the clerk's office was inaccessible.
+/// What is shown of an end after extensions, which may be a date certain. `direction` says whose holidays count where the
+/// clerk's office was inaccessible.
 #[tactic(auto, unfolding(crate::specs::Showing::shown_after))]
 pub(crate) fn shown_after(
     days: &Days,
@@ -94,13 +95,13 @@ pub fn is_moved_by_access(act: Act, certain: bool) -> bool
     }
 }
 
-/// Whether the last extension is to a date certain.
-pub fn ends_certain(grants: &[Grant]) -> bool
-    ensures { result ≡ ends_certain grants.now }
+/// Whether the end is a date certain: the last extension is to one, or there is none and an order set the end.
+pub fn certain_by(period: Period, grants: &[Grant]) -> bool
+    ensures { result ≡ certain_by period grants.now }
 {
     match grants.last() {
         Some(grant) => is_certain(grant),
-        None => false,
+        None => period.is_set(),
     }
 }
 

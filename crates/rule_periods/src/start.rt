@@ -15,7 +15,7 @@ use rule6::ServiceKind;
 
 /// Whether a deadline of that period can start with the event. The first refusal that applies: `BadDay` where the
 /// event's day or the second day isn't covered, `WrongService` where the kind of service or the second day doesn't
-/// suit the period, and `BadLength` where an entered length isn't 1 to 3,650 days or 1 to 8,760 hours.
+/// suit the period, and `BadLength` where an entered length is out of its range: 1 to 3,650 days or 1 to 8,760 hours.
 #[tactic(auto, unfolding(crate::specs::Start::start_refusal))]
 pub fn check_start(
     days: &Days,
@@ -92,6 +92,7 @@ fn has_length(period: &Period) -> bool
         Period::Entered(entered) => match entered.length {
             Length::Days(n) => 1 <= n && n <= 3_650,
             Length::Hours(h) => 1 <= h && h <= 8_760,
+            Length::ToDay => true,
         },
     }
 }

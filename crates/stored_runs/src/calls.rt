@@ -4,8 +4,9 @@ ghost use Rattle.std.specs.Prelude.{◌≡◌, ◌<◌, ◌≤◌, false, length
 ghost use Rattle.program_streams.specs.Words.{has_failed};
 
 use crate::calendar::{first_instant, push_ending};
-use crate::clerk::{ACCOUNT, FirstClock, stamp};
+use crate::clerk::{ACCOUNT, stamp};
 use crate::stored::push_name;
+use crate::turns::{EndedTurn, Shared, kept};
 use desk_entries::{Docketed, standing_file};
 use desk_journal::{Stamp, stamped_in};
 use desk_program::{
@@ -15,9 +16,8 @@ use desk_program::{
 };
 use desk_session::Tally;
 use program_main::today_by;
-use program_runs::refused;
-use program_streams::{Watched, write_all};
-use program_words::{Correcting, Keeping, LogAsked, Task, asked_of};
+use program_streams::Watched;
+use program_words::{Correcting, LogAsked, Task, asked_of};
 use sqlite_disk::Memory;
 use std::alloc::{AllocError, Global};
 
@@ -28,8 +28,8 @@ type Ended = (Result<(), DeskFault>, Memory);
 
 /// Adds the line `%%%% NAME`, and then, for each call in the text, its line, what it writes and how it ended, if not well. A
 /// call begins with `$ `, as at a shell: the rest of the line has the words of `docket`, and the lines after it are its input,
-/// which for `init` and `court change` is the court's file. All calls are of one disk, on which each opens the desk anew. `Err`
-/// says that memory ran out.
+/// which for `init` and `court change` is the court's file. All calls are of one disk. Each opens the desk anew, but for `enter`: its calls
+/// are the turns of one session, which goes on with what the others leave. `Err` says that memory ran out.
 pub fn push_calls(
     alloc: Global,
     output: &mut Vec<u8>,
@@ -37,10 +37,13 @@ pub fn push_calls(
     text: &str,
 ) -> Result<(), AllocError> {
     push_name(output, name)?;
-    let mut disk = Memory::new(alloc);
+    let mut shared = Shared {
+        disk: Memory::new(alloc),
+        left: None,
+    };
     for call in text.split("$ ").skip(1) {
         if let Some((line, input)) = call.split_once('\n') {
-            disk = push_call(alloc, output, disk, line, input.as_bytes())?;
+            shared = push_call(alloc, output, shared, line, input.as_bytes())?;
         }
     }
     Ok(())
@@ -50,27 +53,48 @@ pub fn push_calls(
 fn push_call(
     alloc: Global,
     output: &mut Vec<u8>,
-    disk: Memory,
+    shared: Shared,
     line: &str,
     input: &[u8],
-) -> Result<Memory, AllocError> {
+) -> Result<Shared, AllocError> {
     let shown = format!(in alloc; "$ {line}\n")?;
     output.extend_from_slice(shown.as_bytes())?;
     let words: Vec<&str> = line.split(' ').collect(alloc)?;
     let Ok(task) = asked_of(alloc, first_instant(), words.as_slice()) else {
         output.extend_from_slice(b"these words are none of docket\n")?;
-        return Ok(disk);
+        return Ok(shared);
     };
     let mut writer = Watched::new(Vec::new(alloc));
     let mut errors = Watched::new(Vec::new(alloc));
-    let (ended, disk) = done(alloc, disk, &task, input, &mut writer, &mut errors);
+    let (ended, shared) = called(alloc, shared, &task, input, &mut writer, &mut errors);
     output.extend_from_slice(writer.inner().as_slice())?;
     let status = match ended {
         Ok(()) => 0,
         Err(fault) => ended_by(alloc, &mut errors, &fault),
     };
     push_ending(alloc, output, status, errors.inner().as_slice())?;
-    Ok(disk)
+    Ok(shared)
+}
+
+// Does what is asked for on a disk that a session may have left.
+fn called(
+    alloc: Global,
+    shared: Shared,
+    task: &Task,
+    input: &[u8],
+    writer: &mut Watched<Vec<u8>>,
+    errors: &mut Watched<Vec<u8>>,
+) -> EndedTurn
+    requires { has_failed writer.old ≡ false }
+{
+    match task {
+        Task::Enter(_, entering) => kept(alloc, shared, entering, input, writer, errors),
+        _ => {
+            let Shared { disk, left } = shared;
+            let (ended, disk) = done(alloc, disk, task, input, writer);
+            (ended, Shared { disk, left })
+        }
+    }
 }
 
 // Does what is asked for on the disk.
@@ -80,7 +104,6 @@ fn done(
     task: &Task,
     input: &[u8],
     writer: &mut Watched<Vec<u8>>,
-    errors: &mut Watched<Vec<u8>>,
 ) -> Ended
     requires { has_failed writer.old ≡ false }
 {
@@ -90,7 +113,7 @@ fn done(
     match task {
         Task::Init(_, _) => begun(alloc, disk, input, stamp),
         _ => match Desk::open(alloc, disk, stamp) {
-            Ok((desk, entries)) => opened(alloc, desk, &entries, task, input, writer, errors),
+            Ok((desk, entries)) => opened(alloc, desk, &entries, task, input, writer),
             Err((fault, disk)) => (Err(DeskFault::Open(fault)), disk),
         },
     }
@@ -115,17 +138,12 @@ fn opened(
     task: &Task,
     input: &[u8],
     writer: &mut Watched<Vec<u8>>,
-    errors: &mut Watched<Vec<u8>>,
 ) -> Ended
     requires works { has_failed writer.old ≡ false }
     requires some { 0 < length entries.now }
     requires few { length entries.now ≤ 1000000 }
 {
     let ended = match task {
-        Task::Enter(_, _, held_back, keeping) => {
-            desk.hold_back(*held_back);
-            entered(alloc, &mut desk, *keeping, input, writer, errors)
-        }
         Task::Try(_, _, held_back) => {
             desk.hold_back(*held_back);
             return tried(alloc, desk, input, writer);
@@ -150,8 +168,8 @@ fn opened(
                 writer,
             )
         }
-        Task::CourtChange(_, _, accept) => {
-            changed(alloc, &mut desk, entries, input, *accept, writer)
+        Task::CourtChange(_, changing) => {
+            changed(alloc, &mut desk, entries, input, changing.accept, writer)
         }
         Task::Cases(_, _) => {
             let disk = desk.into_disk();
@@ -171,45 +189,8 @@ fn opened(
     (ended, desk.into_disk())
 }
 
-// Keeps rows. What is said of rows that are kept together and then aren't goes to `errors`.
-fn entered(
-    alloc: Global,
-    desk: &mut Desk<Memory>,
-    keeping: Keeping,
-    input: &[u8],
-    writer: &mut Watched<Vec<u8>>,
-    errors: &mut Watched<Vec<u8>>,
-) -> Result<(), DeskFault>
-    requires { has_failed writer.old ≡ false }
-{
-    match keeping {
-        Keeping::Each => {
-            let mut reader = Watched::new(input);
-            match desk.enter(alloc, &FirstClock, &mut reader, writer) {
-                Ok(tally) => taken(tally),
-                Err(fault) => Err(DeskFault::Session(fault)),
-            }
-        }
-        Keeping::Together(keep_refused) => {
-            let mut said = Watched::new(Vec::new(alloc));
-            match desk.enter_together(alloc, input, keep_refused, &mut said) {
-                Ok(()) => match write_all(writer, said.inner()) {
-                    Ok(()) => Ok(()),
-                    Err(_) => Err(DeskFault::Output(OutputFault::Write)),
-                },
-                Err(fault) => {
-                    if let Ok(text) = str::from_utf8(said.inner()) {
-                        let _ = refused(errors, text);
-                    }
-                    Err(DeskFault::Together(fault))
-                }
-            }
-        }
-    }
-}
-
 // Whether all rows were taken, by their tally.
-fn taken(tally: Tally) -> Result<(), DeskFault> {
+pub(crate) fn taken(tally: Tally) -> Result<(), DeskFault> {
     match all_taken(tally) {
         Ok(()) => Ok(()),
         Err(tally) => Err(DeskFault::Faulty(tally)),

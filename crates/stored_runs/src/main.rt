@@ -10,6 +10,7 @@ mod made;
 mod named;
 mod stored;
 mod sums;
+mod turns;
 
 use named::push_named;
 use std::io;

@@ -78,7 +78,7 @@ fn check_item(
 }
 
 /// Whether the text is one of the names.
-fn is_named(names: &[String], text: &str) -> bool
+pub fn is_named(names: &[String], text: &str) -> bool
     ensures { result ≡ is_named (texts_of names.now) text.now }
 {
     let mut found = false;
@@ -96,7 +96,7 @@ fn is_same_or(found: bool, text: &str, name: &str) -> bool
 }
 
 /// Whether a text may name a judge or a room.
-fn is_name(text: &str) -> bool
+pub fn is_name(text: &str) -> bool
     ensures { result ≡ is_name text.now }
 {
     let length = text.len();

@@ -6,7 +6,9 @@ use crate::review::{Due, due_on};
 use crate::{Alike, Asked, Slip, Warnings, ZoneDoubt};
 use court_clock::Day;
 use court_file_text::Key;
-use court_holidays::{FederalHoliday, observed_for};
+use court_holidays::{
+    Closing, FederalHoliday, State, closings_known, observed_for, state_holiday_on,
+};
 use std::alloc::AllocError;
 use toml::{Table, Value};
 
@@ -26,6 +28,14 @@ pub(crate) fn push_warnings(
     }
     for day in &warnings.unknown {
         push_unknown(sheet, file, *day)?;
+    }
+    for closing in &warnings.closings {
+        push_closing(sheet, file, *closing)?;
+    }
+    if let Some(state) = asked.state {
+        for day in &warnings.unlisted {
+            push_unlisted(sheet, file, state, *day)?;
+        }
     }
     push_at_weekend(sheet, file, Key::Federal, &warnings.federal_at_weekend)?;
     push_at_weekend(sheet, file, Key::State, &warnings.state_at_weekend)?;
@@ -109,10 +119,10 @@ fn push_ends_soon(sheet: &mut Sheet<'_>, today: Day) -> Result<(), AllocError> {
     let shown = sheet.warning_at(Key::To, None)?;
     write!(
         sheet.text,
-        "the span ends on {shown}, before a year has passed from {today}"
+        "the span ends on {shown}, too early for {today}: it has to go on for a year and, from October on, past the end of the next year"
     )?;
     sheet.end(
-        "; a period that ends after the span is answered 'beyond', so move to, and add the holidays until then",
+        "; a period that ends after the span is answered 'beyond', so add years by 'docket court update', or move to, and add the holidays until then",
     )
 }
 
@@ -125,12 +135,17 @@ fn push_bare_year(sheet: &mut Sheet<'_>, year: u16) -> Result<(), AllocError> {
     sheet.end("; add its holidays, or end the span before it")
 }
 
-/// Where a date is to be added to the federal list: the first item that is later, or else the list's closing bracket.
-fn where_to_add(sheet: &Sheet<'_>, file: &Table, day: Day) -> Result<Option<Mark>, AllocError> {
-    if let Some(item) = item_after(file, Key::Federal, day) {
-        return sheet.mark_of(Key::Federal, Some(item));
+/// Where a date is to be added to a list: the first item that is later, or else the list's closing bracket.
+fn where_to_add(
+    sheet: &Sheet<'_>,
+    file: &Table,
+    key: Key,
+    day: Day,
+) -> Result<Option<Mark>, AllocError> {
+    if let Some(item) = item_after(file, key, day) {
+        return sheet.mark_of(key, Some(item));
     }
-    match sheet.value_mark(Key::Federal)? {
+    match sheet.value_mark(key)? {
         Some(whole) => Ok(Some(Mark {
             start: whole.end.saturating_sub(1),
             ..whole
@@ -145,7 +160,7 @@ fn push_lacking(
     day: Day,
     capital: bool,
 ) -> Result<(), AllocError> {
-    let mark = where_to_add(sheet, file, day)?;
+    let mark = where_to_add(sheet, file, Key::Federal, day)?;
     sheet.begin_warning(Key::Federal, mark)?;
     match due_on(day, capital) {
         Some(Due::SetByLaw(holiday)) => {
@@ -191,6 +206,50 @@ fn push_unknown(sheet: &mut Sheet<'_>, file: &Table, day: Day) -> Result<(), All
     )?;
     sheet.end(
         "; it stays if an executive order closed the government on it and the court takes it for a holiday, else mend it",
+    )
+}
+
+fn push_closing(sheet: &mut Sheet<'_>, file: &Table, closing: Closing) -> Result<(), AllocError> {
+    let Some(day) = Day::from_text(closing.day) else {
+        return Ok(());
+    };
+    let mark = where_to_add(sheet, file, Key::Federal, day)?;
+    sheet.begin_warning(Key::Federal, mark)?;
+    let (order, known) = (closing.order, closings_known());
+    write!(
+        sheet.text,
+        "the President closed the executive departments on {day}, by {order}, and the file doesn't have the date"
+    )?;
+    write!(
+        sheet.text,
+        "; a court that takes the day for a legal holiday, Rule 6(a)(6)(B), adds it here, and another one writes it in a comment; such days are known up to {known}"
+    )?;
+    sheet.end("")
+}
+
+fn push_unlisted(
+    sheet: &mut Sheet<'_>,
+    file: &Table,
+    state: State,
+    day: Day,
+) -> Result<(), AllocError> {
+    let Some(listed) = state_holiday_on(state, day) else {
+        return Ok(());
+    };
+    let mark = where_to_add(sheet, file, Key::State, day)?;
+    sheet.begin_warning(Key::State, mark)?;
+    let (name, statute) = (listed.holiday().name(), state.statute());
+    let doubt = if listed.is_doubtful() {
+        ", doubtful"
+    } else {
+        ""
+    };
+    write!(
+        sheet.text,
+        "{day} is {name} by {statute}{doubt}, and the file doesn't have the date"
+    )?;
+    sheet.end(
+        "; the law may be newer than the file: add the day here, or write its date in a comment if the court doesn't go by it",
     )
 }
 

@@ -7,3 +7,5 @@ pub use Rattle.court_holidays.specs.Federal.Calendar.{all_holidays, is_kept, kep
 unfoldable pub use Rattle.court_holidays.specs.Federal.Calendar.{holiday_on}
 pub use Rattle.court_holidays.specs.Federal.Observed.{beside_weekend, law_in_place, ObservedAreInPlace}
 unfoldable pub use Rattle.court_holidays.specs.Federal.Observed.{observed_for, observed_on}
+pub use Rattle.court_holidays.specs.Federal.Closings.{ClosingView, closing_of, closing_view, closings_known}
+unfoldable pub use Rattle.court_holidays.specs.Federal.Closings.{closings}

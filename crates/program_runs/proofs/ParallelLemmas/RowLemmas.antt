@@ -8,7 +8,7 @@ use Rattle.row_forms.specs.declared.fault.RowError.{RowError}
 use Rattle.row_forms.specs.declared.fault.RowError.TheVariants.{Fault, OutOfMemory}
 use Rattle.row_forms.specs.Columns.{◌>>=◌}
 use Rattle.row_forms.specs.CourtNames.{CourtNames}
-use Rattle.row_forms.specs.Rows.{AnswersRows, in_row, most_rows, numbered_row, row_of, rows_read_from}
+use Rattle.row_forms.specs.Rows.{AnswersRows, in_row, most_rows, numbered_row, office_row_of, rows_read_from}
 use Rattle.row_forms.proofs.RowsLemmas.{behind_rows, behind_nothing}
 use Rattle.program_runs.specs.Inside.Joining.{error_after}
 
@@ -68,7 +68,7 @@ fault_later : (clerks : ℕ) (names : CourtNames) (number : ℕ) (records : List
 unfolding rows_read_from
 fault_later clerks names number [] fault h = cc h
 fault_later clerks names number (fields ∷ records) fault h =
-    by (ltb most_rows number) (row_of clerks names fields) (rows_read_from clerks names (number + 1) records) refl h (fault_later clerks names (number + 1) records)
+    by (ltb most_rows number) (office_row_of clerks names fields) (rows_read_from clerks names (number + 1) records) refl h (fault_later clerks names (number + 1) records)
   where
     own : (cause : RowCause) → ◌≡◌ {A = Rows} (Err (number, cause)) (Err fault) → number ≤ fault.0
     own cause h =
@@ -150,7 +150,7 @@ rows_moved clerks names before number (fields ∷ records) few = by (ltb most_ro
 
     by : (many : Bool) → ltb most_rows (before + number) ≡ many
         → (before + number ≤ most_rows → rows_read_from clerks names (before + (number + 1)) records ≡ moved before (number + 1) (rows_read_from clerks names (number + 1) records))
-        → from_row (in_row (before + number) (cond many (Err TooManyRows) (row_of clerks names fields))) (rows_read_from clerks names (before + number + 1) records) ≡ moved before number whole
+        → from_row (in_row (before + number) (cond many (Err TooManyRows) (office_row_of clerks names fields))) (rows_read_from clerks names (before + number + 1) records) ≡ moved before number whole
     by true e more =
         let past : most_rows < before + number = grind (arith, nat_tests) in
         let last : before + number ≡ most_rows + 1 = omega arith in
@@ -158,7 +158,7 @@ rows_moved clerks names before number (fields ∷ records) few = by (ltb most_ro
     by false e more =
         let less : before + number ≤ most_rows = grind (arith, nat_tests) in
         let next : before + (number + 1) ≡ before + number + 1 = omega arith in
-        rw (le-ltb most_rows number (omega arith)) (spelled (row_of clerks names fields) less (rw next at more less))
+        rw (le-ltb most_rows number (omega arith)) (spelled (office_row_of clerks names fields) less (rw next at more less))
 
 -- the rows of both parts, of which the first has no fault
 pub rows_joined : (clerks : ℕ) (names : CourtNames) (firsts laters : List (List (List ℕ))) (rows : List Row) → rows_read_from clerks names 1 firsts ≡ Ok rows → length rows ≤ most_rows

@@ -10,7 +10,7 @@ use Rattle.rule_periods.specs.declared.grant.Grant.{Grant}
 use Rattle.rule_periods.specs.declared.period.Period.{Period}
 use Rattle.rule_periods.specs.declared.period.Period.TheVariants as period
 use Rattle.rule_periods.specs.declared.rule.RulePeriod.TheVariants.{Rule4m, Rule12a1Ai, Rule12a1AiiUs, Rule12a1AiiAbroad, Rule12a1B, Rule12a1C, Rule12a2, Rule12a3, Rule59b, Rule59e}
-use Rattle.rule_periods.specs.Words.{DeadlineRowView, EventView, access_direction, act_due, base_of, base_of_period, end_of_length, end_of_rule, ends_certain, extended_of, granted_if_it_fits, is_hour_length, kind_adds, shown_after, shown_of, suits}
+use Rattle.rule_periods.specs.Words.{DeadlineRowView, EventView, access_direction, act_due, base_of, base_of_period, end_of_length, end_of_rule, certain_by, extended_of, granted_if_it_fits, is_hour_length, kind_adds, shown_after, shown_of, suits}
 use Rattle.reason_notes.specs.Readings.Changed.{kind_kept, with_act}
 
 abbrev row_of : Period → EventView → Option ℤ → Option ServiceKind → List Grant → Option Filing → DeadlineRowView
@@ -50,9 +50,9 @@ same_base c clock (period.Entered e) event (Some d) service grants filed suits_i
 same_shown : (c : DaysView) (clock : ClockView) (p : Period) (event : EventView) (second : Option ℤ) (service : Option ServiceKind) (grants : List Grant) (filed : Option Filing) → suits p second service ≡ true → shown_of c clock (again (row_of p event second service grants filed)) ≡ shown_of c clock (row_of p event second service grants filed)
 unfolding shown_of extended_of
 same_shown c clock (period.Rule rule) event second service grants filed suits_it =
-    ap (λ base. shown_after c clock (act_due (row_of (period.Rule rule) event second service grants filed)) (ends_certain grants) (access_direction After grants) (fold (granted_if_it_fits c clock false) base grants)) (same_base c clock (period.Rule rule) event second service grants filed suits_it)
+    ap (λ base. shown_after c clock (act_due (row_of (period.Rule rule) event second service grants filed)) (certain_by (period.Rule rule) grants) (access_direction After grants) (fold (granted_if_it_fits c clock false) base grants)) (same_base c clock (period.Rule rule) event second service grants filed suits_it)
 same_shown c clock (period.Entered e) event second service grants filed suits_it =
-    ap (λ base. shown_after c clock e.act (ends_certain grants) (access_direction e.direction grants) (fold (granted_if_it_fits c clock (is_hour_length e.length)) base grants)) (same_base c clock (period.Entered e) event second service grants filed suits_it)
+    ap (λ base. shown_after c clock e.act (certain_by (period.Entered e) grants) (access_direction e.direction grants) (fold (granted_if_it_fits c clock (is_hour_length e.length)) base grants)) (same_base c clock (period.Entered e) event second service grants filed suits_it)
 
 pub same_act : (c : DaysView) (clock : ClockView) (row : DeadlineRowView) → suits row.period row.second row.service ≡ true → shown_of c clock (again row) ≡ shown_of c clock row
 same_act c clock row suits_it =

@@ -11,7 +11,8 @@ use Rattle.rule6.specs.declared.timeliness.Means.{Means}
 use Rattle.rule6.specs.declared.timeliness.Means.TheVariants.{Electronic, Paper}
 use Rattle.rule6.specs.declared.timeliness.Shown.{Shown}
 use Rattle.rule6.specs.declared.timeliness.Shown.TheVariants.{Last, Until}
-use Rattle.rule_periods.specs.Words.{DeadlineRowView, direction_of, runs_from, shown_of}
+use Rattle.rule_periods.specs.declared.period.Period.{Period}
+use Rattle.rule_periods.specs.Words.{DeadlineRowView, direction_of, is_set, runs_from, shown_of}
 use Rattle.reason_texts.specs.Words.{minute_time, note_line}
 use Rattle.reason_notes.specs.declared.margins.margin.Margin.{Margin}
 use Rattle.reason_notes.specs.declared.margins.margin.Margin.TheVariants.{DaysEarly, OnLastDay, AfterClosing, DaysLate, SecondsEarly, SecondsLate, Undecided}
@@ -90,6 +91,10 @@ abbrev pub event_after : Direction → ℤ → Option ℤ
 event_after After event = Some event
 event_after Before event = None
 
+-- the same of any period: an act by a day that an order sets comes before no event
+abbrev pub event_of : Period → ℤ → Option ℤ
+event_of period event = if is_set period then None else event_after (direction_of period) event
+
 -- An act before the event of its deadline is timely here; another reading takes it for none.
 abbrev pub early_line : Option ℤ → (done : ℤ) → List ℕ
 early_line None done = []
@@ -104,7 +109,7 @@ margin_lines clock shown filing =
 -- the lines of an act that was done for a deadline
 unfoldable pub act_lines : DaysView → ClockView → DeadlineRowView → Filing → List ℕ
 act_lines c clock row filing =
-    margin_lines clock (shown_of c clock row) filing ++ early_line (event_after (direction_of row.period) (runs_from row)) filing.day
+    margin_lines clock (shown_of c clock row) filing ++ early_line (event_of row.period (runs_from row)) filing.day
 
 -- the lines of the act that is recorded for a deadline, where one is
 abbrev pub filed_lines : DaysView → ClockView → DeadlineRowView → Option Filing → List ℕ

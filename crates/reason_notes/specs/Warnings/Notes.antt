@@ -3,11 +3,12 @@ use Rattle.std.specs.Prelude.{ℕ, ◌==◌, ◌&&◌, ℤ, pos, ◌+ℤ◌, int
 use Rattle.court_clock.specs.declared.direction.Direction.{Direction}
 use Rattle.court_clock.specs.declared.direction.Direction.TheVariants.{After, Before}
 use Rattle.court_clock.specs.Words.{ClockView, day_text}
-use Rattle.court_days.specs.Words.{DaysView, has_outage}
+use Rattle.court_days.specs.Words.{DaysView, has_outage, is_permitted}
 use Rattle.rule6.specs.declared.timeliness.Filing.{Filing}
 use Rattle.rule6.specs.declared.timeliness.Shown.{Shown}
 use Rattle.rule_periods.specs.declared.grant.Request.{Request}
-use Rattle.rule_periods.specs.Words.{DeadlineRowView, direction_of, is_asked_in_time, is_in_hours, runs_from}
+use Rattle.rule_periods.specs.declared.period.Period.{Period}
+use Rattle.rule_periods.specs.Words.{DeadlineRowView, direction_of, is_asked_in_time, is_in_hours, is_set, runs_from}
 use Rattle.reason_texts.specs.Words.{course_of, note_line}
 use Rattle.reason_notes.specs.Margins.Words.{end_day}
 use Rattle.reason_notes.specs.Warnings.Holidays.{lists_no_more}
@@ -60,6 +61,16 @@ without_holidays c (Some last) =
     if lists_no_more c last then note (Some last) (codes "no federal holiday is listed from this day on") else []
 without_holidays c None = []
 
+-- a day that an order sets lies before the day on which the case was filed
+abbrev pub set_before_filing : (filed set : ℤ) → List ℕ
+set_before_filing filed set =
+    if int_lt set filed then note (Some set) (codes "the day set lies before the filing of the case") else []
+
+-- a day that an order sets is a Saturday, a Sunday or a legal holiday, and it stays the end
+abbrev pub set_on_closed_day : DaysView → (set : ℤ) → List ℕ
+set_on_closed_day c set =
+    if is_permitted c After set then [] else note (Some set) (codes "the day set is a Saturday, a Sunday or a holiday")
+
 -- The end of a period that is counted back from its event, as from a hearing, lies on a later day than the event. An
 -- extension can give such an end, and so can outages.
 abbrev pub after_event : Direction → (event : ℤ) → (last : Option ℤ) → List ℕ
@@ -72,18 +83,31 @@ abbrev pub end_notes : ClockView → DeadlineRowView → Shown → List ℕ
 end_notes clock row shown = after_event (direction_of row.period) row.event.day (end_day clock shown)
 
 -- an act before the day from which a period runs that is counted after its event
-abbrev pub early_act : Direction → (start : ℤ) → (act : Option Filing) → List ℕ
-early_act After start (Some filing) =
+abbrev pub before_start : Direction → (start : ℤ) → (act : Option Filing) → List ℕ
+before_start After start (Some filing) =
     if int_lt filing.day start then note (Some filing.day) (codes "the act was done before its event") else []
-early_act direction start act = []
+before_start direction start act = []
+
+-- an act by a day that an order sets is done before it
+abbrev pub early_act : Period → (start : ℤ) → (act : Option Filing) → List ℕ
+early_act period start act = if is_set period then [] else before_start (direction_of period) start act
 
 abbrev pub act_notes : DeadlineRowView → List ℕ
-act_notes row = early_act (direction_of row.period) (runs_from row) row.filed
+act_notes row = early_act row.period (runs_from row) row.filed
 
--- the notes on a deadline as it was started: on its events, its rule and its hours, and on the holidays that count for its end
+-- the notes on a day that an order sets
+unfoldable pub set_notes : DaysView → (filed set : ℤ) → List ℕ
+set_notes c filed set = set_before_filing filed set ++ set_on_closed_day c set
+
+-- the notes on a period as it was started: on its events, its rule and its hours, and on the holidays that count for its end
+unfoldable pub event_notes : DaysView → ClockView → (filed : ℤ) → (today : Option ℤ) → DeadlineRowView → Shown → List ℕ
+event_notes c clock filed today row shown =
+    before_filing filed row.event.day ++ second_before_filing filed row.second ++ far_if_open today row.filed row ++ before_rule (runs_from row) (course_of row.period).right_from ++ without_time row ++ without_holidays c (end_day clock shown)
+
+-- the notes on a deadline as it was started
 unfoldable pub start_notes : DaysView → ClockView → (filed : ℤ) → (today : Option ℤ) → DeadlineRowView → Shown → List ℕ
 start_notes c clock filed today row shown =
-    before_filing filed row.event.day ++ second_before_filing filed row.second ++ far_if_open today row.filed row ++ before_rule (runs_from row) (course_of row.period).right_from ++ without_time row ++ without_holidays c (end_day clock shown)
+    if is_set row.period then set_notes c filed row.event.day else event_notes c clock filed today row shown
 
 -- the notes on a deadline, of which this is shown, in a case that was filed on that day
 unfoldable pub deadline_notes : DaysView → ClockView → (filed : ℤ) → (today : Option ℤ) → DeadlineRowView → Shown → List ℕ

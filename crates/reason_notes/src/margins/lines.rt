@@ -3,14 +3,14 @@
 ghost use Rattle.std.specs.Prelude.{◌≡◌, ◌<◌, ◌++◌, OnOk, codes, option_copied, string_bytes};
 ghost use Rattle.std.specs.Fmt.{decimal};
 ghost use Rattle.reason_texts.specs.Words.{minute_time};
-ghost use Rattle.reason_notes.specs.Margins.Lines.{act_lines, day_end_text, days_text, detail_text, done_text, early_line, ends_at_closing, event_after, first_words, last_words, margin_lines, margin_section, margin_text, means_text, recorded_lines, seconds_text};
+ghost use Rattle.reason_notes.specs.Margins.Lines.{act_lines, day_end_text, days_text, detail_text, done_text, early_line, ends_at_closing, event_after, event_of, first_words, last_words, margin_lines, margin_section, margin_text, means_text, recorded_lines, seconds_text};
 
 use crate::margins::ends::end_day;
 use crate::margins::margin::{Margin, margin_of};
 use court_clock::{Clock, Day, Direction};
 use court_days::Days;
 use reason_texts::{push_minute, push_note};
-use rule_periods::{DeadlineRow, runs_from, shown};
+use rule_periods::{DeadlineRow, Period, runs_from, shown};
 use rule6::{Act, Filing, Means, Shown};
 use std::alloc::{AllocError, Global};
 use std::fmt::Write;
@@ -31,8 +31,7 @@ pub fn push_act(
 {
     let done = filing.day;
     push_margin_lines(alloc, text, clock, &shown(days, clock, row), filing)?;
-    let event = event_after(row.period().direction(), runs_from(row));
-    push_early(text, event, done)
+    push_early(text, event_of(row.period(), runs_from(row)), done)
 }
 
 /// Adds the lines of the act that is recorded for a deadline, where there is one. `Err` says that memory ran out.
@@ -61,6 +60,17 @@ fn event_after(direction: Direction, event: Day) -> Option<Day>
     match direction {
         Direction::After => Some(event),
         Direction::Before => None,
+    }
+}
+
+/// The same of any period: an act by a day that an order sets comes before no event.
+fn event_of(period: Period, event: Day) -> Option<Day>
+    ensures { result ≡ event_of period event }
+{
+    if period.is_set() {
+        None
+    } else {
+        event_after(period.direction(), event)
     }
 }
 

@@ -2,7 +2,7 @@
 
 ghost use Rattle.std.specs.Prelude.{◌≡◌, ◌++◌, OnOk, string_bytes};
 ghost use Rattle.reason_texts.specs.Words.{course_of};
-ghost use Rattle.reason_notes.specs.Warnings.Notes.{deadline_notes, start_notes, without_holidays, without_time};
+ghost use Rattle.reason_notes.specs.Warnings.Notes.{deadline_notes, event_notes, start_notes, without_holidays, without_time};
 
 use crate::margins::end_day;
 use crate::warnings::end::{push_act_notes, push_end_notes};
@@ -10,6 +10,7 @@ use crate::warnings::event::{
     push_before_filing, push_before_rule, push_far_if_open, push_second_before_filing,
 };
 use crate::warnings::holidays::lists_no_more;
+use crate::warnings::set::push_set_notes;
 use court_clock::{Clock, Day};
 use court_days::Days;
 use reason_texts::{Course, push_note};
@@ -37,8 +38,7 @@ pub fn push_deadline_notes(
     push_act_notes(text, row)
 }
 
-/// Adds the notes on a deadline as it was started: on its events, its rule and its hours, and where the court's file lists no
-/// federal holiday from its end on. `Err` says that memory ran out.
+/// Adds the notes on a deadline as it was started. `Err` says that memory ran out.
 #[tactic(auto, unfolding(crate::specs::Warnings::Notes::start_notes))]
 pub fn push_start_notes(
     alloc: Global,
@@ -51,6 +51,28 @@ pub fn push_start_notes(
     shown: &Shown,
 ) -> Result<(), AllocError>
     ensures { OnOk result (string_bytes text.new ≡ string_bytes text.old ++ start_notes days.now clock.now filed today row.now shown.now) }
+{
+    if row.period().is_set() {
+        push_set_notes(text, days, filed, row.event().day())
+    } else {
+        push_event_notes(alloc, text, days, clock, filed, today, row, shown)
+    }
+}
+
+/// Adds the notes on a period as it was started: on its events, its rule and its hours, and where the court's file lists no
+/// federal holiday from its end on.
+#[tactic(auto, unfolding(crate::specs::Warnings::Notes::event_notes))]
+fn push_event_notes(
+    alloc: Global,
+    text: &mut String,
+    days: &Days,
+    clock: &Clock,
+    filed: Day,
+    today: Option<Day>,
+    row: &DeadlineRow,
+    shown: &Shown,
+) -> Result<(), AllocError>
+    ensures { OnOk result (string_bytes text.new ≡ string_bytes text.old ++ event_notes days.now clock.now filed today row.now shown.now) }
 {
     push_before_filing(text, filed, row.event().day())?;
     push_second_before_filing(text, filed, row.second())?;

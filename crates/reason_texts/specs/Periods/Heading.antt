@@ -9,12 +9,12 @@ use Rattle.rule_periods.specs.declared.mark.Mark.{Mark}
 use Rattle.rule_periods.specs.declared.mark.Mark.TheVariants as mark
 use Rattle.rule_periods.specs.declared.period.Entered.{Entered}
 use Rattle.rule_periods.specs.declared.period.Length.{Length}
-use Rattle.rule_periods.specs.declared.period.Length.TheVariants.{Days, Hours}
+use Rattle.rule_periods.specs.declared.period.Length.TheVariants.{Days, Hours, ToDay}
 use Rattle.rule_periods.specs.declared.period.Period.{Period}
 use Rattle.rule_periods.specs.declared.period.Period.TheVariants as period
 use Rattle.rule_periods.specs.declared.rule.RulePeriod.{RulePeriod}
 use Rattle.rule_periods.specs.declared.rule.RulePeriod.TheVariants.{Rule4m, Rule12a1Ai, Rule12a1AiiUs, Rule12a1AiiAbroad, Rule12a1B, Rule12a1C, Rule12a2, Rule12a3, Rule59b, Rule59e}
-use Rattle.rule_periods.specs.Words.{DeadlineRowView, runs_from, terms_of}
+use Rattle.rule_periods.specs.Words.{DeadlineRowView, is_set_length, runs_from, terms_of}
 use Rattle.reason_texts.specs.Words.{note_line}
 
 -- `28 days`, `1 hour`
@@ -24,6 +24,7 @@ counted_text n unit = decimal n ++ codes " " ++ unit ++ (if n == 1 then [] else 
 abbrev pub length_text : Length → List ℕ
 length_text (Days n) = counted_text n (codes "day")
 length_text (Hours h) = counted_text h (codes "hour")
+length_text ToDay = codes "set by an order"
 
 -- the section that sets a period of the Rules
 abbrev pub rule_section : RulePeriod → List ℕ
@@ -107,10 +108,13 @@ abbrev pub act_words : Act → List ℕ
 act_words Filing = codes ", to file"
 act_words Service = codes ", to serve"
 
--- `14 days before the event, to serve`
+-- from where an entered period is measured; a day that an order sets is measured from nothing
+abbrev pub from_words : Entered → List ℕ
+from_words entered = if is_set_length entered.length then [] else side_words entered.direction ++ start_words entered.served
+
+-- `14 days before the event, to serve`, or `set by an order, to serve`
 unfoldable pub entered_text : Entered → List ℕ
-entered_text entered =
-    length_text entered.length ++ side_words entered.direction ++ start_words entered.served ++ act_words entered.act
+entered_text entered = length_text entered.length ++ from_words entered ++ act_words entered.act
 
 -- `28 days, a motion to alter or amend a judgment`
 unfoldable pub rule_text : DeadlineRowView → RulePeriod → List ℕ

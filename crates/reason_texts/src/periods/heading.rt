@@ -2,7 +2,7 @@
 
 ghost use Rattle.std.specs.Prelude.{◌≡◌, ◌++◌, OnOk, codes, string_bytes};
 ghost use Rattle.reason_texts.specs.Words.{note_line};
-ghost use Rattle.reason_texts.specs.Periods.Heading.{counted_text, entered_text, heading_lines, heading_of, length_text, mark_line, rule_text};
+ghost use Rattle.reason_texts.specs.Periods.Heading.{counted_text, entered_text, from_words, heading_lines, heading_of, length_text, mark_line, rule_text};
 
 use crate::periods::words::{
     act_words, event_words, mark_section, mark_words, rule_section, rule_words, side_words,
@@ -81,9 +81,19 @@ fn push_entered_text(text: &mut String, entered: &Entered) -> Result<(), AllocEr
     ensures { OnOk result (string_bytes text.new ≡ string_bytes text.old ++ entered_text entered.now) }
 {
     push_length(text, entered.length)?;
-    text.push_str(side_words(entered.direction))?;
-    text.push_str(start_words(entered.served))?;
+    push_from(text, entered)?;
     text.push_str(act_words(entered.act))
+}
+
+/// Adds from where an entered period is measured, unless an order sets its end.
+fn push_from(text: &mut String, entered: &Entered) -> Result<(), AllocError>
+    ensures { OnOk result (string_bytes text.new ≡ string_bytes text.old ++ from_words entered.now) }
+{
+    if entered.length.is_set() {
+        return Ok(());
+    }
+    text.push_str(side_words(entered.direction))?;
+    text.push_str(start_words(entered.served))
 }
 
 /// Adds how long a period is.
@@ -93,6 +103,7 @@ fn push_length(text: &mut String, length: Length) -> Result<(), AllocError>
     match length {
         Length::Days(n) => push_counted(text, n, "day"),
         Length::Hours(h) => push_counted(text, h, "hour"),
+        Length::ToDay => text.push_str("set by an order"),
     }
 }
 

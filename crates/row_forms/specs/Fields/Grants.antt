@@ -1,26 +1,23 @@
 -- Extensions, and the notice that a motion needs.
 use Rattle.std.specs.Prelude.{ℕ, List, [], ◌∷◌, codes, drop, nat_eq, Option, Some, option_map, if◌then◌else◌}
 use Rattle.std.specs.List.{starts_with}
+use Rattle.std.specs.Option.{option_or}
 use Rattle.std.specs.Str.{bytes_eq}
 use Rattle.court_clock.specs.Words.{day_of_text}
 use Rattle.rule_periods.specs.declared.grant.Grant.{Grant}
 use Rattle.rule_periods.specs.declared.grant.Grant.TheVariants.{ByDays, ByHours, Until}
-use Rattle.rule_periods.specs.declared.period.Length.{Length}
-use Rattle.rule_periods.specs.declared.period.Length.TheVariants as unit
 use Rattle.hearing_slots.specs.declared.need.Need.{Need}
 use Rattle.hearing_slots.specs.declared.need.Need.TheVariants.{ExParte, Days}
-use Rattle.row_forms.specs.Fields.Numbers.{number_of}
-use Rattle.row_forms.specs.Fields.Period.{length_of}
+use Rattle.row_forms.specs.Fields.Numbers.{count_of, number_of}
 
--- so much more time
-abbrev pub more_time : Length → Grant
-more_time (unit.Days n) = ByDays n
-more_time (unit.Hours n) = ByHours n
+-- so much more time: a number of days followed by `d`, or of hours followed by `h`
+unfoldable pub more_time : List ℕ → Option Grant
+more_time text = option_or (option_map ByDays (count_of 100 text)) (option_map ByHours (count_of 104 text))
 
 -- an extension: `+` and a length, or a date until which there is time
 unfoldable pub grant_of : List ℕ → Option Grant
 grant_of text =
-    if starts_with nat_eq text (43 ∷ []) then option_map more_time (length_of (drop 1 text))
+    if starts_with nat_eq text (43 ∷ []) then more_time (drop 1 text)
     else option_map Until (day_of_text text)
 
 -- the notice that a motion needs: a number of days, or none where it may be heard ex parte

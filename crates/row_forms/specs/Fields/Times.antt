@@ -14,6 +14,11 @@ unfoldable pub minute_or_midnight : List ℕ → Option ℕ
 minute_or_midnight [] = Some 0
 minute_or_midnight (b ∷ field) = minute_of_text (b ∷ field)
 
+-- the minute of a day that an order sets: the day is set as a whole, so the field is empty
+unfoldable pub minute_of_set : List ℕ → Option ℕ
+minute_of_set [] = Some 0
+minute_of_set (b ∷ field) = None
+
 -- the minute at which something ends, which may be `24:00`
 unfoldable pub ending_minute : List ℕ → Option ℕ
 ending_minute field = if bytes_eq field (codes "24:00") then Some 1440 else minute_of_text field

@@ -1,15 +1,20 @@
--- The table of forms: the command word of each, and its columns. Rows are read, refused, headed and shown by it.
+-- The table of forms: the command word of each, and its columns. Rows are read, refused, headed and shown by it. The desk takes
+-- what clerk_office takes, and rows of its own.
 use Rattle.std.specs.Prelude.{◌≡◌, ◌↔◌, ℕ, Bool, List, [], ◌∷◌, ◌++◌, codes, find, map, Option, Some, option_map}
 use Rattle.std.specs.Str.{bytes_eq}
 use Rattle.row_forms.specs.declared.forms.table.Form.{Form}
 use Rattle.row_forms.specs.declared.forms.table.Form.TheVariants as form
 use Rattle.row_forms.specs.declared.headings.columns.Column.{Column}
-use Rattle.row_forms.specs.declared.headings.columns.Column.TheVariants.{Clerk, Command, Case, Deadline, Motion, Period, Date, Time, Start, TimeOrNone, SecondOrNone, ServiceOrNone, Means, Grant, ByMotion, Cause, Neglect, Need, Holidays, From, To, Judge, Judges, Room, Slots, Notice}
+use Rattle.row_forms.specs.declared.headings.columns.Column.TheVariants.{Clerk, Command, Case, Deadline, Motion, Period, Date, Time, Start, TimeOrNone, SecondOrNone, ServiceOrNone, Means, Grant, ByMotion, Cause, Neglect, Need, Holidays, From, To, Judge, Judges, Room, Slots, Notice, SetTime, Act}
 
--- the forms of rows
-abbrev pub forms : List Form
-forms =
+-- the forms of the rows of clerk_office
+abbrev pub office_forms : List Form
+office_forms =
     form.Open ∷ form.Start ∷ form.File ∷ form.Extend ∷ form.Motion ∷ form.Book ∷ form.Move ∷ form.Cancel ∷ form.Holiday ∷ form.Inaccessible ∷ form.Compute ∷ form.Sheet ∷ form.Calendar ∷ []
+
+-- the forms of the rows of the desk
+abbrev pub forms : List Form
+forms = office_forms ++ form.Set ∷ []
 
 -- the command word of a form
 abbrev pub command_word : Form → List ℕ
@@ -26,6 +31,7 @@ command_word form.Inaccessible = codes "inaccessible"
 command_word form.Compute = codes "compute"
 command_word form.Sheet = codes "sheet"
 command_word form.Calendar = codes "calendar"
+command_word form.Set = codes "set"
 
 -- the columns of rows that set a hearing
 abbrev pub setting_columns : List Column
@@ -46,14 +52,19 @@ columns_of_form form.Inaccessible = Clerk ∷ Command ∷ Date ∷ From ∷ To �
 columns_of_form form.Compute = Clerk ∷ Command ∷ Period ∷ Date ∷ TimeOrNone ∷ SecondOrNone ∷ ServiceOrNone ∷ []
 columns_of_form form.Sheet = Clerk ∷ Command ∷ Case ∷ []
 columns_of_form form.Calendar = Clerk ∷ Command ∷ Judge ∷ Date ∷ []
+columns_of_form form.Set = Clerk ∷ Command ∷ Case ∷ Date ∷ SetTime ∷ Act ∷ []
 
 -- the word is this form's
 unfoldable pub is_word_of : List ℕ → Form → Bool
 is_word_of word f = bytes_eq word (command_word f)
 
--- the form with this command word
+-- the form with this command word, of the desk's rows
 unfoldable pub form_of : List ℕ → Option Form
 form_of word = find (is_word_of word) forms
+
+-- the form with this command word that clerk_office takes
+unfoldable pub office_form_of : List ℕ → Option Form
+office_form_of word = find (is_word_of word) office_forms
 
 -- the columns of the rows with this command word
 unfoldable pub columns_of : List ℕ → Option (List Column)

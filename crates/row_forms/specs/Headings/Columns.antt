@@ -1,7 +1,7 @@
 -- The columns of rows, and what these are called.
 use Rattle.std.specs.Prelude.{ℕ, Bool, true, false, List, codes, slice_get, unwrap_or}
 use Rattle.row_forms.specs.declared.headings.columns.Column.{Column}
-use Rattle.row_forms.specs.declared.headings.columns.Column.TheVariants.{Clerk, Command, Case, Deadline, Motion, Period, Date, Time, Start, TimeOrNone, SecondOrNone, ServiceOrNone, Means, Grant, ByMotion, Cause, Neglect, Need, Holidays, From, To, Judge, Judges, Room, Slots, Notice}
+use Rattle.row_forms.specs.declared.headings.columns.Column.TheVariants.{Clerk, Command, Case, Deadline, Motion, Period, Date, Time, Start, TimeOrNone, SecondOrNone, ServiceOrNone, Means, Grant, ByMotion, Cause, Neglect, Need, Holidays, From, To, Judge, Judges, Room, Slots, Notice, SetTime, Act}
 
 -- the column of that number, counted from 0
 abbrev pub column_at : List Column → ℕ → Column
@@ -35,6 +35,8 @@ name_of Judges = codes "judge"
 name_of Room = codes "room"
 name_of Slots = codes "slots"
 name_of Notice = codes "notice"
+name_of SetTime = codes "time"
+name_of Act = codes "act"
 
 -- What stands for a column where the form of a row is shown. What may be left empty is in brackets. The command word stands
 -- for itself.
@@ -65,10 +67,13 @@ mark_of word Judges = codes "JUDGE"
 mark_of word Room = codes "ROOM"
 mark_of word Slots = codes "SLOTS"
 mark_of word Notice = codes "NOTICE"
+mark_of word SetTime = codes "[TIME]"
+mark_of word Act = codes "ACT"
 
 -- the field of a column may be empty, and then says none
 abbrev pub may_be_empty : Column → Bool
 may_be_empty TimeOrNone = true
 may_be_empty SecondOrNone = true
 may_be_empty ServiceOrNone = true
+may_be_empty SetTime = true
 may_be_empty _ = false

@@ -3,11 +3,10 @@
 ghost use Rattle.std.specs.Prelude.{◌≡◌};
 ghost use Rattle.row_forms.specs.Fields.Grants.{grant_of, more_time, need_of};
 
-use crate::fields::numbers::number_of;
-use crate::fields::period::length_of;
+use crate::fields::numbers::{count_of, number_of};
 use court_clock::Day;
 use hearing_slots::Need;
-use rule_periods::{Grant, Length};
+use rule_periods::Grant;
 
 /// An extension: `+` and a number of days or hours, as `+14d`, or a date.
 #[tactic(auto, unfolding(crate::specs::Fields::Grants::grant_of))]
@@ -15,18 +14,19 @@ pub fn grant_of(text: &str) -> Option<Grant>
     ensures { result ≡ grant_of text.now }
 {
     match text.strip_prefix('+') {
-        Some(length) => Some(more_time(length_of(length)?)),
+        Some(length) => more_time(length),
         None => Some(Grant::Until(Day::from_text(text)?)),
     }
 }
 
-// So much more time.
-fn more_time(length: Length) -> Grant
-    ensures { result ≡ more_time length }
+// So much more time: a number of days followed by `d`, or of hours followed by `h`.
+#[tactic(auto, unfolding(crate::specs::Fields::Grants::more_time))]
+fn more_time(text: &str) -> Option<Grant>
+    ensures { result ≡ more_time text.now }
 {
-    match length {
-        Length::Days(n) => Grant::ByDays(n),
-        Length::Hours(n) => Grant::ByHours(n),
+    match count_of(text, 'd') {
+        Some(days) => Some(Grant::ByDays(days)),
+        None => Some(Grant::ByHours(count_of(text, 'h')?)),
     }
 }
 

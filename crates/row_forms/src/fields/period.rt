@@ -38,9 +38,9 @@ fn entered_of(text: &str) -> Option<Entered>
     })
 }
 
-/// A number of days followed by `d`, or of hours followed by `h`.
+// A number of days followed by `d`, or of hours followed by `h`.
 #[tactic(auto, unfolding(crate::specs::Fields::Period::length_of))]
-pub fn length_of(text: &str) -> Option<Length>
+fn length_of(text: &str) -> Option<Length>
     ensures { result ≡ length_of text.now }
 {
     match count_of(text, 'd') {
@@ -60,8 +60,9 @@ fn direction_of(text: &str) -> Option<Direction>
     }
 }
 
+/// What has to be done in time: `filing` or `service`.
 #[tactic(auto, unfolding(crate::specs::Fields::Period::act_of))]
-fn act_of(text: &str) -> Option<Act>
+pub fn act_of(text: &str) -> Option<Act>
     ensures { result ≡ act_of text.now }
 {
     match text {

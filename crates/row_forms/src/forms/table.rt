@@ -1,12 +1,13 @@
-//! The table of forms: the command word of each, and its columns. Rows are read, refused, headed and shown by it.
+//! The table of forms: the command word of each, and its columns. Rows are read, refused, headed and shown by it. The desk takes
+//! what clerk_office takes, and rows of its own.
 
 ghost use Rattle.std.specs.Prelude.{◌≡◌, find, map, option_map};
-ghost use Rattle.row_forms.specs.Forms.Table.{columns_of, columns_of_form, command_word, commands_listed, form_of, forms, is_word_of};
+ghost use Rattle.row_forms.specs.Forms.Table.{columns_of, columns_of_form, command_word, commands_listed, form_of, forms, is_word_of, office_form_of};
 
 use crate::headings::Column::{
-    self, ByMotion, Case, Cause, Clerk, Command, Date, Deadline, From, Grant, Holidays, Judge,
-    Judges, Means, Motion, Need, Neglect, Notice, Period, Room, SecondOrNone, ServiceOrNone, Slots,
-    Start, Time, TimeOrNone, To,
+    self, Act, ByMotion, Case, Cause, Clerk, Command, Date, Deadline, From, Grant, Holidays, Judge,
+    Judges, Means, Motion, Need, Neglect, Notice, Period, Room, SecondOrNone, ServiceOrNone,
+    SetTime, Slots, Start, Time, TimeOrNone, To,
 };
 
 /// The form of a row: which command or query it asks for.
@@ -38,10 +39,12 @@ pub enum Form {
     Sheet,
     /// Asks for a judge's day.
     Calendar,
+    /// Starts a deadline on a day that an order sets. It is of the desk alone.
+    Set,
 }
 
-/// The forms of rows.
-pub const FORMS: [Form; 13] = [
+/// The forms of the rows of clerk_office.
+pub const OFFICE_FORMS: [Form; 13] = [
     Form::Open,
     Form::Start,
     Form::File,
@@ -57,8 +60,26 @@ pub const FORMS: [Form; 13] = [
     Form::Calendar,
 ];
 
+/// The forms of the rows of the desk.
+pub const FORMS: [Form; 14] = [
+    Form::Open,
+    Form::Start,
+    Form::File,
+    Form::Extend,
+    Form::Motion,
+    Form::Book,
+    Form::Move,
+    Form::Cancel,
+    Form::Holiday,
+    Form::Inaccessible,
+    Form::Compute,
+    Form::Sheet,
+    Form::Calendar,
+    Form::Set,
+];
+
 /// The command words, in the order of the forms.
-pub const COMMANDS: [&str; 13] = [
+pub const COMMANDS: [&str; 14] = [
     "open",
     "start",
     "file",
@@ -72,6 +93,7 @@ pub const COMMANDS: [&str; 13] = [
     "compute",
     "sheet",
     "calendar",
+    "set",
 ];
 
 /// The columns of a form's rows, from the first on.
@@ -112,6 +134,7 @@ pub fn columns_of_form(form: Form) -> &'static [Column]
         ],
         Form::Sheet => &[Clerk, Command, Case],
         Form::Calendar => &[Clerk, Command, Judge, Date],
+        Form::Set => &[Clerk, Command, Case, Date, SetTime, Act],
     }
 }
 
@@ -134,7 +157,7 @@ pub fn commands() -> &'static [&'static str]
 pub fn commands_listed() -> &'static str
     ensures { result.now ≡ commands_listed }
 {
-    "open, start, file, extend, motion, book, move, cancel, holiday, inaccessible, compute, sheet or calendar"
+    "open, start, file, extend, motion, book, move, cancel, holiday, inaccessible, compute, sheet, calendar or set"
 }
 
 // Whether the word is this form's.
@@ -161,12 +184,20 @@ fn form_in(forms: &[Form], word: &str) -> Option<Form>
     }
 }
 
-/// The form of the rows with this command word.
+/// The form of the rows with this command word, at the desk.
 #[tactic(auto, unfolding(crate::specs::Forms::Table::form_of))]
 pub fn form_of(word: &str) -> Option<Form>
     ensures { result ≡ form_of word.now }
 {
     form_in(&FORMS, word)
+}
+
+/// The form of the rows with this command word that clerk_office takes.
+#[tactic(auto, unfolding(crate::specs::Forms::Table::office_form_of))]
+pub fn office_form_of(word: &str) -> Option<Form>
+    ensures { result ≡ office_form_of word.now }
+{
+    form_in(&OFFICE_FORMS, word)
 }
 
 /// The columns of the rows with this command word, from the first on.

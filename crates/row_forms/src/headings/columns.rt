@@ -58,6 +58,10 @@ pub enum Column {
     Slots,
     /// The day on which notice was served.
     Notice,
+    /// The time of day of a day that an order sets, which is empty.
+    SetTime,
+    /// What has to be done in time.
+    Act,
 }
 
 /// The column of that number, counted from 0.
@@ -79,7 +83,7 @@ pub fn name_of(column: Column) -> &'static str
         Column::Motion | Column::ByMotion => "motion",
         Column::Period => "period",
         Column::Date => "date",
-        Column::Time | Column::Start | Column::TimeOrNone => "time",
+        Column::Time | Column::Start | Column::TimeOrNone | Column::SetTime => "time",
         Column::SecondOrNone => "second",
         Column::ServiceOrNone => "kind",
         Column::Means => "means",
@@ -94,6 +98,7 @@ pub fn name_of(column: Column) -> &'static str
         Column::Room => "room",
         Column::Slots => "slots",
         Column::Notice => "notice",
+        Column::Act => "act",
     }
 }
 
@@ -112,7 +117,7 @@ pub fn mark_of(word: &str, column: Column) -> &str
         Column::Date => "DATE",
         Column::Time => "TIME",
         Column::Start => "START",
-        Column::TimeOrNone => "[TIME]",
+        Column::TimeOrNone | Column::SetTime => "[TIME]",
         Column::SecondOrNone => "[SECOND]",
         Column::ServiceOrNone => "[KIND]",
         Column::Means => "MEANS",
@@ -128,6 +133,7 @@ pub fn mark_of(word: &str, column: Column) -> &str
         Column::Room => "ROOM",
         Column::Slots => "SLOTS",
         Column::Notice => "NOTICE",
+        Column::Act => "ACT",
     }
 }
 
@@ -137,6 +143,6 @@ pub fn may_be_empty(column: Column) -> bool
 {
     matches!(
         column,
-        Column::TimeOrNone | Column::SecondOrNone | Column::ServiceOrNone
+        Column::TimeOrNone | Column::SecondOrNone | Column::ServiceOrNone | Column::SetTime
     )
 }

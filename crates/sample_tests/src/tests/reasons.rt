@@ -6,6 +6,7 @@ use court_days::{Court, Days, Outage};
 use deadline_reasons::{Cause, Reason, derivations_end_in_what_is_shown, reasons_of};
 use rule_periods::{
     DeadlineRow, Entered, Event, Grant, Length, Mark, Period, RulePeriod, check_start,
+    set_days_stay,
 };
 use rule6::{Act, ServiceKind};
 use std::alloc::Global;
@@ -115,6 +116,25 @@ fn hours_are_counted_over_a_change_of_the_clocks(rt: HostRuntime) -> Result<(), 
             Reason::EndsOn(day(&rt, "2007-11-05")),
             Reason::UntilInstant(ends),
         ],
+    )
+}
+
+#[test]
+fn a_saturday_that_an_order_sets_stays(rt: HostRuntime) -> Result<(), Fail> {
+    set_days_stay();
+    let court = court(rt.alloc())?;
+    let set = day(&rt, "2007-09-01");
+    let outage = Outage::new(set, 540, 600).expect(&rt, "an outage");
+    let days = court.days().with_outage(rt.alloc(), outage)?;
+    has_reasons(
+        &rt,
+        rt.alloc(),
+        &court,
+        &days,
+        entered(Length::ToDay, Direction::After),
+        Event::new(set, 0),
+        None,
+        &[Reason::Set(set), Reason::UntilClosing(set, 1020)],
     )
 }
 

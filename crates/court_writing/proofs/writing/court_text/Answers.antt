@@ -10,5 +10,5 @@ pub returns-clause-written : goal.returns-clause-written
 unfolding court_in
 returns-clause-written c =
     let read : toml_of (string_bytes c.in_ok-text.text) ≡ Some (table_view c.in_ok-file.file) = search rules in
-    let document : IsDocumentOf c.args.court.state (zone_text c.args.court.zone) c.args.from c.args.to (table_view c.in_ok-file.file) = search rules in
+    let document : IsDocumentOf c.args.court.state (zone_text c.args.court.zone) c.args.own.now c.args.from c.args.to (table_view c.in_ok-file.file) = search rules in
     (document.0, rw read document.1, document.2)

@@ -41,10 +41,13 @@ pub returns-in-Sheet-clause-task : goal.returns-in-Sheet-clause-task
 returns-in-Sheet-clause-task c = rw c.in-Sheet.is (c.sheet.ensures.task c.args.name.now)
 
 pub returns-in-CourtCheck-clause-task : goal.returns-in-CourtCheck-clause-task
-returns-in-CourtCheck-clause-task c = rw c.in-CourtCheck.is (c.check.ensures.task c.args.clock_time c.args.name.now)
+returns-in-CourtCheck-clause-task c = rw c.in-CourtCheck.is (c.check.ensures.task c.args.name.now)
 
 pub returns-in-CourtWrite-clause-task : goal.returns-in-CourtWrite-clause-task
 returns-in-CourtWrite-clause-task c = rw c.in-CourtWrite.is (c.write.ensures.task c.args.clock_time c.args.name.now)
+
+pub returns-in-CourtUpdate-clause-task : goal.returns-in-CourtUpdate-clause-task
+returns-in-CourtUpdate-clause-task c = rw c.in-CourtUpdate.is (c.update.ensures.task c.args.clock_time c.args.name.now)
 
 pub returns-in-CourtChange-clause-task : goal.returns-in-CourtChange-clause-task
 returns-in-CourtChange-clause-task c = rw c.in-CourtChange.is (c.change.ensures.task c.args.clock_time c.args.name.now)

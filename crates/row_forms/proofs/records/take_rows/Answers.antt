@@ -9,7 +9,7 @@ use Rattle.row_forms.specs.CourtNames.{names_of}
 use Rattle.row_forms.specs.Records.{records_left}
 use Rattle.row_forms.specs.Rows.{most_rows}
 use Rattle.row_forms.proofs.ReadingLemmas.{another}
-use Rattle.row_forms.proofs.RowsLemmas.{row_of_no_text, rows_read_from-err, rows_read_from-fault, rows_read_from-nil, rows_read_from-past, rows_read_from-row}
+use Rattle.row_forms.proofs.RowsLemmas.{office_row_of_no_text, rows_read_from-err, rows_read_from-fault, rows_read_from-nil, rows_read_from-past, rows_read_from-row}
 use Rattle.row_forms.proofs.records.take_rows.Goals as goal
 
 pub returns-in-End : goal.returns-in-End
@@ -22,7 +22,7 @@ returns-in-NotText c =
     let meets = c.in_ok-read_next.ensures.no_text (ap Ok c.in-NotText.is) in
     let few : c.loop-number.number ≤ most_rows = omega arith in
     sym c.loop-number.invariant.so_far
-    ∙ rw meets.next (rows_read_from-fault c.args.clerks (names_of c.args.court.now) c.loop-number.number meets.fields meets.later c.loop-number.rows.items _ few (row_of_no_text c.args.clerks (names_of c.args.court.now) meets.fields meets.no_text))
+    ∙ rw meets.next (rows_read_from-fault c.args.clerks (names_of c.args.court.now) c.loop-number.number meets.fields meets.later c.loop-number.rows.items _ few (office_row_of_no_text c.args.clerks (names_of c.args.court.now) meets.fields meets.no_text))
 
 pub returns-in_err-row-in-Text : goal.returns-in_err-row-in-Text
 returns-in_err-row-in-Text c =

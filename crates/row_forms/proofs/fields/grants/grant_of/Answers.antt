@@ -12,7 +12,7 @@ returns-in_err-from_text-in-None c =
     let text = c.args.text.now in
     let plain : starts_with eqb text (43 ∷ []) ≡ false = starts_with-none text (43 ∷ []) (strip_prefix_char 43 text None c.in-None.ensures.cases (lit< tt)) in
     let none : day_of_text text ≡ None = sym c.from_text.ensures ∙ c.in_err-from_text-in-None.was in
-    rw (c.from_residual-in_err-from_text-in-None.ensures, plain, none)
+    rw (c.from_residual.ensures, plain, none)
 
 pub returns-in_ok-from_text-in-None : goal.returns-in_ok-from_text-in-None
 unfolding grant_of

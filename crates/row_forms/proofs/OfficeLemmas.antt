@@ -1,0 +1,124 @@
+-- The desk reads what clerk_office reads, and it is work of clerk_office.
+use Rattle.std.proofs.Common.{◌≡◌, ◌∙◌, ◌+◌, ◌==◌, ℕ, Bool, true, false, List, [], ◌∷◌, Option, Some, None, Result, Ok, Err, cond, length, ltb, not, refl, rules, sym, ap, subst}
+use Rattle.std.specs.List.{All, list_all}
+use Rattle.std.specs.Option.{ok_or}
+use Rattle.std.specs.Str.{is_utf8}
+use Rattle.std.proofs.lemmas.List.Elements.{All-cons, All-nil}
+use Rattle.docket_rows.specs.declared.query.Query.TheVariants as query
+use Rattle.rule_periods.specs.Words.{is_set}
+use Rattle.row_forms.specs.declared.fault.RowCause.{RowCause}
+use Rattle.row_forms.specs.declared.fault.RowCause.TheVariants.{BadClerk, NotText, TooManyRows, WrongCount}
+use Rattle.row_forms.specs.declared.forms.periods.Measured.{Measured}
+use Rattle.row_forms.specs.declared.forms.table.Form.{Form}
+use Rattle.row_forms.specs.declared.forms.table.Form.TheVariants.{Compute, Set, Start}
+use Rattle.row_forms.specs.declared.row.Row.{Row}
+use Rattle.row_forms.specs.declared.row.Work.{Work}
+use Rattle.row_forms.specs.declared.row.Work.TheVariants.{Query}
+use Rattle.row_forms.specs.Columns.{◌>>=◌, column}
+use Rattle.row_forms.specs.CourtNames.{CourtNames}
+use Rattle.row_forms.specs.Forms.{compute_row, office_work_of, read_as, start_row, work_as, work_of}
+use Rattle.row_forms.specs.Forms.Periods.{measured_from}
+use Rattle.row_forms.specs.Forms.Table.{columns_of_form, command_word, form_of, is_word_of, office_form_of, office_forms}
+use Rattle.row_forms.specs.Office.{OfficeRowsAreReadAlike, RowsAreOfficeWork, is_office_work}
+use Rattle.row_forms.specs.Rows.{clerk_of, in_row, most_rows, office_row_of, row_asking, row_of, rows_read, rows_read_from}
+use Rattle.row_forms.proofs.FormLemmas.{at_desk, named_in, start_is}
+use Rattle.row_forms.proofs.PeriodLemmas.{measured_counted}
+
+-- no word of clerk_office names the form of the desk
+never_set : (word : List ℕ) → office_form_of word ≡ Some Set → ⊥
+unfolding office_form_of is_word_of
+never_set word h =
+    let same : command_word Set ≡ word = named_in office_forms word Set h in
+    let found : None ≡ Some Set = subst (λ (w : List ℕ). office_form_of w ≡ Some Set) (sym same) h in
+    cc found
+
+-- what is read, if anything is, is work of clerk_office
+record IsOffice (r : Result Work RowCause) : Type 0 where
+  office : (work : Work) → r ≡ Ok work → is_office_work work ≡ true
+
+done : (work : Work) → is_office_work work ≡ true → IsOffice (Ok work)
+done work e = record { office = λ other same. let equal : work ≡ other = cc same in rw (← equal) e }
+
+after : {A : Type 0} (r : Result A RowCause) (more : A → Result Work RowCause) → ((x : A) → IsOffice (more x)) → IsOffice (r >>= more)
+after (Ok x) more each = each x
+after (Err cause) more each = record { office = λ work none. cc none }
+
+counted : (wrong : Bool) (r : Result Work RowCause) → IsOffice r → IsOffice (cond wrong (Err WrongCount) r)
+counted true r h = record { office = λ work none. cc none }
+counted false r h = h
+
+compute_is : (fields : List (List ℕ)) (work : Work) → compute_row fields ≡ Ok work → is_office_work work ≡ true
+compute_is fields work h = by (measured_from fields 3) refl h
+  where
+    by : (m : Result Measured RowCause) → measured_from fields 3 ≡ m → (m >>= (λ (x : Measured). Ok (Query (query.Compute x.period x.event x.second x.service)))) ≡ Ok work → is_office_work work ≡ true
+    by (Err cause) same e = cc e
+    by (Ok x) same e =
+        let is : Query (query.Compute x.period x.event x.second x.service) ≡ work = cc e in
+        let plain : is_set x.period ≡ false = measured_counted fields 3 x same in
+        let office : is_office_work (Query (query.Compute x.period x.event x.second x.service)) ≡ true = rw plain refl in
+        rw (← is) office
+
+-- of each form but that of the desk: the last line is checked for every other form
+form_is_office : (names : CourtNames) (form : Form) (fields : List (List ℕ)) → (form ≡ Set → ⊥) → IsOffice (read_as names form fields)
+form_is_office names Set fields not_set = absurd (not_set refl)
+form_is_office names Start fields not_set =
+    counted (not (length fields == length (columns_of_form Start))) (start_row fields) (record { office = λ work h. (start_is fields work h).1 })
+form_is_office names Compute fields not_set =
+    counted (not (length fields == length (columns_of_form Compute))) (compute_row fields) (record { office = λ work h. compute_is fields work h })
+form_is_office names other fields not_set = search (rules, counted, after, done) depth 12
+
+-- what a row that was read asks for
+row_asks : (clerks : ℕ) (asked : Result Work RowCause) (fields : List (List ℕ)) (row : Row) → row_asking clerks asked fields ≡ Ok row → asked ≡ Ok row.work
+row_asks clerks asked fields row h = by (list_all is_utf8 fields) (ltb (length fields) 2) (clerk_of clerks (column fields 1)) asked h
+  where
+    by : (text few : Bool) (found : Option ℕ) (work : Result Work RowCause)
+        → cond (not text) (Err NotText) (cond few (Err WrongCount) (ok_or found BadClerk >>= (λ clerk. work >>= (λ w. Ok (record { clerk = clerk; work = w }))))) ≡ Ok row
+        → work ≡ Ok row.work
+    by false few found work e = cc e
+    by true true found work e = cc e
+    by true false None work e = cc e
+    by true false (Some clerk) (Err cause) e = cc e
+    by true false (Some clerk) (Ok w) e = let same : w ≡ row.work = cc e in ap Ok same
+
+-- the form of a row that was read
+work_named : (names : CourtNames) (found : Option Form) (fields : List (List ℕ)) (work : Work) → work_as names found fields ≡ Ok work
+    → (form : Form) × (found ≡ Some form) × (read_as names form fields ≡ Ok work)
+unfolding work_as
+work_named names None fields work h = cc h
+work_named names (Some form) fields work h = (form, refl, h)
+
+pub office_rows_are_read_alike_lem : OfficeRowsAreReadAlike
+unfolding office_row_of office_work_of row_of work_of
+office_rows_are_read_alike_lem clerks names fields row h =
+    let word : List ℕ = column fields 2 in
+    let (form, named, reads) = work_named names (office_form_of word) fields row.work (row_asks clerks (work_as names (office_form_of word) fields) fields row h) in
+    let same : form_of word ≡ office_form_of word = at_desk word form named ∙ sym named in (
+      ap (λ (found : Option Form). row_asking clerks (work_as names found fields) fields) same ∙ h,
+      (form_is_office names form fields (λ is. never_set word (named ∙ ap Some is))).office row.work reads,
+    )
+
+-- the rows of records
+abbrev IsOfficeRow : Row → Type 0
+IsOfficeRow row = is_office_work row.work ≡ true
+
+office_rows : (clerks : ℕ) (names : CourtNames) (n : ℕ) (records : List (List (List ℕ))) (rows : List Row) → rows_read_from clerks names n records ≡ Ok rows → All IsOfficeRow rows
+unfolding rows_read_from
+office_rows clerks names n [] rows h =
+    let none : [] ≡ rows = cc h in
+    rw (← none) (All-nil IsOfficeRow)
+office_rows clerks names n (fields ∷ more) rows h =
+    by (ltb most_rows n) (office_row_of clerks names fields) refl (rows_read_from clerks names (n + 1) more) (λ later. office_rows clerks names (n + 1) more later) h
+  where
+    by : (past : Bool) (r : Result Row RowCause) → office_row_of clerks names fields ≡ r → (rest : Result (List Row) (ℕ × RowCause)) → ((later : List Row) → rest ≡ Ok later → All IsOfficeRow later)
+        → (in_row n (cond past (Err TooManyRows) r) >>= (λ row. rest >>= (λ rows. Ok (row ∷ rows)))) ≡ Ok rows
+        → All IsOfficeRow rows
+    by true r spelled rest later e = cc e
+    by false (Err cause) spelled rest later e = cc e
+    by false (Ok row) spelled (Err fault) later e = cc e
+    by false (Ok row) spelled (Ok others) later e =
+        let same : row ∷ others ≡ rows = cc e in
+        rw (← same) (All-cons IsOfficeRow row others (office_rows_are_read_alike_lem clerks names fields row spelled).1 (later others refl))
+
+pub rows_are_office_work_lem : RowsAreOfficeWork
+unfolding rows_read
+rows_are_office_work_lem clerks names bytes rows h = office_rows clerks names 1 _ rows h
