@@ -86,7 +86,7 @@ def repeated(call, rows, start, results):
 
 
 def opened_base(path, wait):
-    """A connection with a database of SQLite, in which a commit is on the disk. It waits so many seconds for others."""
+    """A connection with a database of SQLite, in which a commit is on the disk. It waits that many seconds for other programs."""
     base = sqlite3.connect(path, timeout=wait, isolation_level=None)
     base.execute("PRAGMA journal_mode=WAL")
     base.execute("PRAGMA synchronous=FULL")
@@ -95,7 +95,7 @@ def opened_base(path, wait):
 
 
 def at_once(count, call, *words):
-    """The times of all rows that so many processes of this kind had answered."""
+    """How long each row took, with that many processes of this kind."""
     start, results = multiprocessing.Barrier(count), multiprocessing.Queue()
     processes = [multiprocessing.Process(target=call, args=(*words, start, results)) for _ in range(count)]
     for process in processes:
@@ -183,11 +183,11 @@ class Bench:
         return len(rows) / seconds
 
     def several(self, rows, count):
-        """The times of rows that so many processes enter into one folder."""
+        """How long each row takes that this number of processes enter into one folder."""
         return at_once(count, entering, self.docket, self.opened(), rows)
 
     def several_in_base(self, rows, count):
-        """The times of rows that so many processes put into one table of SQLite."""
+        """How long each row takes that this number of processes put into one table of SQLite."""
         self.made += 1
         path = str(self.parent / "base{}".format(self.made))
         opened_base(path, 30).close()
