@@ -4,15 +4,16 @@
     calendar_check.py DOCKET CLERK_OFFICE [SEED [COUNT]]
 
 Inputs are made at random. clerk_office answers each; from the sheets and calendars at the end of its text this script
-makes the list of what is due, a judge's week and what a page says by itself, and docket must write just that: for
+makes the list of what is due or overdue, a judge's week and what a page says by itself, and docket must write just that: for
 any days, any judge, any case, and words that say nothing of the court. Half of the inputs are entered into a folder, in which
-cases have names (lib/given_docket.py), and each is called by its name. A page is read by Python's own reader of HTML; its
-markup is looked at too (lib/pages.py). What it says of the reasons of a deadline must be the lines of `docket memo`. In half of
-the inputs rows are given to several clerks (lib/several_clerks.py), which changes nothing. A faulty input must end both
-programs alike, and so must names that no court's file may have, such as `<b>`. Words that write no day, no instant or no case
-must be refused, and words such as `friday` or `+7d` must say the days that this script finds by them. A judge, a case or the day
-of a week that isn't there must end the program with status 6 and one line on standard error, in each format. It needs Python 3.8
-or later; the status is 0 where all is alike.
+cases have names (lib/given_docket.py), and each is called by its name. Of the cases of runs/assigned, which are assigned to
+judges, it must say what was worked out by hand. A page is read by Python's own reader of HTML; its
+markup is looked at too (lib/pages.py). What it says of the reasons of a deadline must be the lines of `docket memo`, but for how
+its period is called. In half of the inputs rows are given to several clerks (lib/several_clerks.py), which changes nothing. A
+faulty input must end both programs alike, and so must names that no court's file may have, such as `<b>`. Words that write no
+day, no instant, no number of days or no case must be refused, and words such as `friday` or `+7d` must say the days that this
+script finds by them. A judge, a case or the day of a week that isn't there must end the program with status 6 and one line on
+standard error, in each format. It needs Python 3.8 or later; the status is 0 where all is alike.
 """
 import datetime
 import random
@@ -21,15 +22,19 @@ import sys
 import tempfile
 from collections import namedtuple
 
-from lib.asked_days import asked_days, missing_days
+from lib.asked_days import asked_days, counted_days, missing_days
+from lib.assigned import assigned_in, judges_in
 from lib.case_names import asked, called, made_name, read
+from lib.desk import Desk, divided
 from lib.given_docket import LAST_ROW, given_docket
 from lib.made_inputs import INPUTS, made_input
-from lib.memo_lines import closing_of, other_day, other_of, reasons_of
+from lib.memo_lines import as_on_page, closing_of, ended_in, other_day, other_of, reasons_of
 from lib.pages import faults_of, parts_of
 from lib.period_words import SET
-from lib.programs import programs_of, seed_and_count
+from lib.programs import TOP, programs_of, seed_and_count
 
+# A docket of cases that are assigned, and what is due of it.
+ASSIGNED = TOP / "runs" / "assigned"
 UNITS = {"d": ("day", "days"), "h": ("hour", "hours")}
 ACTS = {"filing": "to file", "service": "to serve"}
 # Names that no court's file may have, and that a page would have to escape.
@@ -38,15 +43,21 @@ HOSTILE = ["<b>", "&amp;", "&", '\\"', "'", "a>b", "<script>alert(1)</script>", 
 LONG = ["Calloway-Montgomery_von.Humboldt", "-_.-_.-_.-_.-_.-_.-_.-_.-_.-_.-_"]
 # The formats that take a judge and a case.
 CHOOSING = ["due", "page", "ics", "json"]
-# Words that write no day, no instant or no case, the option that is wrong, and what it says is wanted.
+# Words that say other days than these beside them, and what is said of them.
+OTHER_DAYS = [["--from", "2025-09-01"], ["--to", "2025-09-30"], ["--overdue"]]
+NOT_TOGETHER = "error: the argument '--days <N>' cannot be used with '--from <DAY>', '--to <DAY>' or '--overdue'\n\n" \
+    "For more information, try '--help'.\n"
+# Words that write no day, no instant, no number of days or no case, the option that is wrong, and what it says is wanted.
 A_DAY = "write a day as 2025-09-15, today, tomorrow, yesterday, monday to sunday, +7d or -3d"
 WEEKDAYS = ["monday", "tuesday", "wednesday", "thursday", "friday", "saturday", "sunday"]
+A_COUNT = "write a number of days, 1 or more"
 A_CASE = "write a case as its number, 1 to 4096, or as 1:25-cv-01234-ABC"
 NO_TIMES = [
     (["due", "--from", "2025-13-45"], "from <DAY>", A_DAY),
     (["page", "--to", "2025-02-29"], "to <DAY>", A_DAY),
     (["week", "--judge", "Ames", "--of", "9/2/2025"], "of <DAY>", A_DAY),
     (["json", "--from", "2025-09-15", "--to", ""], "to <DAY>", A_DAY),
+    *[(["due", "--days", count], "days <N>", A_COUNT) for count in ("0", "+7", "7d", "week", "1000000000", "")],
     (["ics", "--stamp", "2025-09-15"], "stamp <INSTANT>", "write it as 20250915T120000Z, in UTC"),
     (["due", "--case", "0"], "case <N>", A_CASE),
     (["page", "--case", "4097"], "case <N>", A_CASE),
@@ -54,10 +65,13 @@ NO_TIMES = [
     (["json", "--case", "1:25-cv"], "case <N>", A_CASE),
 ]
 
-Sheet = namedtuple("Sheet", "case filed deadlines motions")
-Item = namedtuple("Item", "day second case kind number line panel")
+# `assigned` has since when a case is assigned, and to whom; it is empty where the case isn't.
+Sheet = namedtuple("Sheet", "case filed closed deadlines motions assigned")
+# `pending` says that it is a deadline of which no act is recorded.
+Item = namedtuple("Item", "day second case kind number line panel ended pending", defaults=(False, False))
 Booking = namedtuple("Booking", "day first count case motion room")
-Docket = namedtuple("Docket", "items before calendars")
+# `before` has of each case the judges whom it is before, and `heard` those who have a hearing in it.
+Docket = namedtuple("Docket", "items before heard calendars")
 
 
 def day_of(text):
@@ -93,7 +107,7 @@ def period_words(code):
 
 
 def deadline_item(names, case, words, other):
-    """The item of a deadline's line, or none where it was met in time or has no end."""
+    """The item of a deadline's line, or none where it was met in time or has no end. One that was ended is marked."""
     number, code, end = int(words[1]), words[2], words[3]
     if end == "beyond":
         return None
@@ -105,7 +119,7 @@ def deadline_item(names, case, words, other):
     line = "  {}  case {} deadline {}: {}{}{}".format("to " + words[5] if end == "until" else "to midnight",
                                                       called(names, case), number, period_words(code),
                                                       ", filed late" if state == "late" else "", ", " + other if other else "")
-    return Item(day, second, case, 0, number, line, None)
+    return Item(day, second, case, 0, number, line, None, ended_in(words) is not None, state != "late")
 
 
 def hearing_item(names, case, number, words):
@@ -118,45 +132,53 @@ def hearing_item(names, case, number, words):
 def docket_of(names, lines, reasons):
     """What the sheets and calendars at the end of a text say, in lines that call cases by these names, and that mark the other
     readings which are among these reasons."""
-    items, before, calendars, case, motion, judge = [], {}, {}, None, None, None
+    items, assigned, heard, calendars, case, motion, judge = [], {}, {}, {}, None, None, None
     for line in lines:
         words = line.split(" ")
         if words[0] == "case":
             case = int(words[1])
+        elif words[0] == "assigned":
+            assigned[case] = set(judges_in(line))
         elif words[0] == "deadline":
             items.append(deadline_item(names, case, words, other_of(reasons[case, int(words[1])])))
         elif words[0] == "motion":
             motion = int(words[1])
         elif words[0] == "hearing":
             items.append(hearing_item(names, case, motion, words))
-            before.setdefault(case, set()).update(words[4].split("+"))
+            heard.setdefault(case, set()).update(words[4].split("+"))
         elif words[0] == "judge":
             judge = line[len("judge "):]
             calendars[judge] = []
         else:
             calendars[judge].append(Booking(day_of(words[0]), minutes(words[1]), 15 * quarters(words[2]), int(words[4]),
                                             int(words[6]), words[8]))
-    return Docket([item for item in items if item], before, calendars)
+    return Docket([item for item in items if item], {**heard, **assigned}, heard, calendars)
 
 
-def due_text(names, court, docket, first, last, judge, case):
+def due_text(names, court, docket, first, last, judge, case, overdue=False):
+    """What is due, or what is overdue alone: then the last day is past."""
+    def is_asked(item):
+        return case in (None, item.case) and (judge is None or judge in (item.panel or docket.before.get(item.case, ()))) and \
+            (item.pending or not overdue)
+
     def is_chosen(item):
-        if case is not None and item.case != case or not any(day and first <= day <= last for day in (item.day, other_day(item.line))):
-            return False
-        return judge is None or judge in (item.panel or docket.before.get(item.case, ()))
+        days = [item.day] if overdue else [item.day, other_day(item.line)]
+        return is_asked(item) and not item.ended and any(day and first <= day <= last for day in days)
+    left_out = [item for item in docket.items if item.ended and is_asked(item) and first <= item.day <= last]
     chosen = sorted(filter(is_chosen, docket.items), key=lambda i: (i.day, i.second, i.case, i.kind, i.number))
-    lines = ["Due from {} to {}{}{}".format(named(first), named(last), ", judge " + judge if judge is not None else "",
-                                            ", case " + called(names, case) if case is not None else ""),
+    lines = ["{} from {} to {}{}{}".format("Overdue" if overdue else "Due", named(first), named(last),
+                                           ", judge " + judge if judge is not None else "",
+                                           ", case " + called(names, case) if case is not None else ""),
              "Filing on paper ends at {}, when the clerk's office closes.".format(court["closes"])]
     if not chosen:
-        lines += ["", "Nothing is due."]
+        lines += ["", "Nothing is overdue." if overdue else "Nothing is due."]
     day = None
     for item in chosen:
         if item.day != day:
             lines += ["", named(item.day)]
         day = item.day
         lines.append(item.line)
-    return lines
+    return lines + (["", "Ended, and so not listed: {}.".format(len(left_out))] if left_out else [])
 
 
 def week_text(names, court, docket, judge, of):
@@ -176,12 +198,15 @@ def week_text(names, court, docket, judge, of):
         for b in booked[day]]
 
 
-def sheets_of(lines):
-    """The sheets at the end of a text: of a deadline its words, of a motion its words and those of its hearing."""
+def sheets_of(lines, since):
+    """The sheets at the end of a text: of a deadline its words, of a motion its words and those of its hearing. `since` has the days from
+    which on cases are assigned."""
     sheets = []
     for words in (line.split(" ") for line in lines):
         if words[0] == "case":
-            sheets.append(Sheet(int(words[1]), words[3], [], []))
+            sheets.append(Sheet(int(words[1]), words[3].rstrip(","), words[5:], [], [], []))
+        elif words[0] == "assigned":
+            sheets[-1].assigned.extend([since[sheets[-1].case], " ".join(words[1:])])
         elif words[0] == "deadline":
             sheets[-1].deadlines.append(words)
         elif words[0] == "motion":
@@ -199,19 +224,24 @@ def deadline_cells(words):
         end, state = "until {} {}".format(named(day_of(words[4])), words[5]), words[6:]
     else:
         end, state = "last day " + named(day_of(words[4])), words[5:]
-    done = ": {} {}, {}".format(named(day_of(state[1])), *state[2:]) if len(state) > 1 else ""
+    if state[0] == "ended":
+        return [words[1], period_words(words[2]), end, " ".join(state)]
+    done = ": {} {}, {}".format(named(day_of(state[1])), state[2], " ".join(state[3:])) if len(state) > 1 else ""
     return [words[1], period_words(words[2]), end, state[0] + done]
 
 
 def motion_cells(words, hearing):
-    need = "ex parte" if words[5] == "exparte" else "{} {}".format(words[5], UNITS["d"][words[5] != "1"])
+    """What the row of a motion says: how it was ruled on, if it was, is below the day on which it was served."""
+    days, how = words[5].rstrip(","), words[6:-1]
+    need = "ex parte" if days == "exparte" else "{} {}".format(days, UNITS["d"][days != "1"])
+    ruled = ["{} {}".format(" ".join(how), named(day_of(words[-1])))] if how else []
     lines = ["not set"]
     if hearing:
         first = minutes(hearing[2])
         lines = ["{} {}-{}".format(named(day_of(hearing[1])), clock(first), clock(first + 15 * quarters(hearing[3]))),
                  "before {}, room {}".format(hearing[4], hearing[5]), "notice served " + named(day_of(hearing[7])),
                  "opposing affidavits: none" if hearing[9] == "none" else "opposing affidavits by " + named(day_of(hearing[9]))]
-    return [[words[1]], [named(day_of(words[3]))], [need], lines]
+    return [[words[1]], [named(day_of(words[3])), *ruled], [need], lines]
 
 
 def due_rows(text):
@@ -233,6 +263,13 @@ def booking_row(names, b):
              "case {}, motion {}".format(called(names, b.case), b.motion), b.room])
 
 
+def filed_words(sheet):
+    """When a case was filed, who has it, if it was assigned, and how it was closed, if it was."""
+    assigned = ", assigned {} to {}".format(named(day_of(sheet.assigned[0])), sheet.assigned[1]) if sheet.assigned else ""
+    closed = ", closed {} {}".format(named(day_of(sheet.closed[0])), sheet.closed[1]) if sheet.closed else ""
+    return "Filed " + named(day_of(sheet.filed)) + assigned + closed
+
+
 def page_fault(names, page, text, docket, sheets, reasons, first, last, judge, case):
     """What a page says otherwise than the docket, or what is wrong with its markup, or none."""
     faults = faults_of(page)
@@ -249,7 +286,8 @@ def page_fault(names, page, text, docket, sheets, reasons, first, last, judge, c
     found = [(name, [(week, [cell.text() for cell in cells]) for week, cells in rows]) for name, rows in parts.judges]
     if found != [calendar for calendar in calendars if calendar[1]]:
         return "other hearings"
-    cases = [s for s in sheets if case in (None, s.case) and (judge is None or judge in docket.before.get(s.case, ()))]
+    judges = {s.case: {*docket.before.get(s.case, ()), *docket.heard.get(s.case, ())} for s in sheets}
+    cases = [s for s in sheets if case in (None, s.case) and (judge is None or judge in judges[s.case])]
     if list(parts.cases) != ["case-{}".format(s.case) for s in cases]:
         return "other cases"
     for s, found in zip(cases, parts.cases.values()):
@@ -257,11 +295,11 @@ def page_fault(names, page, text, docket, sheets, reasons, first, last, judge, c
         notes = [row[1].all("div")[1].raw() for _, row in found.deadlines]
         others = [row[2].lines()[1:] for _, row in found.deadlines]
         marks = [other_of(reasons[s.case, int(words[1])]) for words in s.deadlines]
-        if (found.title, found.filed) != ("Case " + called(names, s.case), "Filed " + named(day_of(s.filed))) or \
+        if (found.title, found.filed) != ("Case " + called(names, s.case), filed_words(s)) or \
                 cells != [deadline_cells(words) for words in s.deadlines] or \
                 [title for title, _ in found.reasons] != ["Reasons of deadline " + words[1] for words in s.deadlines] or \
                 [note + why for note, (_, why) in zip(notes, found.reasons)] != \
-                [reasons[s.case, int(words[1])] for words in s.deadlines] or others != [[mark] if mark else [] for mark in marks] or \
+                [as_on_page(words[2], reasons[s.case, int(words[1])]) for words in s.deadlines] or others != [[mark] if mark else [] for mark in marks] or \
                 [[cell.lines() for cell in row] for _, row in found.motions] != [motion_cells(*m) for m in s.motions]:
             return "another sheet of case {}".format(s.case)
     return None
@@ -285,12 +323,31 @@ def refuses_hostile_names(programs):
 
 
 def refuses_no_times(programs):
-    """What is wrong with words that write no day, no instant or no case: the first is named, and nothing is read."""
+    """What is wrong with words that write no day, no instant, no number of days or no case, or that don't go together: the first is
+    named, and nothing is read."""
     for words, option, wanted in NO_TIMES:
         found = programs.report(words, b"").texts()
         said = "error: invalid value '{}' for '--{}': {}\n\nFor more information, try '--help'.\n".format(words[-1], option, wanted)
         if found != (1, "", said):
             return "{}: {}".format(" ".join(words), found)
+    for words in (["due", "--days", "7", *others] for others in OTHER_DAYS):
+        found = programs.report(words, b"").texts()
+        if found != (1, "", NOT_TOGETHER):
+            return "{}: {}".format(" ".join(words), found)
+    return None
+
+
+def shows_assigned_cases(programs):
+    """What is said of cases that are assigned otherwise than it was worked out by hand, or none."""
+    court, rows = divided((ASSIGNED / "rows.txt").read_bytes())
+    with tempfile.TemporaryDirectory() as parent:
+        desk = Desk(programs, parent, court)
+        desk.enter(rows)
+        for call in (ASSIGNED / "said.txt").read_text().split("$ ")[1:]:
+            words, wanted = call.split("\n", 1)
+            found = desk.call(*words.split(" ")).texts()
+            if found != (0, wanted, ""):
+                return "{}: {}\nwanted\n{}".format(words, found, wanted)
     return None
 
 
@@ -360,17 +417,25 @@ def made_words(chance, names, court, docket, sheets, reasons):
         if said:
             return [chance.choice(["due", "page", "ics", "json"]), "--from", str(first), "--to", str(last)], is_missing(said)
     words, judge, case = [chance.choice(["due", "page"])], None, None
-    first, last, asked_for = asked_days(chance, days, *span, 0.6)
+    counted, overdue = (words == ["due"] and chance.random() < often for often in (0.2, 0.3))
+    first, last, asked_for = counted_days(chance, days) if counted else asked_days(chance, days, *span, 0.6)
     words += asked_for
+    if overdue and not counted:
+        today = chance.choice(days) + datetime.timedelta(chance.randint(0, 3))
+        words += ["--overdue", "--today", str(today)]
+        last = min(last, today - datetime.timedelta(1))
+    said = missing_days(first, last, *span)
     if judges and chance.random() < 0.4:
         judge = chance.choice(judges)
         words += ["--judge", judge]
     if chance.random() < 0.3:
         case = chance.choice([item.case for item in docket.items] + [1, 4096])
         words += ["--case", asked(chance, names, case)]
-        if case not in [sheet.case for sheet in sheets]:
+        if said is None and case not in [sheet.case for sheet in sheets]:
             return words, is_missing("case {} isn't open: no row has opened it".format(called(names, case)))
-    text = due_text(names, court, docket, first, last, judge, case)
+    if said:
+        return words, is_missing(said)
+    text = due_text(names, court, docket, first, last, judge, case, overdue and not counted)
     if words[0] == "page":
         return words, lambda found: "no page" if (found[0], found[2]) != (0, "") else \
             page_fault(names, found[1], text, docket, sheets, reasons, first, last, judge, case)
@@ -385,7 +450,7 @@ def differs(chance, given):
         return (None if alone.status == 0 or given.report(["due"]) == alone else "a fault told otherwise"), 1
     court = dict(re.findall(r'^\s*(opens|closes|from|to)\s*=\s*"([^"]*)"', given.plain.decode().split("%%")[0], re.MULTILINE))
     lines, reasons = closing_of(text), reasons_of(closing_of(given.memo(LAST_ROW).output.decode()))
-    docket, sheets = docket_of(given.names, lines, reasons), sheets_of(lines)
+    docket, sheets = docket_of(given.names, lines, reasons), sheets_of(lines, assigned_in(given.read_by_office()))
     for _ in range(5):
         words, fault_in = made_words(chance, given.names, court, docket, sheets, reasons)
         found = given.report(words).texts()
@@ -398,7 +463,7 @@ def differs(chance, given):
 def main(words):
     programs, (seed, count) = programs_of(words[:2]), seed_and_count(words[2:], 200)
     compared = 0
-    wrong = refuses_hostile_names(programs) or refuses_no_times(programs) or reads_other_days(programs)
+    wrong = refuses_hostile_names(programs) or refuses_no_times(programs) or reads_other_days(programs) or shows_assigned_cases(programs)
     if wrong:
         sys.exit(wrong)
     for number in range(count):

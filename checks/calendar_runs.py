@@ -19,7 +19,9 @@ import sys
 import tempfile
 
 from lib.given_docket import LAST_ROW, input_of
+from lib.memo_head import below_head, head_of
 from lib.memo_lines import closing_of, reasons_of
+from lib.memo_page import memo_on, page_of
 from lib.programs import CHECKS, Programs, programs_of, run as run_program
 from lib.runs_made import sum_of
 from lib.stored_calendars import calls_of, data_of, is_of_desk, runs, wanted_of
@@ -63,19 +65,30 @@ def reference_text(run, programs):
     reasons = reasons_of(closing_of(given.memo(LAST_ROW).output.decode()))
     court = dict(re.findall(r'^(opens|closes|from|to) = "([^"]*)"', given.plain.decode(), re.MULTILINE))
     docket = docket_of({}, closing_of(given.office(LAST_ROW).output.decode()), reasons)
-    judge, case = option(run.words, "--judge"), option(run.words, "--case")
-    first, last, day = (datetime.date.fromisoformat(option(run.words, name) or court[key])
-                        for name, key in (("--from", "from"), ("--to", "to"), ("--of", "from")))
+    judge, case, count = (option(run.words, name) for name in ("--judge", "--case", "--days"))
+    first, last, day, today = (datetime.date.fromisoformat(option(run.words, name) or court[key])
+                               for name, key in (("--from", "from"), ("--to", "to"), ("--of", "from"), ("--today", "from")))
+    overdue = "--overdue" in run.words
+    if count is not None:
+        first, last = today, today + datetime.timedelta(int(count) - 1)
+    if overdue:
+        last = min(last, today - datetime.timedelta(1))
     lines = week_text({}, court, docket, judge, day) if run.words[0] == "week" else \
-        due_text({}, court, docket, first, last, judge, None if case is None else int(case))
+        due_text({}, court, docket, first, last, judge, None if case is None else int(case), overdue)
     return "".join(line + "\n" for line in lines).encode()
 
 
 def memo_fault(run, text):
-    """What is wrong with the reasons of a memo, or none."""
+    """What is wrong with the reasons of a memo, or none. Its head must be that of the court and of what is asked for. A page is looked
+    at as one, and then as the memo on it."""
     from derivations_check import derivations, docket_after, whole_case, wrong_with
     from reference.civil import day_of_text
     case, today = option(run.words, "--case"), option(run.words, "--today")
+    if "--html" in run.words:
+        page, text = text.decode(), memo_on(text.decode()).encode()
+        if page != page_of(text.decode()):
+            return "another page"
+    text = below_head(text.decode(), head_of(split(data_of(run))[0], case, today)).encode()
     found = derivations(data_of(run), text) if case is None else \
         whole_case(docket_after(data_of(run)), text, int(case), None if today is None else day_of_text(today))
     return next((why for why in (wrong_with(*each) for each in found) if why), None)

@@ -16,6 +16,9 @@ import resource
 import subprocess
 import sys
 
+from lib.memo_head import head_of
+from lib.memo_page import page_of
+
 COURT = b"""\
 zone = "EST5EDT,M3.2.0/2,M11.1.0/2"
 opens = "08:30"
@@ -65,7 +68,7 @@ def reason(day, what, section):
 
 def reasons(cause):
     """Why 28 days after 2025-08-04 end on 2025-09-02, where the holiday between them is passed over for this cause."""
-    return (reason(b" " * 14, b"28 days after the event, to file", b"entered")
+    return (reason(b" " * 14, b"28 days after the event, to file (28d/after/filing/event/plain)", b"entered")
             + reason(b"Mon 2025-08-04", b"day of the event, excluded", b"6(a)(1)(A)")
             + reason(b"Mon 2025-09-01", b"day 28, every day counted", b"6(a)(1)(B)")
             + reason(b"Mon 2025-09-01", cause + b", passed over", b"6(a)(1)(C), 6(a)(6)")
@@ -75,17 +78,17 @@ def reasons(cause):
 
 # Each run: what it is, the words of the command line, standard input, and then the status, standard output and standard
 # error that are wanted. Behind the answer to a row some programs write why it is that.
-def common_runs(name, why, refused):
-    """The runs that both have, where it is called so, and gives these reasons of the row, and of one that is refused."""
+def common_runs(name, head, why, refused):
+    """The runs that both have, where it is called so, writes this head, and gives these reasons of the row, and of one that is refused."""
     line = LINE + why
     return [
-        ("a row", [], ROWS, 0, line + JUDGE, b""),
-        ("a refused row", [], ROWS.replace(b"28d", b"0d"), 0, b"1 1 refused 6 BadLength\n" + refused + JUDGE, b""),
-        ("no row behind the divider", [], COURT + b"%%\n", 0, JUDGE, b""),
-        ("no divider", [], COURT, 0, JUDGE, b""),
-        ("two rows", [], ROWS + ROW, 0, line + b"2" + line[1:] + JUDGE, b""),
-        ("a case", [], COURT + OPEN.replace(b"64", b"1"), 0, OPENED + JUDGE, b""),
-        ("as many bytes as are taken", [], ROWS + b"\n" * (MOST_BYTES - len(ROWS)), 0, line + JUDGE, b""),
+        ("a row", [], ROWS, 0, head + line + JUDGE, b""),
+        ("a refused row", [], ROWS.replace(b"28d", b"0d"), 0, head + b"1 1 refused 6 BadLength\n" + refused + JUDGE, b""),
+        ("no row behind the divider", [], COURT + b"%%\n", 0, head + JUDGE, b""),
+        ("no divider", [], COURT, 0, head + JUDGE, b""),
+        ("two rows", [], ROWS + ROW, 0, head + line + b"2" + line[1:] + JUDGE, b""),
+        ("a case", [], COURT + OPEN.replace(b"64", b"1"), 0, head + OPENED + JUDGE, b""),
+        ("as many bytes as are taken", [], ROWS + b"\n" * (MOST_BYTES - len(ROWS)), 0, head + line + JUDGE, b""),
         ("a request for help", ["--help"], b"", 0, Has(b"Usage: " + name), b""),
         ("a request for help before a mistake", ["-h", "x"], ROWS, 0, Has(b"Usage: " + name), b""),
         ("another option", ["--rooms", "2"], ROWS, 1, b"", usage(b"unexpected argument '--rooms' found\n")),
@@ -162,21 +165,53 @@ NAMES = [
 BAD_LENGTH = reason(b" " * 14, b"a period is 1 to 3650 days, or 1 to 8760 hours", b"ours")
 OPEN_CASE = COURT + OPEN.replace(b"64", b"1")
 CASE = b"case 1 filed 2025-03-03\n"
+# The head of a memo, and of one of a case, from a day or from none
+HEAD = head_of(COURT).encode()
+OF_CASE, FROM_DAY = head_of(COURT, "1").encode(), head_of(COURT, "1", "2025-03-03").encode()
+
+# The line of a court's file that names the court, and the name that it says
+COURTS = [
+    ("a court that is named", b"# The court's file of the District Court of Guam, 2016 to 2045.\n", b"District Court of Guam"),
+    ("a court that is named later", b"# Our file\n# The court's file of the Court\n", b"Court"),
+    ("a court that is named twice", b"# The court's file of the One.\n# The court's file of the Other.\n", b"One"),
+    ("a court that is named before CR LF", b"# The court's file of the Court\r\n", b"Court"),
+    ("a court whose name isn't ASCII", "# The court's file of the Tribunal de São Tomé.\n".encode(), "Tribunal de São Tomé".encode()),
+]
+# The holidays of the federal list that the names below are of: Independence Day is kept on 2021-07-05, a Monday
+OBSERVED = COURT.replace(b'"2025-07-04"', b'"2021-07-05"') + b"[holiday_names]\n2021-07-05 = "
+OBSERVED_ROW = b"%%\n1,compute,7d/after/filing/event/plain,2021-06-28,,,\n"
+
+
+def observed(name):
+    """Why 7 days after 2021-06-28 end on 2021-07-06, where the holiday between them is called so."""
+    return (b"1 1 last 2021-07-06\n"
+            + reason(b" " * 14, b"7 days after the event, to file (7d/after/filing/event/plain)", b"entered")
+            + reason(b"Mon 2021-06-28", b"day of the event, excluded", b"6(a)(1)(A)")
+            + reason(b"Mon 2021-07-05", b"day 7, every day counted", b"6(a)(1)(B)")
+            + reason(b"Mon 2021-07-05", name + b", passed over", b"6(a)(1)(C), 6(a)(6)")
+            + reason(b"Tue 2021-07-06", b"the time runs to this day", b"6(a)(1)(C)")
+            + reason(b"Tue 2021-07-06", b"last day, to 17:00, e-filing to midnight", b"6(a)(4)"))
+
+
 TOLD = b"docket: "
 TRY_HELP = b"\n\nFor more information, try '--help'.\n"
 NO_DAY = b"error: invalid value 'X' for '--today <DAY>': write a day as 2025-09-15" + TRY_HELP
 NO_CASE = b"error: '--today <DAY>' counts for one case: name it by '--case <N>'" + TRY_HELP
 
-MEMO_RUNS = [(name, [], named(entries), 0, LINE + reasons(cause) + JUDGE, b"") for name, entries, cause in NAMES] + [
-    ("names that are no table", [], b"holiday_names = 3\n" + ROWS, 0, LINE + reasons(b"Labor Day") + JUDGE, b""),
+MEMO_RUNS = [(name, [], named(entries), 0, HEAD + LINE + reasons(cause) + JUDGE, b"") for name, entries, cause in NAMES] + [
+    (name, [], line + COURT, 0, b"Court    " + court + b"\n" + HEAD + JUDGE, b"") for name, line, court in COURTS] + [
+    ("a name of a holiday that is observed", [], OBSERVED + b'"Independence Day"\n' + OBSERVED_ROW, 0,
+     HEAD + observed(b"Independence Day, observed") + JUDGE, b""),
+    ("another name of such a day", [], OBSERVED + b'"Day of mourning"\n' + OBSERVED_ROW, 0, HEAD + observed(b"Day of mourning") + JUDGE, b""),
+    ("names that are no table", [], b"holiday_names = 3\n" + ROWS, 0, HEAD + LINE + reasons(b"Labor Day") + JUDGE, b""),
     ("a day that is named twice", [], named(LABOR + LABOR), 2, b"", b"court fault 1 NotToml\n"),
     ("an option of the office", ["--clerks", "1"], ROWS, 1, b"", usage(b"unexpected argument '--clerks' found\n")),
     ("help with its option", ["--help"], b"", 0, Has(b"--today <DAY>"), b""),
-    ("a case", ["--case", "1"], OPEN_CASE, 0, CASE, b""),
-    ("a case and a day", ["--today=2025-03-03", "--case=1"], OPEN_CASE, 0, CASE, b""),
+    ("a case", ["--case", "1"], OPEN_CASE, 0, OF_CASE + CASE, b""),
+    ("a case and a day", ["--today=2025-03-03", "--case=1"], OPEN_CASE, 0, FROM_DAY + CASE, b""),
     ("rows of three clerks", [], COURT + b"%%\n64" + ROW[1:] + b"2" + ROW[1:] + ROW, 0,
-     b"".join(clerk + LINE[3:] + reasons(b"Labor Day") for clerk in (b"1 64", b"2 2", b"3 1")) + JUDGE, b""),
-    ("a case that another clerk opened", ["--case", "1"], COURT + OPEN, 0, CASE, b""),
+     HEAD + b"".join(clerk + LINE[3:] + reasons(b"Labor Day") for clerk in (b"1 64", b"2 2", b"3 1")) + JUDGE, b""),
+    ("a case that another clerk opened", ["--case", "1"], COURT + OPEN, 0, OF_CASE + CASE, b""),
     ("a case that isn't open", ["--case", "2"], OPEN_CASE, 6, b"", TOLD + b"case 2 isn't open: no row has opened it\n"),
     ("a day that is none", ["--case", "1", "--today", "2025-02-29"], OPEN_CASE, 1, b"", NO_DAY.replace(b"X", b"2025-02-29")),
     ("an empty day", ["--case", "1", "--today="], OPEN_CASE, 1, b"", NO_DAY.replace(b"X", b"")),
@@ -194,12 +229,19 @@ MEMO_RUNS = [(name, [], named(entries), 0, LINE + reasons(cause) + JUDGE, b"") f
     ("a name that isn't whole", ["--case", "1:25-cv"], OPEN_CASE, 1, b"", usage(b"invalid value '1:25-cv' for '--case <N>'")),
     ("a case twice", ["--case=1", "--case=1"], OPEN_CASE, 1, b"", Has(b"cannot be used multiple times")),
     ("a day without its text", ["--case=1", "--today"], OPEN_CASE, 1, b"", usage(b"a value is required for '--today <DAY>'")),
+    ("a page", ["--html"], named(b'2025-09-01 = "<b>Labor</b> & \'Day\'"\n'), 0,
+     page_of((HEAD + LINE + reasons(b"<b>Labor</b> & 'Day'") + JUDGE).decode()).encode(), b""),
+    ("a page of a case and a day", ["--html", "--today=2025-03-03", "--case=1"], OPEN_CASE, 0, page_of((FROM_DAY + CASE).decode()).encode(), b""),
+    ("a page of a case that isn't open", ["--html", "--case", "2"], OPEN_CASE, 6, b"", TOLD + b"case 2 isn't open: no row has opened it\n"),
+    ("a page twice", ["--html", "--html"], ROWS, 1, b"", Has(b"cannot be used multiple times")),
 ]
 
-# Of each program the words with which it is called, and its runs.
+# Of each program the words with which it is called, its runs, and how it ends where there is no room for what it writes of no row and
+# no judge.
+FULL = (4, None, b"write fault\n")
 PROGRAMS = {
-    "clerk_office": ([], common_runs(b"clerk_office", b"", b"") + OFFICE_RUNS),
-    "docket": (["memo", "--input", "-"], common_runs(b"docket memo", reasons(b"Labor Day"), BAD_LENGTH) + MEMO_RUNS),
+    "clerk_office": ([], common_runs(b"clerk_office", b"", b"", b"") + OFFICE_RUNS, (0, None, b"")),
+    "docket": (["memo", "--input", "-"], common_runs(b"docket memo", HEAD, reasons(b"Labor Day"), BAD_LENGTH) + MEMO_RUNS, FULL),
 }
 
 
@@ -219,7 +261,7 @@ def ended(command, text, **more):
 
 def runs(program):
     """Each run by its name, how it ended, and how it had to."""
-    front, all_runs = PROGRAMS[os.path.basename(program)]
+    front, all_runs, of_nothing = PROGRAMS[os.path.basename(program)]
     program = [program] + front
     for name, words, text, status, output, error in all_runs:
         yield name, ended(program + words, text), (status, output, error)
@@ -227,9 +269,9 @@ def runs(program):
     yield "a folder for input", ended(program, None, stdin=folder), (4, b"", b"read fault\n")
     os.close(folder)
     with open("/dev/full", "wb") as full:
-        yield "a full disk", ended(program, ROWS, stdout=full), (4, None, b"write fault\n")
-        yield "a full disk and no judge", ended(program, COURT.replace(b'"Ames"', b""), stdout=full), (0, None, b"")
-        yield "a full disk and a request for help", ended(program + ["--help"], b"", stdout=full), (4, None, b"write fault\n")
+        yield "a full disk", ended(program, ROWS, stdout=full), FULL
+        yield "a full disk and no judge", ended(program, COURT.replace(b'"Ames"', b""), stdout=full), of_nothing
+        yield "a full disk and a request for help", ended(program + ["--help"], b"", stdout=full), FULL
         yield "no room for a fault", ended(program, b"", stderr=full), (2, b"", None)
     little = ended(program, ROWS + b"\n" * (MOST_BYTES - len(ROWS)), preexec_fn=with_little_memory)
     yield "little memory", little, (5, b"", b"out of memory\n")

@@ -4,7 +4,8 @@
     court_update_check.py DOCKET
 
 A file is written with hours, judges and rooms that are given: as TOML it must be the one without them but for these. Files of names that
-a court's file can't take must be refused at their line, and so must hours that don't follow each other.
+a court's file can't take must be refused at their line, and so must hours that don't follow each other. Each report of a folder must say to
+when electronic filing runs.
 
 Then the file of each of some courts is changed as a court changes it by hand, a folder is made with it, and `court update` adds years. The
 folder's file must be the old one with lines put in and another last day, and no other byte changed; as TOML its lists must be the old ones
@@ -72,8 +73,28 @@ def own_file(place):
     assert "The hours are an example, and the names of judges are invented" in rooms
     opens = place.written("hawaii", "--opens", "07:45").output.decode()
     assert tomllib.loads(opens)["opens"] == "07:45" and "The hours are an example, and" in opens
+    until = place.written("hawaii", "--efiling-until", "18:00").output.decode()
+    assert tomllib.loads(until) == {**tomllib.loads(plain), "efiling_until": "18:00"} and "Rule 6(a)(4)(A)" in until, until
     no_names = place.written("hawaii", "--judges", place.put("none.txt", "\n \n")).output.decode()
     assert tomllib.loads(no_names)["judges"] == []
+
+
+def shown_end(place):
+    """To when electronic filing runs is what each report of a folder says, and midnight where the court's file has no such time."""
+    rows = b"1,open,7,2025-08-04\n1,start,7,59e,2025-08-04,,,\n1,file,7,1,2025-09-02,18:01,electronic\n"
+    for words, told, at_midnight in (
+            ((), {"due": "  to midnight  case 7 deadline 1: 59e", "page": ">to midnight<", "json": '"judges"', "ics": "The time ends with this day\\, at midnight\\; for",
+                  "memo": "last day, to 17:00, e-filing to midnight ", "sheet": "timely 2025-09-02 18:01 electronic"}, True),
+            (("--efiling-until", "18:00"), {"due": "  to 18:00  case 7 deadline 1: 59e, filed late", "page": ">to 18:00<", "json": '"efiling_until":"18:00"}',
+                                            "ics": "The time ends on this day\\, at 18:00\\; for", "memo": "late, 1 min after e-filing ended at 18:00 ",
+                                            "sheet": "late 2025-09-02 18:01 electronic"}, False)):
+        folder = place.made(place.written("hawaii", *words).output.decode(), rows)
+        # what was met in time isn't due: there the act comes from a folder without it
+        pending = place.made(place.written("hawaii", *words).output.decode(), b"".join(rows.splitlines(True)[:2])) if at_midnight else folder
+        for report, said in told.items():
+            ended = place.call(report, pending if report in ("due", "page") else folder, *(["7"] if report == "sheet" else []))
+            assert ended.status == 0 and said in ended.output.decode().replace("\r\n ", ""), (words, report, ended)
+            assert report != "json" or ("efiling_until" in ended.output.decode()) != at_midnight, ended
 
 
 def refused_names(place):
@@ -85,7 +106,8 @@ def refused_names(place):
         assert ended.status == COURT and not ended.output, (data, ended)
         errors = ended.errors.decode()
         assert errors.startswith("names.txt:{}: {}".format(line, "'{}': ".format(said) if said else "")), errors
-    for words in (("--opens", "8:30"), ("--closes", "24:00"), ("--opens", "17:00"), ("--closes", "08:30"), ("--opens", "12:00", "--closes", "11:59")):
+    for words in (("--opens", "8:30"), ("--closes", "24:00"), ("--opens", "17:00"), ("--closes", "08:30"), ("--opens", "12:00", "--closes", "11:59"),
+                  ("--efiling-until", "24:00"), ("--efiling-until", "6pm")):
         ended = place.written("hawaii", *words)
         assert ended.status == WORDS and ended.errors.startswith(b"error: ") and not ended.output, (words, ended)
     assert place.written("hawaii", "--judges", "nowhere.txt").status == STREAM
@@ -95,6 +117,7 @@ def changed(text):
     """The ways in which a court changes its file by hand: a name, and the text."""
     yield "as it is written", text
     yield "names and hours", text.replace('"Ames", "Brandt", "Calloway"', '"Kahale"').replace("17:00", "16:30")
+    yield "a time to which e-filing runs", text.replace('closes = "17:00"\n', 'closes = "17:00"\nefiling_until = "18:00"\n')
     yield "a comment after all", text + "# the end"
     yield "no end of the last line", text.rstrip("\n")
     yield "line ends of Windows", text.replace("\n", "\r\n")
@@ -186,6 +209,7 @@ def main(words):
     with tempfile.TemporaryDirectory() as path:
         place = Folder(programs_of(words), path)
         own_file(place)
+        shown_end(place)
         refused_names(place)
         for court in COURTS:
             for name, text in changed(place.written(court).output.decode()):

@@ -4,15 +4,16 @@
     derivations_check.py DOCKET [SEED [COUNT]]
 
 Rows are made at random from SEED (by default 1) until COUNT deadlines (by default 10000) were shown: ends that are
-computed, and deadlines that are started, set by orders and extended, with acts and hearings, and with holidays and outages that
-are entered meanwhile. Every deadline that an answer or a sheet shows must have its period in words, then reasons that lead to
+computed, and deadlines that are started, set and reset by orders, extended, ended and resumed, with acts and hearings, and with holidays and
+outages that are entered meanwhile. Every deadline that an answer or a sheet shows must have its period in words, then reasons that lead to
 what is shown, by the steps of lib/derivation_steps.py alone, which computes no deadline, and then the other readings that
 give another end, which the second program in plain Python computes (lib/other_readings.py). The lines of an act, of a
-refusal and of what a reader is warned of must be those of lib/note_lines.py. So must those of the examples and of the stored
-run. Of each input the sheets of some cases are asked for too, from days at random: they must have the lines of the sheet that
-the second program writes, each with the rows that made it what it is, its reasons, its act, how far its end lies from that
-day, and what a reader is warned of. Then lines of every shape are spoiled in every way below and must be refused. The status
-is 0 where all of this is so. It needs Python 3.8 or later.
+refusal and of what a reader is warned of must be those of lib/note_lines.py, the head that of lib/memo_head.py, and the page
+with these lines that of lib/memo_page.py. So must those of the examples and of the stored run. Of each input the sheets of some
+cases are asked for too, from days at random: they must have the lines of the sheet that the second program writes, each with
+the rows that made it what it is, its reasons, its act, how far its end lies from that day, and what a reader is warned of. Then
+lines of every shape are spoiled in every way below and must be refused. The status is 0 where all of this is so. It needs Python
+3.8 or later.
 """
 import random
 import re
@@ -20,17 +21,19 @@ import sys
 from collections import Counter
 
 from lib import note_lines, other_readings
-from lib.desk import report_of, set_rows
+from lib.desk import desk_rows, report_of
 from lib.derivation_steps import AFTER, COLUMN, WEEKDAYS, Calendar, Deadline, Line, Wrong, checked, expect, line_of
 from lib.made_inputs import CODES, HOLIDAYS, ZONES, listed, quoted
-from lib.period_words import COUNTING, SET, SUMMONS, heading
+from lib.memo_head import below_head, head_of, without_made
+from lib.memo_page import memo_on, page_of
+from lib.period_words import COUNTING, SET, SUMMONS, called
 from lib.programs import TOP, programs_of, seed_and_count
 from reference import periods
 from reference.civil import day_of_text, day_text, minute_of_text, minute_text, weekday
 from reference.court_file import court_of, split, table_of
-from reference.docket import STEPS, case_of, deadlines_of, hearing_of, motions_of, opening, step, view
-from reference.rows_in import grant as grant_of, rows_of
-from reference.text_out import sheet_lines, shown_text
+from reference.docket import STEPS, assignment_of, case_of, deadlines_of, ending_of, hearing_of, motions_of, opening, step, view
+from reference.rows_in import grant as grant_of, reset_to, rows_of
+from reference.text_out import assigned_text, sheet_lines, shown_text
 
 # Of the periods of the Rules the number of days, the act, whether they run from service under Rule 5(b)(2), and the day
 # from which they are so.
@@ -50,7 +53,7 @@ def deadline_of(period, date, time, second, kind):
         days, act, served, right_from = RULES[period]
         length, direction = ("d", days), AFTER
     elif period in SET:
-        length, direction, act, served, right_from = ("set", 0), AFTER, period.split("/")[1], False, None
+        length, direction, act, served, right_from = ("at" if time else "set", 0), AFTER, period.split("/")[1], False, None
     else:
         entered, direction, act, start, _ = period.split("/")
         length, served, right_from = (entered[-1], int(entered[:-1])), start == "served", None
@@ -112,17 +115,18 @@ def derivations(data, output):
             fields, text, work = rows[number][1:], answer[2], works[number]
             number += 1
             docket, made = step(court, docket, work) if work[0] in STEPS else (docket, view(court, docket, work))
-            shown = re.fullmatch(r"(?:deadline (\d+) |extended )?((?:last|until|beyond).*)", text)
-            if shown and fields[0] in ("compute", "start", "set", "extend"):
+            shown = re.fullmatch(r"(?:deadline (\d+) |extended |reset |resumed )?((?:last|until|beyond).*)", text)
+            if shown and fields[0] in ("compute", "start", "set", "extend", "reset", "resume"):
                 if fields[0] == "compute":
                     deadline = deadline_of(*fields[1:])
                 elif fields[0] == "set":
-                    deadline = started[fields[1], shown[1]] = deadline_of("set/" + fields[4], fields[2], "", "", "")
+                    deadline = started[fields[1], shown[1]] = deadline_of("set/" + fields[4], fields[2], fields[3], "", "")
                 elif fields[0] == "start":
                     deadline = started[fields[1], shown[1]] = deadline_of(*fields[2:])
                 else:
                     deadline = started[fields[1], fields[2]]
-                    deadline.grants.append(fields[3])
+                    if fields[0] in ("extend", "reset"):
+                        deadline.grants.append(fields[3] if fields[0] == "extend" else order_text(*fields[3:5]))
                 more = note_lines.notes(court, docket, work, made)
                 yield copy(), deadline._replace(grants=list(deadline.grants)), told(), shown[2], more, []
                 continue
@@ -151,14 +155,33 @@ def docket_after(data):
     return file, court, docket, sources
 
 
+def order_text(date, time):
+    return " ".join(["order", date] + [time] * bool(time))
+
+
 def grant_text(grant):
-    return day_text(grant.value) if grant.unit == "until" else "+{}{}".format(grant.value, grant.unit)
+    if grant.unit == "until":
+        return day_text(grant.value)
+    if grant.unit == "reset":
+        return order_text(day_text(grant.value), "")
+    if grant.unit == "reset at":
+        return order_text(day_text(grant.value.day), minute_text(grant.value.minute))
+    return "+{}{}".format(grant.value, grant.unit)
+
+
+def granted(text):
+    """The extension as the second program has it, or what an order sets."""
+    words = text.split(" ")
+    if words[0] != "order":
+        return grant_of(text, None)
+    return reset_to(day_of_text(words[1]), [minute_of_text(time) for time in words[2:]])
 
 
 def of_row(row):
     """The deadline of a docketed row."""
     second = "" if row.second is None else day_text(row.second)
-    deadline = deadline_of(row.period.text, day_text(row.event.day), minute_text(row.event.minute), second, row.kind)
+    time = "" if row.period.unit == "set" else minute_text(row.event.minute)
+    deadline = deadline_of(row.period.text, day_text(row.event.day), time, second, row.kind)
     return deadline._replace(grants=[grant_text(grant) for grant in row.grants])
 
 
@@ -180,11 +203,13 @@ def whole_case(ended, output, case, today):
             blocks[-1].append(line)
     expect(blocks[0] == [] and [block[0] for block in blocks[1:]] == sheet_lines(court, docket, case),
            "the sheet has other lines")
-    blocks = iter(blocks[2:])
+    # the line of who has the case comes after that of the case
+    blocks = iter(blocks[2 if assignment_of(docket, case) is None else 3:])
     for deadline in deadlines_of(docket, case):
         row, block = deadline.row, next(blocks)
         first = sources[case, deadline.number]
-        more = note_lines.act(court, docket, row) + note_lines.ahead(court, docket, row, today)
+        is_due = ending_of(docket, case, deadline.number) is None
+        more = note_lines.act(court, docket, row) + note_lines.ahead(court, docket, row, today if is_due else None)
         more += note_lines.of_deadline(court, docket, row, filed, today)
         shown = shown_text(court, periods.shown(days, court.clock, row))
         yield calendar, of_row(row), block[1:], shown, more, first
@@ -198,19 +223,19 @@ def whole_case(ended, output, case, today):
 
 def asked(deadline):
     """The deadline as the second program has it."""
-    grants = [grant_of(grant, None) for grant in deadline.grants]
+    grants = [granted(grant) for grant in deadline.grants]
     event = periods.Event(deadline.event, deadline.minute)
-    period = periods.set_to(deadline.act) if deadline.text in SET else periods.period_of_text(deadline.text)
+    period = periods.set_to(deadline.act, deadline.length[0] == "at") if deadline.text in SET else periods.period_of_text(deadline.text)
     return periods.Deadline(period, event, deadline.second, deadline.kind, grants, None)
 
 
 def follow(calendar, deadline, texts, shown, more, first):
-    """That the lines are the first ones, the deadline's period in words, its reasons, the other readings, and the others."""
+    """That the lines are the first ones, the deadline's period by its Rule, its reasons, the other readings, and the others."""
     lines = [line_of(text) for text in texts]
     expect(lines[:len(first)] == [Line(*line) for line in first], "other rows made the deadline")
     lines = lines[len(first):]
     event = deadline.event if deadline.second is None else max(deadline.event, deadline.second)
-    wanted = [Line(*line) for line in heading(deadline.text, event)]
+    wanted = [Line(*line) for line in called(deadline.text, event)]
     expect(lines[:len(wanted)] == wanted, "the period is another")
     left = checked(calendar, deadline, lines[len(wanted):], shown)
     readings = [Line(*line) for line in other_readings.lines(calendar, asked(deadline))]
@@ -383,9 +408,9 @@ def an_input(chance):
     rows += ["1,inaccessible,{},09:00,12:00".format(row.split(",")[6]) for row in rows
              if row.startswith("1,book,") and chance.random() < 0.2]
     lines = [row.encode() + b"\n" for row in rows]
-    # Deadlines that orders set, in some: such rows are entered into a folder
+    # Deadlines and other ends that orders set, and some that are ended and resumed, now and then: such rows are entered into a folder
     if chance.random() < 0.3:
-        lines = set_rows(chance, lines, [1], faulty=False)
+        lines = desk_rows(chance, lines, [1], faulty=False)
     return "\n".join(court).encode() + b"\n%%\n" + b"".join(lines)
 
 
@@ -432,6 +457,10 @@ def older_line(text):
     return text[:18] + "the rule as it reads from {} is applied".format(COUNTING).ljust(COLUMN) + "  ours"
 
 
+# What a row did to a deadline, and what it may be said to have done in its place, in as many letters where there is such a word.
+OTHER_DEEDS = {"started": "resumed", "extended": "started", "reset": "started", "filed": "ended", "ended": "filed", "resumed": "started"}
+
+
 def line_spoiled(text):
     yield "a day too late", other_day(text, 1)
     yield "a day too early", other_day(text, -1)
@@ -455,7 +484,7 @@ def line_spoiled(text):
         number = str(int(found[1]) + 1).zfill(len(found[1]))
         yield "another number", swapped(text, found[0], found[0][:len(found[0]) - len(found[1])] + number)
     yield "passed for in", re.sub(r"^(.{18})in (\d+ days?)      ", r"\1passed \2 ago ", text)
-    yield "another row's deed", re.sub(r"^(.{18})(started|extended|filed) by", lambda found: found[1] + {"started": "extended", "extended": "filed", "filed": "started"}[found[2]] + " by", text)
+    yield "another row's deed", re.sub(r"^(.{18})(started|extended|reset|filed|ended|resumed) by", lambda found: found[1] + OTHER_DEEDS[found[2]] + " by", text)
     yield "a year after for before", re.sub(r"(a year or more) before (\S+) ", r"\1 after \2  ", text)
     yield "as of another day", re.sub(r"as of 2(\d{3})-(\d\d)-(\d\d)$", r"as of 2\1-\2-01" if not text.endswith("-01") else r"as of 2\1-\2-02", text)
     yield "late for undecided", swapped(text, "undecided: the end is beyond", "late, beyond")
@@ -492,6 +521,7 @@ def line_spoiled(text):
     yield "a holiday of the state taken", swapped(text, "legal holiday of the state, passed over", "the time runs to this day")
     yield "hours not continued", swapped(text, "the hours end, and are continued", "the hours end on this day")
     yield "an extension left out", swapped(text, "extended by", "not extended by")
+    yield "an order left out", swapped(text, "reset to", "not reset to")
     yield "a column moved", text[:18 + COLUMN] + " " + text[18 + COLUMN:]
 
 
@@ -500,14 +530,26 @@ def shape(texts):
     return tuple(re.sub(r"\d+", "", text[18:]) for text in texts)
 
 
-def memo_of(programs, data, *words):
-    """What the memo says, or the status and the line where what is asked for isn't there."""
+def judge_of(ended, case):
+    """Who has the case after all rows, and to whom it is referred. None where it isn't assigned."""
+    _, court, docket, _ = ended
+    return assigned_text(court, docket, case).partition(" ")[2] or None
+
+
+def memo_of(programs, data, *words, judge=None):
+    """What the memo says below its head, which must be that of the court, of these words and of this judge, or the status and the line
+    where what is asked for isn't there. Its page must have the same lines."""
     ended = report_of(programs, ["memo", *words], data)
     if ended.status == 6 and not ended.output:
         return b"status 6\n" + ended.errors
     if ended.status:
         sys.exit("status {}: {}".format(ended.status, ended.errors.decode()))
-    return ended.output
+    given, text = dict(zip(words[::2], words[1::2])), ended.output.decode()
+    page = report_of(programs, ["memo", *words, "--html"], data).output.decode()
+    if page != page_of(text) or memo_on(page) != text:
+        sys.exit("another page: {}".format(words))
+    text = text if "--today" in given else without_made(text)
+    return below_head(text, head_of(split(data)[0], given.get("--case"), given.get("--today"), judge=judge)).encode()
 
 
 def all_derivations(programs, data, chance):
@@ -516,10 +558,10 @@ def all_derivations(programs, data, chance):
     ended = docket_after(data)
     opened = [case.number for case in ended[2].cases]
     for case in opened + [max(opened, default=0) % 4096 + 1]:
-        yield from whole_case(ended, memo_of(programs, data, "--case", str(case)), case, None)
+        yield from whole_case(ended, memo_of(programs, data, "--case", str(case), judge=judge_of(ended, case)), case, None)
     for case in opened:
         for day in [a_date(chance)] + ends_near(ended, case, chance):
-            output = memo_of(programs, data, "--case", str(case), "--today", day)
+            output = memo_of(programs, data, "--case", str(case), "--today", day, judge=judge_of(ended, case))
             yield from whole_case(ended, output, case, day_of_text(day))
 
 

@@ -32,7 +32,7 @@ DIFFERS = 7
 # The status with which a call ends whose input can't be read, and how many bytes are kept together at most.
 UNREAD, LONGEST_INPUT = 4, 16_777_216
 # What is expected where a row's command isn't known.
-COMMANDS = b"open, start, file, extend, motion, book, move, cancel, holiday, inaccessible, compute, sheet, calendar or set\n"
+COMMANDS = b"open, start, file, extend, motion, book, move, cancel, holiday, inaccessible, compute, sheet, calendar, set, reset, end, resume, close, reopen, rule, assign, title or label\n"
 # Another judge, and a holiday on the last day of a period that was asked for.
 OTHER_COURT = SHORT_COURT.replace(b'"Brandt"]', b'"Brandt", "Cole"]').replace(b'"2025-03-28"', b'"2025-03-28", "2025-09-02"')
 
@@ -42,7 +42,7 @@ def check_examples(programs, draw):
     for name in EXAMPLES:
         court, rows = divided((TOP / "examples" / (name + ".txt")).read_bytes())
         with tempfile.TemporaryDirectory() as parent:
-            assert check_rows(Desk(programs, parent, court), rows, draw) == (False, False)
+            assert check_rows(Desk(programs, parent, court), rows, court, draw) == (False, False)
     return "{} examples, answered as by clerk_office".format(len(EXAMPLES))
 
 

@@ -7,8 +7,11 @@ COUNT inputs (5,000 without it) are made from SEED, as office_compare.py makes t
 must be refused by both. The rows are entered in one session or two. A row that can't be read is answered with its fault,
 and the others must be answered as clerk_office answers them alone: the answers must be those in the journal, the rows in
 it with the court's file an input for which clerk_office begins with the same answers, and what `rows` writes that input.
-In some inputs orders set deadlines for days, by rows that the desk alone takes: there the answers must be those of the second
-program in Python, and clerk_office must refuse the rows for the first of these, whose command word it doesn't know.
+In some inputs orders set deadlines, or other ends for them, deadlines are ended and resumed, motions are ruled on, cases closed and
+assigned, and cases, deadlines and motions called something, by rows that the desk alone takes: there the answers must be those of the
+second program in Python, and clerk_office must refuse the rows for the first of these, whose command word it doesn't know. In some the
+court's file says to when electronic filing runs, by a key that the desk alone reads: there too the answers are compared with Python's,
+clerk_office must answer as without the key, and the desk must refuse a value that is no time.
 The desk takes rows of 64 clerks, and clerk_office by itself those of clerk 1: it is given all of them as that clerk's. It
 needs Python 3.8 or later.
 """
@@ -18,7 +21,7 @@ import sys
 import tempfile
 from collections import Counter
 
-from lib.desk import Desk, FAULT_LINE, ROW_OF_DESK, divided, set_rows
+from lib.desk import Desk, FAULT_LINE, ROW_OF_DESK, called_rows, desk_rows, divided
 from lib.journal import rows_of
 from lib.made_inputs import INPUTS, made_input
 from lib.programs import programs_of, run, seed_and_count
@@ -30,7 +33,11 @@ from reference.rows_in import rows_of as works_of
 OTHER_CLERK = rb"(?:[2-9]|[1-5][0-9]|6[0-4])"
 ROW_OF_ANOTHER, ANSWER_TO_ANOTHER = re.compile(b'^("?)' + OTHER_CLERK + b'("?,)'), re.compile(b"^([0-9]+ )" + OTHER_CLERK + b" ")
 SAME, FAULTS, REFUSED_COURT = "answered the same", "with rows that can't be read", "with a court's file that both refuse"
-OF_DESK = "with rows that the desk alone takes"
+OF_DESK, KEYED = "with rows that the desk alone takes", "with a time to which electronic filing runs"
+# Values of the key that the desk alone reads, and values that it refuses, with the fault.
+UNTIL = [b"00:00", b"10:00", b"12:00", b"14:49", b"14:50", b"16:00", b"17:00", b"18:00", b"23:58", b"23:59"]
+BAD_UNTIL = [(b'"24:00"', b"6 BadHours"), (b'"6 p.m."', b"6 BadHours"), (b'""', b"6 BadHours"), (b'"18:00:00"', b"6 BadHours"),
+             (b"18", b"3 WrongKind efiling_until"), (b'["18:00"]', b"3 WrongKind efiling_until")]
 
 
 def is_fault(line):
@@ -64,14 +71,40 @@ def is_refused(programs, parent, court):
 def answered_by_python(data):
     """What the second program answers to rows of the desk, of which none has a fault."""
     of_court, of_rows = split(data)
-    court = court_of(of_court)
+    court = court_of(of_court, True)
     answers, _ = answered(court, works_of(of_rows, 1, court, True), None, None)
     return "".join(line + "\n" for answer in answers for line in answer).encode()
 
 
-def check_together(desk, kept):
+def with_key(value, court):
+    """A court's file with that value of the key that the desk alone reads."""
+    return b"efiling_until = " + value + b"\n" + court
+
+
+def check_key(programs, parent, court, draw):
+    """That the desk refuses a bad value of the key, which clerk_office doesn't read."""
+    value, fault = draw.choice(BAD_UNTIL)
+    file = parent + "/bad_key.toml"
+    with open(file, "wb") as it:
+        it.write(with_key(value, court))
+    desk = run([programs.docket, "init", parent + "/bad_key", "--court", file])
+    assert (desk.status, desk.output, desk.errors) == (2, b"", b"court fault " + fault + b"\n"), desk
+    assert programs.office(with_key(value, court) + b"%%\n") == programs.office(court + b"%%\n")
+
+
+def check_keyed(desk, rows, kept, court):
+    """That kept rows are answered as the second program answers them with the key, and that clerk_office answers as without it."""
+    assert answered_by_python(desk.input_of(rows)) == to_first_clerk(kept), kept
+    plain = court + (b"" if court.endswith(b"\n") else b"\n") + b"%%\n" + b"".join(rows)
+    assert desk.programs.office(desk.input_of(rows)) == desk.programs.office(plain)
+
+
+def check_together(desk, kept, court):
     """That kept rows are answered alike where all are read at once; whether the desk alone takes one of them."""
     rows = [of_first_clerk(row) for row, _ in kept]
+    if desk.court != court:
+        check_keyed(desk, rows, kept, court)
+        return False
     together = desk.programs.office(desk.input_of(rows))
     of_desk = [number for number, row in enumerate(rows, 1) if ROW_OF_DESK.match(row)]
     if not of_desk:
@@ -83,15 +116,16 @@ def check_together(desk, kept):
     return True
 
 
-def check_rows(desk, rows, draw):
-    """Enters rows in one session or two; whether one of them couldn't be read, and whether the desk alone takes one."""
+def check_rows(desk, rows, court, draw):
+    """Enters rows in one session or two; whether one of them couldn't be read, and whether the desk alone takes one. The court's file is
+    this one, or has one key more."""
     at = draw.choice([len(rows), draw.randint(0, len(rows))])
     lines = (desk.enter(rows[:at]) + desk.enter(rows[at:])).splitlines(True)
     answers = b"".join(line for line in lines if not is_fault(line))
     kept = rows_of(desk.read())
     assert answers == b"".join(answer for _, answer in kept), (answers, kept)
     assert desk.rows() == desk.input_of(row for row, _ in kept)
-    return any(is_fault(line) for line in lines), check_together(desk, kept)
+    return any(is_fault(line) for line in lines), check_together(desk, kept, court)
 
 
 def check_input(programs, data, draw):
@@ -99,12 +133,17 @@ def check_input(programs, data, draw):
     court, rows = divided(data)
     rows = [row if row.endswith(b"\n") else row + b"\n" for row in rows]
     if draw.random() < 0.3:
-        rows = set_rows(draw, rows, [1, 2, 3])
+        rows = called_rows(draw, desk_rows(draw, rows, [1, 2, 3]), [1, 2, 3])
     with tempfile.TemporaryDirectory() as parent:
         if is_refused(programs, parent, court):
             return REFUSED_COURT
-        desk = Desk(programs, parent, court)
-        faulty, of_desk = check_rows(desk, rows, draw)
+        keyed = draw.random() < 0.2
+        if keyed:
+            check_key(programs, parent, court, draw)
+        desk = Desk(programs, parent, with_key(b'"' + draw.choice(UNTIL) + b'"', court) if keyed else court)
+        faulty, of_desk = check_rows(desk, rows, court, draw)
+        if keyed:
+            return KEYED
         if of_desk:
             return OF_DESK
         if faulty:

@@ -5,10 +5,13 @@
 
 COUNT dockets (30 without it) are drawn from SEED, of clerks 1 to 64. Some rows are entered in a session, and once they are
 answered each report is asked of the folder; then more rows, and again; and again when the session has ended. What a report of the
-folder says must be what it says of the court's file and these rows as an input, byte by byte, and the journal must be as it was. Where the
-desk alone takes one of the rows, it must be what is said of another folder into which they are entered at once.
+folder says must be what it says of the court's file and these rows as an input, byte by byte, but for the day on which a memo is made,
+which no input says; and the journal must be as it was. Where the desk alone takes one of the rows, it must be what is said of another
+folder into which they are entered at once.
 As of the last row that there was then, each report must at the end be what it was then, byte by byte, and so must the rows, the
 cases, the rows that are struck and the answers to questions; also once a row is struck.
+What rows call cases, deadlines and motions is in each report, whole and as text alone, also where it has markup, a formula, quotes or
+characters from right to left; the last text counts, and texts with control characters are refused.
 It needs Python 3.8 or later.
 """
 import random
@@ -16,8 +19,10 @@ import re
 import sys
 import tempfile
 
+from lib.called_texts import check_called
 from lib.desk import Desk, SHORT_COURT, report_of
 from lib.journal import rows_of
+from lib.memo_head import without_made
 from lib.programs import programs_of, seed_and_count
 from strike_check import drawn_row, opened
 
@@ -38,7 +43,14 @@ def reports(draw):
     case, day = str(draw.randint(1, 3)), "2025-{:02}-{:02}".format(draw.randint(3, 9), draw.randint(1, 28))
     yield from (["due"], ["due", "--from", day, "--judge", "Ames"], ["due", "--case", case], ["week", "--judge", "Ames", "--of", day],
                 ["page"], ["page", "--case", case], ["ics", "--stamp", "20250901T120000Z"], ["ics", "--stamp", "20250901T120000Z", "--judge", "Ames"],
-                ["json"], ["json", "--lines"], ["json", "--to", day], ["sql"], ["memo"], ["memo", "--case", case, "--today", day])
+                ["json"], ["json", "--lines"], ["json", "--to", day], ["sql"], ["memo"], ["memo", "--case", case, "--today", day],
+                ["memo", "--case", case, "--today", day, "--html"])
+
+
+def undated(words, ended):
+    """What a call ended with, without the day on which a memo is made where its words don't say it."""
+    is_dated = words[0] == "memo" and "--today" not in words
+    return ended._replace(output=without_made(ended.output.decode()).encode()) if is_dated else ended
 
 
 def compare(desk, draw):
@@ -46,7 +58,8 @@ def compare(desk, draw):
     before = desk.journal.read_bytes()
     rows = [row for row, _ in rows_of(desk.read())]
     for words in reports(draw):
-        of_folder, of_input = desk.call(*words), report_of(desk.programs, words, desk.input_of(rows))
+        of_folder = undated(words, desk.call(*words))
+        of_input = undated(words, report_of(desk.programs, words, desk.input_of(rows)))
         assert of_folder == of_input, (words, rows, of_folder, of_input)
         assert desk.journal.read_bytes() == before, words
     return len(rows)
@@ -55,7 +68,7 @@ def compare(desk, draw):
 def told_then(desk, calls, *as_of):
     """What each of these calls writes."""
     for words in calls:
-        ended = desk.call(*words, *as_of, given=QUESTIONS if words == ["ask"] else b"")
+        ended = undated(words, desk.call(*words, *as_of, given=QUESTIONS if words == ["ask"] else b""))
         assert ended.status in (0, ABSENT), (words, as_of, ended)
         yield ended.status, ended.output, ended.errors
 
@@ -104,6 +117,7 @@ def main(words):
     programs, (seed, count) = programs_of(words[:1]), seed_and_count(words[1:], 30)
     draw = random.Random(seed)
     rows = sum(check_docket(programs, draw) for _ in range(count))
+    print("{} texts: what rows call cases, deadlines and motions is in each report as it is".format(check_called(programs)))
     print("{} folders with {} rows: each report is that of the rows, also beside a session".format(count, rows))
 
 

@@ -41,6 +41,7 @@ if icalendar is None or shutil.which("khal") is None:
 
 from lib.asked_days import asked_days
 from lib.case_names import asked
+from lib.desk import report_of
 from lib.given_docket import given_docket, input_of
 from lib.ics_inputs import ZONES, cut, zoned_input
 from lib.ics_wanted import Clock, answered, day_of, entries_wanted, event_wanted, lost_item, lost_of, revisions_of, uid
@@ -123,7 +124,7 @@ def rewritten_differs(seen, chance, given, office):
     earlier = cut(chance, given.data)
     for judge in [None, *office.judges[:3]]:
         words = ["ics"] + (["--judge", judge] if judge else [])
-        old, new = ({event["UID"]: event for event in events_read(given.programs.report(words, rows).output)} for rows in (earlier, given.data))
+        old, new = ({event["UID"]: event for event in events_read(report_of(given.programs, words, rows).output)} for rows in (earlier, given.data))
         for name, event in old.items():
             if name not in new:
                 if name not in office.docket.beyond:
@@ -172,7 +173,7 @@ def says(event):
 
 def made_words(chance, names, court, docket):
     days = [item.day for item in docket.items] or [day_of(court["from"])]
-    judges = sorted({judge for panels in docket.before.values() for judge in panels})
+    judges = sorted({judge for panel in [*docket.before.values(), *[item.panel or () for item in docket.items]] for judge in panel})
     words, judge, case, stamp = ["ics"], None, None, None
     first, last, asked_for = asked_days(chance, days, day_of(court["from"]), day_of(court["to"]), 0.3)
     words += asked_for

@@ -23,10 +23,12 @@ import re
 import sys
 import tempfile
 
+from lib.assigned import assigned_in
 from lib.case_names import asked, called, named_text
 from lib.given_docket import given_docket
 from lib.json_text import office_text
 from lib.made_inputs import INPUTS, made_input
+from lib.memo_head import below_head
 from lib.memo_lines import other_of
 from lib.programs import TOP, programs_of, seed_and_count
 from lib.several_clerks import renumbered
@@ -135,7 +137,8 @@ def times_fault(zone, whole):
 def part_of(whole, first, last, judge, case):
     """The part of the whole that is chosen."""
     def is_before(sheet):
-        return judge is None or any(judge in m["hearing"]["judges"] for m in sheet["motions"] if m["hearing"] is not None)
+        heard = any(judge in m["hearing"]["judges"] for m in sheet["motions"] if m["hearing"] is not None)
+        return heard or judge in (None, sheet.get("judge"), sheet.get("referred"))
     cases = [s for s in whole["cases"] if case in (None, s["case"]) and is_before(s)]
     calendars = [dict(c, bookings=[b for b in c["bookings"] if case in (None, b["case"]) and first <= b["day"] <= last])
                  for c in whole["calendars"] if judge in (None, c["judge"])]
@@ -180,11 +183,13 @@ def read(text):
 
 
 def memo_fault(given, text):
-    """Whether `docket memo` says of a folder otherwise than clerk_office, but for the lines of reasons, or none."""
+    """Whether `docket memo` says of a folder otherwise than clerk_office, but for its head and the lines of reasons, or none."""
     ended = given.report(["memo"])
-    bare = "".join(line for line in ended.output.decode().splitlines(keepends=True) if not line.startswith(" "))
+    if ended.status != 0:
+        return "there is no memo"
+    bare = "".join(line for line in below_head(ended.output.decode()).splitlines(keepends=True) if not line.startswith(" "))
     wanted = named_text(given.names, renumbered(text, given.clerks))
-    return None if ended.status == 0 and bare == wanted else "the memo says something else"
+    return None if bare == wanted else "the memo says something else"
 
 
 def differs(chance, given, valid):
@@ -203,6 +208,8 @@ def differs(chance, given, valid):
     lines = given.report(["json", "--lines"]).output.splitlines(keepends=True)
     if [read(line) for line in lines] != whole["answers"]:
         return "other answers line by line"
+    if {s["case"]: s["assigned"] for s in whole["cases"] if "assigned" in s} != assigned_in(given.read_by_office()):
+        return "cases assigned since other days"
     zone = re.search(r'^\s*zone\s*=\s*"([^"]*)"', given.plain.decode(), re.MULTILINE)
     fault = times_fault(zone_of_text(zone.group(1)), whole) if zone else None
     fault = fault or names_fault(given.names, whole) or reasons_fault(whole, given.memo().output.decode()) or memo_fault(given, text)

@@ -58,7 +58,7 @@ def ended(data, words=(), told=None, at_desk=False):
         return 4, b"", b"read fault\n"
     of_court, of_rows = split(data)
     try:
-        court = court_of(of_court)
+        court = court_of(of_court, at_desk)
         rows = rows_of(of_rows, options.clerks, court, at_desk)
     except CourtFault as fault:
         return 2, b"", (fault.line() + "\n").encode()

@@ -4,7 +4,7 @@
     page_check.py DOCKET CLERK_OFFICE [SEED [COUNT]]
 
 Inputs are made at random, and half of them are entered into a folder, in which cases have names; one has the longest names that
-there may be. For each page
+there may be. For each page, and for that of the memo,
 - `tidy` finds nothing;
 - the text that Chromium shows is that of the page, so nothing is lost by its reading, and no policy keeps it back;
 - at 360, 768 and 1280 pixels nothing is wider than the window, with all reasons folded and unfolded;
@@ -86,9 +86,10 @@ def fault_of(folder, page):
 
 
 def page_fault(given):
-    """What is wrong with the page of a docket, or none."""
+    """What is wrong with the page of a docket, or with that of its memo, or none."""
     with tempfile.TemporaryDirectory() as folder:
-        return fault_of(pathlib.Path(folder), given.report(["page"]).output.decode())
+        pages = (given.report(words).output.decode() for words in (["page"], ["memo", "--html"]))
+        return next(filter(None, (fault_of(pathlib.Path(folder), page) for page in pages)), None)
 
 
 def main(words):

@@ -32,11 +32,13 @@ from lib.programs import TOP, programs_of, seed_and_count
 from reference.civil import day_of_text, instant_at, zone_of_text
 
 DUE = """SELECT due_day, COALESCE(due_time, '00:00:00'), case_number, 0, number, due_time, term, timely, NULL FROM deadlines
- WHERE timely IS NOT TRUE AND due_day BETWEEN '{0}' AND '{1}'
+ WHERE timely IS NOT TRUE AND due_day BETWEEN '{0}' AND '{1}' {2}
 UNION ALL
 SELECT hearing_day, begins, case_number, 1, motion_number, begins, room, NULL, minutes FROM hearings
  WHERE hearing_day BETWEEN '{0}' AND '{1}'
 ORDER BY 1, 2, 3, 4, 5"""
+# What isn't due of a docket whose rows ended deadlines.
+NOT_ENDED = "AND NOT EXISTS (SELECT * FROM endings WHERE endings.case_number = deadlines.case_number AND deadline_number = number)"
 WEEK = """SELECT hearing_day, begins, minutes, case_number, motion_number, room
 FROM hearings NATURAL JOIN panels
 WHERE judge = '{0}' AND hearing_day BETWEEN '{1}' AND '{2}' ORDER BY hearing_day, begins"""
@@ -46,16 +48,24 @@ TABLES = {
     "deadlines": ("case_number, number, event_day, event_time, second_day, service, last_day, {ends_at}, filed_day, filed_time,"
                   " on_paper, timely", "case_number, number"),
     "grants": ("case_number, deadline_number, number, days, hours, until_day", "case_number, deadline_number, number"),
+    "resets": ("case_number, deadline_number, number, reset_day, reset_time", "case_number, deadline_number, number"),
     "motions": ("case_number, number, served, notice_days", "case_number, number"),
     "hearings": ("case_number, motion_number, room, hearing_day, begins, minutes, {starts_at}, {ends_at}, notice_day,"
                  " affidavits_day", "case_number, motion_number"),
     "outages": ("number, outage_day, begins, ends", "number"),
+    "closings": ("case_number, closed, how", "case_number"),
+    "assignments": ("case_number, dated, judge, referred", "case_number"),
+    "endings": ("case_number, deadline_number, why", "case_number, deadline_number"),
+    "rulings": ("case_number, motion_number, ruled, how", "case_number, motion_number"),
     "answers": ("number, clerk, refusal, answer", "number"),
 }
 # Where docs/clerk/REPORTS.md asks sqlite3.
 PROMPT = "    sqlite> "
 # A row is written with these between its values and after it.
 BETWEEN, AFTER = "\x1f", "\x1e"
+# How many values of a row are its key, in tables where it isn't three.
+KEYS = {"cases": 1, "closings": 1, "assignments": 1, "outages": 1, "answers": 1, "deadlines": 2, "motions": 2, "hearings": 2, "endings": 2,
+        "rulings": 2}
 # Names that no court's file may have.
 HOSTILE = ["O'Brien", "'); DROP TABLE cases; --", "\\\\'"]
 EPOCH = datetime.datetime(1970, 1, 1, tzinfo=datetime.timezone.utc)
@@ -163,14 +173,28 @@ def clock(minute):
     return "{:02}:{:02}".format(minute // 60, minute % 60)
 
 
-def due_text(database, names, closes, first, last):
+def has_endings(rows):
+    """Whether some of these rows end a deadline, close or assign a case, take an end back, or rule on a motion: then there are tables of
+    what is ended and closed."""
+    return any(row.split(",")[1] in ("end", "resume", "close", "reopen", "rule", "assign") for row in rows)
+
+
+def tables_of(rows):
+    """The tables that there are where these are the rows: one of rulings where some rule on a motion, and one of assignments where some
+    assign a case."""
+    words = {row.split(",")[1] for row in rows}
+    there = {"closings": has_endings(rows), "endings": has_endings(rows), "rulings": "rule" in words, "assignments": "assign" in words}
+    return [table for table in TABLES if there.get(table, True)]
+
+
+def due_text(database, names, closes, first, last, endings):
     panels = {}
     for case, motion, judge in rows_of(database, PANELS):
         panels.setdefault((case, motion), []).append(judge)
     lines = ["Due from {} to {}".format(named(first), named(last)),
              "Filing on paper ends at {}, when the clerk's office closes.".format(closes)]
     before = None
-    for day, _, case, kind, number, time, words, timely, length in rows_of(database, DUE.format(first, last)):
+    for day, _, case, kind, number, time, words, timely, length in rows_of(database, DUE.format(first, last, NOT_ENDED if endings else "")):
         if day != before:
             lines += ["", named(day)]
         before = day
@@ -186,8 +210,8 @@ def due_text(database, names, closes, first, last):
 
 def due_alone(text, first, last):
     """What is due without the other readings, which the tables don't have: without their marks, and without the days on which something is
-    due by them alone."""
-    head, *days = re.sub(r", other reading.*", "", text).rstrip("\n").split("\n\n")
+    due by them alone. How many are ended isn't asked either."""
+    head, *days = re.sub(r", other reading.*|\n\nEnded, and so not listed: .*", "", text).rstrip("\n").split("\n\n")
     days = [day for day in days if not re.match(r"[A-Z][a-z]{2} \d{4}-\d\d-\d\d\n", day) or first <= day[4:14] <= last]
     return "\n\n".join([head, *(days or ["Nothing is due."])]) + "\n"
 
@@ -226,6 +250,8 @@ def wanted_rows(whole, rows, answers, given):
     for sheet in whole["cases"]:
         case = str(sheet["case"])
         found["cases"].append((case, sheet["filed"]))
+        found["closings"] += [(case, sheet["closed"], sheet["closing"])] if "closed" in sheet else []
+        found["assignments"] += [(case, sheet["assigned"], sheet["judge"], or_empty(sheet["referred"]))] if "assigned" in sheet else []
         for d in sheet["deadlines"]:
             number, filed = str(d["number"]), d["filed"]
             act = ("", "", "") if filed is None else (filed["day"], time_of(filed["time"]), str(int(filed["means"] == "paper")))
@@ -233,10 +259,16 @@ def wanted_rows(whole, rows, answers, given):
                 case, number, d["event"]["day"], event_time(d["event"]["time"]), or_empty(d["second_day"]), or_empty(d["service"]),
                 or_empty(d["last_day"]), "" if d["end"] is None else instant(d["end"]), *act,
                 {"timely": "1", "late": "0"}.get(d["state"], "")))
-            found["grants"] += [(case, number, str(place + 1), or_empty(g["days"]), or_empty(g["hours"]), or_empty(g["until"]))
-                                for place, g in enumerate(d["grants"])]
+            found["endings"] += [(case, number, d["ended"])] if "ended" in d else []
+            for place, g in enumerate(d["grants"]):
+                key = (case, number, str(place + 1))
+                if "order" in g:
+                    found["resets"].append((*key, g["until"], time_of(g["time"]) if "time" in g else ""))
+                else:
+                    found["grants"].append((*key, or_empty(g["days"]), or_empty(g["hours"]), or_empty(g["until"])))
         for m in sheet["motions"]:
             found["motions"].append((case, str(m["number"]), m["served"], or_empty(m["notice_days"])))
+            found["rulings"] += [(case, str(m["number"]), m["ruled"], m["ruling"])] if "ruling" in m else []
             h = m["hearing"]
             if h is not None:
                 found["hearings"].append((case, str(m["number"]), h["room"], h["day"], time_of(h["time"]), str(h["minutes"]),
@@ -278,8 +310,9 @@ def names_fault(database, names, whole):
     return None if found == wanted else "names of cases: found {}, wanted {}".format(found, wanted)
 
 
-def table_fault(database, wanted):
-    for table, (columns, order) in TABLES.items():
+def table_fault(database, wanted, tables):
+    for table in tables:
+        columns, order = TABLES[table]
         columns = columns.format(starts_at=database.seconds("starts_at"), ends_at=database.seconds("ends_at"))
         found = rows_of(database, "SELECT {} FROM {} ORDER BY {}".format(columns, table, order))
         if found != wanted[table]:
@@ -306,7 +339,7 @@ def is_in_order(script):
     last = {}
     for table, first, rest in re.findall(r"^INSERT INTO (\w+) VALUES \((\d+)((?:, \d+)*)", script, re.MULTILINE):
         key = (int(first), *[int(part) for part in rest.split(", ")[1:]][:2])
-        key = key[:{"cases": 1, "outages": 1, "answers": 1, "deadlines": 2, "motions": 2, "hearings": 2}.get(table, 3)]
+        key = key[:KEYS.get(table, 3)]
         if last.get(table, ()) >= key:
             return False
         last[table] = key
@@ -326,7 +359,7 @@ def differs(chance, given, databases):
         return None
     answers = [named_text(given.names, answer) for answer in answers_of(text, closing_of(longer[1]))]
     whole = json.loads(given.report(["json"]).output)
-    wanted, script = wanted_rows(whole, rows, answers, given), found.output.decode()
+    wanted, script, endings = wanted_rows(whole, rows, answers, given), found.output.decode(), has_endings(rows)
     if not is_in_order(script):
         return "a row that isn't in its place"
     first, last, closes = whole["court"]["from"], whole["court"]["to"], whole["court"]["closes"]
@@ -337,11 +370,11 @@ def differs(chance, given, databases):
     of = chance.choice([b["day"] for c in whole["calendars"] for b in c["bookings"]] or [first])
     due = due_alone(given.report(["due", "--from", first, "--to", last]).output.decode(), first, last)
     for database in databases:
-        fault = database.load(found.output) or table_fault(database, wanted) or zone_fault(database, given.plain) or \
+        fault = database.load(found.output) or table_fault(database, wanted, tables_of(rows)) or zone_fault(database, given.plain) or \
             names_fault(database, given.names, whole)
         if fault:
             return "{}: {}".format(database.name, fault)
-        if due_text(database, given.names, closes, first, last) != due:
+        if due_text(database, given.names, closes, first, last, endings) != due:
             return "{}: something else is due from {} to {}".format(database.name, first, last)
         if judge is not None:
             week = given.report(["week", "--judge", judge, "--of", of]).output.decode().splitlines()

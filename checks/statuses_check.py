@@ -45,7 +45,7 @@ FILES = {
     "rows.txt": SHORT_COURT + b"%%\n" + FAULT,
 }
 REPORTS = ("due", "week --judge Ames --of 2025-03-03", "page", "ics --stamp 20250901T120000Z", "json", "json --lines", "sql", "memo",
-           "memo --case 1 --today 2025-03-10")
+           "memo --case 1 --today 2025-03-10", "memo --html")
 # As of when a folder is read: before any case was opened, and after that.
 BEFORE = ("0", "yesterday", "-1d", "2025-03-03", "2025-03-09T02:30", "2025-11-02T01:30:00")
 AS_OF = (*BEFORE, "2", "3", "99", "today", "+7d", "monday", "2190-01-01", "2190-01-01T14:05", "2190-01-01T23:59:59")
@@ -174,9 +174,9 @@ TABLE = [
     ("court check written.toml --today 2024-03-01", b"", 0), ("court check written.toml --today 2025-10-01", b"", DOUBT),
     ("court write --court hawaii --from 2024 --to 2026", b"", 0), ("court write --court hawai --from 2024 --to 2026", b"", WORDS),
     ("court write --court hawaii --from 2026 --to 2024", b"", WORDS), ("court write --court hawaii --from x --to 2024", b"", WORDS),
-    ("court write --court hawaii --from 2024 --to 2026 --judges names.txt --rooms names.txt --opens 09:00 --closes 16:30", b"", 0),
+    ("court write --court hawaii --from 2024 --to 2026 --judges names.txt --rooms names.txt --opens 09:00 --closes 16:30 --efiling-until 18:00", b"", 0),
     ("court write --court hawaii --from 2024 --to 2026 --judges rows.txt", b"", COURT), ("court write --court hawaii --from 2024 --to 2026 --rooms none.txt", b"", STREAM),
-    ("court write --court hawaii --from 2024 --to 2026 --opens 9:00", b"", WORDS), ("court write --court hawaii --from 2024 --to 2026 --opens 17:00", b"", WORDS),
+    ("court write --court hawaii --from 2024 --to 2026 --opens 9:00", b"", WORDS), ("court write --court hawaii --from 2024 --to 2026 --opens 17:00", b"", WORDS), ("court write --court hawaii --from 2024 --to 2026 --efiling-until 6pm", b"", WORDS),
     ("court update W --to 2029", b"", 0), ("court update W --to 2029 --wait 0", b"", 0), ("court update W --to 2026", b"", WORDS), ("court update W --to 2200", b"", WORDS), ("court update W", b"", WORDS),
     ("court update W --to x", b"", WORDS), ("court update W --to 2029 --wait 86401", b"", WORDS), ("court update F --to 2029", b"", COURT), ("court update N --to 2029", b"", JOURNAL),
     ("court update W --to 2029" + FULL, b"", STREAM), *(("{} --wait {}".format(words, wait), b"", WORDS) for words in ("enter F", "strike F 1 " + STRIKE, "court change F more.toml") for wait in ("x", "86401", "-1", "1.5")),

@@ -7,9 +7,9 @@ COUNT dockets (100 without it) are entered. Then one to five rows of each are st
 entered in between, and sometimes with another court's file. In the replay the number of a deadline or a motion belongs to the
 row that gave it: the row gives the same whenever it is decided again, also after it was restored, and a row that gives one for
 the first time gives the next after all that were ever given in its case. After each strike and each restore these are compared
-with it: the row that the desk shows, the answers that it lists as changed, each deadline and hearing that it lists as another than
-before, the sheets of all cases and the calendars of all judges, the answers to
-later rows, what clerk_office makes of the rows that the desk writes, which counts deadlines and motions by their places (or the
+with it: the row that the desk shows, the answers that it lists as changed, each deadline, hearing and ruling that it lists as another
+than before, and each case that it lists as closed or assigned otherwise, the sheets of all cases and the calendars of all judges, the
+answers to later rows, what clerk_office makes of the rows that the desk writes, which counts deadlines and motions by their places (or the
 second program, where it doesn't take them all), and
 the reports of the folder, which show the numbers of rows, deadlines and motions that `enter` answered. Without --accept a
 strike or a restore that changes an answer changes nothing; a row that is struck isn't struck again, and only such a row is
@@ -24,24 +24,30 @@ import sqlite3
 import sys
 import tempfile
 
-from lib.desk import Desk, REFUSED, SHORT_COURT, has_rows_of_desk, report_of
+from lib.desk import Desk, REFUSED, SHORT_COURT, TEXTS, has_rows_of_desk, report_of
 from lib.journal import CORRECTIONS, Said, corrections_in, packed, rows_of as rows_kept, said_in, struck_in, with_said
 from lib.json_text import office_text
 from lib.kept_numbers import GIVES, Numbers, said_wanted, to_say
+from lib.memo_head import below_head, without_made
 from lib.programs import Ended, programs_of, seed_and_count
 from office_reference import ended as ended_by_reference
 from reference.civil import day_text
 from reference.court_file import court_of
-from reference.docket import STEPS, deadlines_of, hearing_of, motions_of, opening, step, view
+from reference.docket import (STEPS, Fact, Ruling, assignment_of, closing_of, deadlines_of, ending_of, hearing_of, motions_of, opening,
+                              ruling_of, step, view)
 from reference.periods import shown
 from reference.rows_in import rows_of
-from reference.text_out import answer_lines, closing_lines, hearing_line, shown_text
+from reference.text_out import answer_lines, assigned_text, closing_lines, hearing_line, shown_text
 
 DIFFERS, FAULT = 7, 3
 WHY = ["--reason", "entered twice"]
 CASES = (1, 2, 3)
+JUDGES = ["Ames", "Brandt"]
 # What a row names by its number.
-NAMED = {"file": "deadline", "extend": "deadline", "book": "motion", "move": "motion", "cancel": "motion"}
+NAMED = {"file": "deadline", "extend": "deadline", "reset": "deadline", "end": "deadline", "resume": "deadline", "book": "motion",
+         "move": "motion", "cancel": "motion", "rule": "motion"}
+# What things are called, as a line may have it that is read as people write lines.
+CALLED = [text for text in TEXTS if text.isascii()]
 # What of an event says when it was written, and which it is.
 STAMPS = ("DTSTAMP", "LAST-MODIFIED", "SEQUENCE", "UID")
 
@@ -56,13 +62,21 @@ def drawn_row(draw):
         "1,open,{},{}".format(case, day),
         "1,start,{},{},{},,,".format(case, draw.choice(["4m", "12a1Ai", "59b", "59e"]), day),
         "1,start,{},{},{},,,".format(case, draw.choice(["4m", "12a1Ai", "59b", "59e"]), day),
-        "1,set,{},{},,{}".format(case, day, draw.choice(["filing", "service"])),
+        "1,set,{},{},{},{}".format(case, day, draw.choice(["", "09:30"]), draw.choice(["filing", "service"])),
         "1,file,{},{},{},10:00,electronic".format(case, number, day),
         "1,extend,{},{},+7d,{},09:00,yes,yes,yes".format(case, number, day),
+        "1,reset,{},{},{},{},{}".format(case, number, day, draw.choice(["", "", "09:30"]), day),
+        "1,end,{},{},{},{}".format(case, number, draw.choice(["moot", "vacated", "stayed", "suspended", "withdrawn"]), day),
+        "1,resume,{},{},,{}".format(case, number, day),
+        draw.choice(["1,close,{},settled,{}", "1,reopen,{},{}", "1,reopen,{},{}"]).format(case, day),
+        "1,assign,{},{},{},{}".format(case, draw.choice(JUDGES), draw.choice(["", "", *JUDGES]), day),
+        draw.choice(["1,title,{case},{text}", "1,label,{case},{of},{number},{text}"]).format(
+            case=case, of=draw.choice(["deadline", "motion"]), number=number, text=draw.choice(CALLED)),
         "1,motion,{},{},{}".format(case, day, draw.choice(["14", "7", "exparte"])),
         "1,motion,{},{},{}".format(case, day, draw.choice(["14", "7", "exparte"])),
         "1,{},{},{},Ames,R1,{},{:02}:00,1,{}".format(draw.choice(["book", "move"]), case, number, day, draw.randint(8, 16), "2025-03-03"),
         "1,cancel,{},{}".format(case, number),
+        "1,rule,{},{},{},{}".format(case, number, draw.choice(["granted", "denied", "in part", "moot", "withdrawn", "reserved"]), day),
         "1,holiday,{},state".format(day),
         "1,sheet,{}".format(case),
     ]).encode() + b"\n"
@@ -137,10 +151,18 @@ class Replay:
 
         def motion(item, number):
             return places["motion"][item.case, number]
+
+        def fact(item):
+            if isinstance(item, Ruling):
+                return item._replace(motion=motion(item, item.motion))
+            if isinstance(item, Fact) and item.deadline is not None:
+                return item._replace(deadline=places["deadline"][item.case, item.deadline])
+            return item
         return self.docket._replace(
             deadlines=[item._replace(number=places["deadline"][item.case, item.number]) for item in self.docket.deadlines],
             motions=[item._replace(number=motion(item, item.number)) for item in self.docket.motions],
-            hearings=[item._replace(motion=motion(item, item.motion)) for item in self.docket.hearings])
+            hearings=[item._replace(motion=motion(item, item.motion)) for item in self.docket.hearings],
+            facts=[fact(item) for item in self.docket.facts])
 
 
 def is_done(number, answer):
@@ -230,15 +252,26 @@ def check_spoiled(desk, draw):
 
 
 def ends_of(replay, case):
-    """The ends of the deadlines of a case, by their numbers."""
+    """The ends of the deadlines of a case, by their numbers, and why those are due no more that are ended."""
     rows, court = replay.docket, replay.court
-    return {deadline.number: shown_text(court, shown(rows.days, court.clock, deadline.row)) for deadline in deadlines_of(rows, case)}
+    found = {}
+    for deadline in deadlines_of(rows, case):
+        ended = ending_of(rows, case, deadline.number)
+        end = shown_text(court, shown(rows.days, court.clock, deadline.row))
+        found[deadline.number] = end if ended is None else "{}, ended {}".format(end, ended)
+    return found
 
 
 def hearings_in(replay, case):
-    """The hearings of a case, by the numbers of their motions."""
-    found = {motion.number: hearing_of(replay.docket, case, motion.number) for motion in motions_of(replay.docket, case)}
-    return {number: hearing_line(replay.court, replay.docket, hearing) for number, hearing in found.items() if hearing is not None}
+    """The hearings of a case, by the numbers of their motions, and how these were ruled on."""
+    found = {}
+    for motion in motions_of(replay.docket, case):
+        hearing, ruled = hearing_of(replay.docket, case, motion.number), ruling_of(replay.docket, case, motion.number)
+        texts = [] if hearing is None else [hearing_line(replay.court, replay.docket, hearing)]
+        texts += [] if ruled is None else ["{} {}".format(ruled.how, day_text(ruled.dated))]
+        if texts:
+            found[motion.number] = ", ".join(texts)
+    return found
 
 
 def filed_in(replay, case):
@@ -255,11 +288,33 @@ def filed_line(case, was, then):
     return "  case {}: {}, now filed {}\n".format(case, "not open" if was is None else "filed " + was, then)
 
 
+def closing_in(replay, case):
+    """How a case was closed, as a shift of it has it."""
+    closed = closing_of(replay.docket, case)
+    return "not closed" if closed is None else "closed {} {}".format(day_text(closed.dated), closed.why)
+
+
+def assigned_in(replay, case):
+    """Who has a case, and since which day, as a shift of it has it."""
+    assignment = assignment_of(replay.docket, case)
+    if assignment is None:
+        return "not assigned"
+    return assigned_text(replay.court, replay.docket, case).replace("assigned ", "assigned {} to ".format(day_text(assignment.dated)), 1)
+
+
+def told_line(told_in, case, now, after):
+    """What the desk has to list of a case that is open before and after, of which that is told otherwise."""
+    was, then = told_in(now, case), told_in(after, case)
+    is_open = filed_in(now, case) and filed_in(after, case)
+    return "  case {}: {}, now {}\n".format(case, was, then) if is_open and was != then else ""
+
+
 def shifts(now, after):
-    """What the desk has to list of cases, deadlines and hearings: those that are shown otherwise after a correction than now."""
+    """What the desk has to list of cases, deadlines and motions: those that are shown otherwise after a correction than now."""
     text = ""
     for case in CASES:
         text += filed_line(case, filed_in(now, case), filed_in(after, case))
+        text += told_line(closing_in, case, now, after) + told_line(assigned_in, case, now, after)
         for word, shown_in in (("deadline", ends_of), ("motion", hearings_in)):
             was, then = shown_in(now, case), shown_in(after, case)
             for number in [*was, *(number for number in then if number not in was)]:
@@ -332,14 +387,17 @@ def unsaid(kept):
 def compare_calendars(before, after, kept, replay, what):
     """What a calendar program takes of the calendar after a strike or a restore: no SEQUENCE falls, what an event says otherwise has a
     higher one, and none vanishes, but for a deadline that ends beyond the days covered and what may be left unsaid. The deadlines that
-    rows started once and start no more are cancelled, and no others."""
+    rows started once and start no more are cancelled, those that are ended, and no others."""
     for uid, (old, said) in before.items():
         new, says = after.get(uid, (old, said))
         assert new > old or new == old and said == says, (what, uid, before[uid], after[uid])
         assert uid in after or uid in beyond(replay) or uid in unsaid(kept), (what, uid)
     started = {uid_of(case, number) for word, case, number in replay.given.values() if word == "start"}
     cancelled = {uid for uid, (_, says) in after.items() if "-deadline-" in uid and says.get("STATUS") == "CANCELLED"}
-    assert cancelled == started - {uid_of(item.case, item.number) for item in replay.docket.deadlines}, (what, cancelled)
+    left = replay.docket.deadlines
+    ended = {uid_of(item.case, item.number) for item in left if ending_of(replay.docket, item.case, item.number) is not None}
+    lost = started - {uid_of(item.case, item.number) for item in left}
+    assert cancelled == lost | ended - beyond(replay), (what, cancelled)
 
 
 def report(desk, *words):
@@ -354,8 +412,8 @@ def compare_case(desk, numbers, rows, case):
     told = desk.call("memo", "--case", case)
     other = report_of(desk.programs, ["memo", "--case", str(case)], rows)
     wanted = [numbers.line(case, BY_ROW.sub(lambda found: "by row {}".format(numbers.of_row(int(found[1]))).ljust(len(found[0])), line))
-              for line in other.output.decode().splitlines()]
-    assert (told.status, told.output.decode()) == (other.status, "".join(line + "\n" for line in wanted)), (told, other)
+              for line in without_made(other.output.decode()).splitlines()]
+    assert (told.status, without_made(told.output.decode())) == (other.status, "".join(line + "\n" for line in wanted)), (told, other)
 
 
 def rows_written(desk, replay):
@@ -366,8 +424,9 @@ def rows_written(desk, replay):
         fields = row.decode().rstrip("\n").split(",")
         if number in replay.struck:
             continue
-        if fields[1] in NAMED:
-            of_kind, case, named = moved[NAMED[fields[1]]], int(fields[2]), int(fields[3])
+        if fields[1] in NAMED or fields[1] == "label":
+            kind, said = (fields[3], fields[4]) if fields[1] == "label" else (NAMED[fields[1]], fields[3])
+            of_kind, case, named = moved[kind], int(fields[2]), int(said)
             if (case, named) in of_kind and named not in [kept for (of, _), kept in of_kind.items() if of == case]:
                 continue
         found.append(number)
@@ -382,7 +441,7 @@ def compare_reports(desk, replay, rows, what):
     wanted = answers_in(kept)[0]
     assert closing == closing_lines(replay.court, replay.docket), (what, closing)
     assert found == wanted, (what, found, wanted)
-    bare = "".join(line + "\n" for line in report(desk, "memo").splitlines() if not line.startswith(" "))
+    bare = "".join(line + "\n" for line in below_head(report(desk, "memo")).splitlines() if not line.startswith(" "))
     assert bare == text, (what, bare, text)
     base = sqlite3.connect(":memory:")
     base.executescript(report(desk, "sql"))
@@ -412,8 +471,10 @@ def compare(desk, replay, what):
 
 
 def other_court(draw):
-    """The court's file with another holiday: deadlines move by it, and hearings may be refused."""
-    return SHORT_COURT.replace(b'"2025-07-04"', b'"2025-07-04", "2025-%02d-%02d"' % (draw.randint(3, 9), draw.randint(1, 28)))
+    """The court's file with another holiday, and perhaps with one judge less: deadlines move by the holiday, and hearings and assignments
+    may be refused."""
+    court = SHORT_COURT.replace(b'"2025-07-04"', b'"2025-07-04", "2025-%02d-%02d"' % (draw.randint(3, 9), draw.randint(1, 28)))
+    return court.replace(b'"Ames", "Brandt"', draw.choice([b'"Ames", "Brandt"', b'"Ames"', b'"Brandt", "Ames"']))
 
 
 def drawn_correction(draw, lines, struck):

@@ -44,7 +44,16 @@ KINDS = {"A": ["personal", "by hand", "hand delivery"], "B": ["left", "dwelling"
          "E": ["ECF", "CM/ECF", "e-mail", "electronic"], "F": ["other", "consent"]}
 WORDS = {"electronic": ["electronic", "ECF", "Electronically"], "paper": ["paper", "on paper", "Paper"], "yes": ["yes", "Y", "Yes"], "no": ["no", "N", "NO"],
          "federal": ["federal", "Federal"], "state": ["state", "STATE"], "exparte": ["ex parte", "Ex Parte", "exparte"],
-         "filing": ["filing", "Filing", "file", "to file"], "service": ["service", "Service", "serve"]}
+         "filing": ["filing", "Filing", "file", "to file"], "service": ["service", "Service", "serve"],
+         "moot": ["moot", "Moot", "mooted"], "vacated": ["vacated", "Vacated", "vacate"], "stayed": ["stayed", "STAYED", "stay"],
+         "suspended": ["suspended", "Suspended", "suspend"], "withdrawn": ["withdrawn", "Withdrawn", "withdrew"],
+         "dismissed": ["dismissed", "Dismissed", "dismissal"], "judgment": ["judgment", "Judgement"], "settled": ["settled", "Settlement"],
+         "deadline": ["deadline", "Deadline", "deadlines"], "motion": ["motion", "MOTION", "Motions"],
+         "transferred": ["transferred", "Transfer"], "remanded": ["remanded", "REMAND"], "otherwise": ["otherwise", "Other"],
+         "granted": ["granted", "Granted", "grant"], "denied": ["denied", "Denied", "deny"], "in part": ["in part", "In Part", "granted in part"],
+         "reserved": ["reserved", "Reserved", "under advisement"]}
+# What cases, deadlines and motions are called, which is taken as it is written.
+CALLED = ["Doe v. Acme", "answer of Acme", "In re Acme & Co.", "<script>", "=cmd|x", "a 2nd reply (Doe)"]
 # The columns of each command, by what they hold.
 FORMS = {
     "open": "clerk command case date",
@@ -60,7 +69,16 @@ FORMS = {
     "compute": "clerk command period date time? second? kind?",
     "sheet": "clerk command case",
     "calendar": "clerk command judge. date",
-    "set": "clerk command case date time! act",
+    "set": "clerk command case date time? act",
+    "reset": "clerk command case deadline date time? dated",
+    "end": "clerk command case deadline why dated",
+    "resume": "clerk command case deadline date! dated",
+    "close": "clerk command case why. dated",
+    "reopen": "clerk command case dated",
+    "rule": "clerk command case motion ruling dated",
+    "assign": "clerk command case judge. referred? dated",
+    "title": "clerk command case title",
+    "label": "clerk command case of number label",
 }
 NAMES = sorted({column.strip("?!.") for form in FORMS.values() for column in form.split()})
 
@@ -90,14 +108,20 @@ def drawn(draw, column, clear):
         "clerk": lambda: str(draw.randint(1, 64)), "case": lambda: a_case(draw),
         "deadline": lambda: draw.choice(sorted(RULES)) if draw.random() < 0.3 else str(draw.randint(1, 99)),
         "motion": lambda: "last" if draw.random() < 0.3 else str(draw.randint(1, 99)),
-        "period": lambda: draw.choice(sorted(RULES) + ENTERED), "date": lambda: a_date(draw, clear), "notice": lambda: a_date(draw, clear),
+        "period": lambda: draw.choice(sorted(RULES) + ENTERED), "date": lambda: a_date(draw, clear), "notice": lambda: a_date(draw, clear), "dated": lambda: a_date(draw, clear),
         "second?": lambda: a_date(draw, clear), "time": lambda: time, "time?": lambda: time, "from": lambda: time,
         "to": lambda: draw.choice([time, "24:00"]), "kind?": lambda: draw.choice("ABCDEF"), "means": lambda: draw.choice(["electronic", "paper"]),
         "grant": lambda: draw.choice(["+14d", "+24h", a_date(draw, clear)]), "motion!": lambda: draw.choice(["yes", "no"]),
         "cause!": lambda: draw.choice(["yes", "no"]), "neglect!": lambda: draw.choice(["yes", "no"]),
         "need": lambda: draw.choice(["14", "7", "exparte"]), "judge": lambda: "+".join(draw.sample(JUDGES, draw.randint(1, 3))),
-        "judge.": lambda: draw.choice(JUDGES), "room": lambda: draw.choice(ROOMS), "slots": lambda: draw.choice(["2", "3q", "1"]),
-        "list": lambda: draw.choice(["federal", "state"]), "time!": lambda: "", "act": lambda: draw.choice(["filing", "service"]),
+        "judge.": lambda: draw.choice(JUDGES), "referred?": lambda: draw.choice(JUDGES), "room": lambda: draw.choice(ROOMS), "slots": lambda: draw.choice(["2", "3q", "1"]),
+        "list": lambda: draw.choice(["federal", "state"]), "act": lambda: draw.choice(["filing", "service"]),
+        "date!": lambda: "",
+        "why": lambda: draw.choice(["moot", "vacated", "stayed", "suspended", "withdrawn"]),
+        "ruling": lambda: draw.choice(["granted", "denied", "in part", "moot", "withdrawn", "reserved"]),
+        "title": lambda: draw.choice(CALLED), "label": lambda: draw.choice(CALLED), "of": lambda: draw.choice(["deadline", "motion"]),
+        "number": lambda: str(draw.randint(1, 99)),
+        "why.": lambda: draw.choice(["dismissed", "judgment", "settled", "transferred", "remanded", "otherwise"]),
     }[column]()
 
 
@@ -140,7 +164,7 @@ def loosened(draw, style, column, text):
     """A field as people write it."""
     if not text:
         return text
-    if column in ("date", "notice", "second?") or column == "grant" and not text.startswith("+"):
+    if column in ("date", "notice", "second?", "dated") or column == "grant" and not text.startswith("+"):
         return date_in(style, draw, text)
     if column in ("time", "time?", "from", "to"):
         return time_in(draw, text)
@@ -152,7 +176,7 @@ def loosened(draw, style, column, text):
         return draw.choice(spelled_section(draw.choice(NAMED[text])))
     if column == "kind?":
         return draw.choice(KINDS[text] + [text, text.lower()])
-    if column in ("judge", "judge."):
+    if column in ("judge", "judge.", "referred?"):
         return draw.choice([str, str.upper, str.lower])(text).replace("+", draw.choice(["+", " + "])).replace("J.", draw.choice(["J.", "J. "]))
     if column in ("room", "command", "motion"):
         return draw.choice([str, str.upper, str.lower])(text)
@@ -274,7 +298,8 @@ def check_entering(desk):
 
 
 def check_names(desk):
-    """A deadline is named by its rule where just one under it is pending, and the newest motion by `last`; the journal has their numbers."""
+    """A deadline is named by its rule where just one under it is pending, and not ended, and the newest motion by `last`; the journal has
+    their numbers."""
     def entered(given, *words):
         return desk.call("enter", "--as-written", *words, given=given.encode())
 
@@ -292,6 +317,12 @@ def check_names(desk):
         assert re.fullmatch("line {} would be answered: [0-9]+ 1 fault 4 BadField 4: {}\n".format(given.count("\n"), said), lines), ended
     tried = desk.call("try", "--as-written", given=b"1,file,21,59(b),2025-09-10,09:00,electronic\n1,file,21,1,2025-09-10,09:00,electronic\n1,file,21,59(b),2025-09-10,09:00,electronic\n")
     assert tried.output.count(b"filed timely") == 2 and b"deadlines 1 and 3" in tried.output and desk.journal.read_bytes() == before, tried
+    # One that is ended is named by its number alone.
+    ended = b"1,end,21,1,Moot,2025-09-10\n1,file,21,59(b),2025-09-10,09:00,electronic\n1,resume,21,59(b),,2025-09-11\n1,resume,21,1,,2025-09-11\n"
+    tried = desk.call("try", "--as-written", given=ended)
+    said = [b" ended\n", b" filed timely\n", b" fault 4 BadField 4: no deadline of the case under 59b is pending: name one by its number\n", b" resumed last "]
+    assert all(words in line for words, line in zip(said, tried.output.splitlines(True))), tried
+    assert len(tried.output.splitlines()) == len(said) and desk.journal.read_bytes() == before, tried
 
 
 def check_cases(desk, draw):

@@ -33,6 +33,15 @@ CREATE TABLE grants (
   PRIMARY KEY (case_number, deadline_number, number),
   FOREIGN KEY (case_number, deadline_number) REFERENCES deadlines (case_number, number)
 );
+CREATE TABLE resets (
+  case_number INTEGER NOT NULL,
+  deadline_number INTEGER NOT NULL,
+  number INTEGER NOT NULL,
+  reset_day DATE NOT NULL,
+  reset_time TIME,
+  PRIMARY KEY (case_number, deadline_number, number),
+  FOREIGN KEY (case_number, deadline_number) REFERENCES deadlines (case_number, number)
+);
 CREATE TABLE motions (
   case_number INTEGER NOT NULL REFERENCES cases (number),
   number INTEGER NOT NULL,

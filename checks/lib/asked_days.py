@@ -16,6 +16,12 @@ def asked_days(chance, days, first, last, often):
     return asked.get("--from", first), asked.get("--to", last), words
 
 
+def counted_days(chance, days):
+    """A first and a last day at random, so many days from a day that counts as today, and the words that ask for them."""
+    today, count = chance.choice(days) - datetime.timedelta(chance.randrange(8)), chance.randint(1, 40)
+    return today, today + datetime.timedelta(count - 1), ["--days", str(count), "--today", str(today)]
+
+
 def missing_days(first, last, court_first, court_last):
     """What is said of a first and a last day of which one isn't covered, or which are the wrong way round; None where both are there."""
     for day in (first, last):

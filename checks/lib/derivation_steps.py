@@ -7,13 +7,14 @@ and the court's file.
 import re
 from collections import namedtuple
 
-from lib.legal_names import legal_name
-from reference.civil import civil, day_of_text, day_text, instant_at, minute_text, offset_at, weekday
+from lib.legal_names import called
+from reference.civil import civil, day_of_text, day_text, instant_at, minute_of_text, minute_text, offset_at, weekday
 
 # The calendar as it is when the deadline is shown: its span, its lists of holidays, its outages (day, from, to).
 Calendar = namedtuple("Calendar", "clock first last federal state outages names")
-# What a row says of a deadline: `second` and `kind` may be None, `length` is ("d" or "h", number), or ("set", 0), `grants` are texts
-# as `+7d`, `+24h` or a date. `right_from` is the day from which the rule of its period is right, or None; `text` is the
+# What a row says of a deadline: `second` and `kind` may be None, `length` is ("d" or "h", number), or of an end that an order sets
+# ("set", 0) for a day and ("at", 0) for a time; `grants` are texts as `+7d`, `+24h` or a date, or as `order DATE`
+# and `order DATE TIME`. `right_from` is the day from which the rule of its period is right, or None; `text` is the
 # period as the row has it.
 Deadline = namedtuple("Deadline", "length direction act served kind event minute second summons right_from grants text")
 # A line: the day that it shows, or None; what happened; the section that it cites.
@@ -27,6 +28,8 @@ KINDS = {"A": "by hand", "B": "at office or home", "C": "by mail", "D": "by leav
          "F": "by other means"}
 LAST_DAY = {AFTER: "6(a)(1)(C)", BEFORE: "6(a)(1)(C), 6(a)(5)"}
 SAME_TIME = {AFTER: "6(a)(2)(C)", BEFORE: "6(a)(2)(C), 6(a)(5)"}
+# Where a time is fixed 6(a) doesn't apply, as the Committee Note says; else an instant ends hours.
+BY_ORDER, BY_HOURS = "6(a), 2009 Note", "6(a)(2)"
 WEEKDAYS = ["Mon", "Tue", "Wed", "Thu", "Fri", "Sat", "Sun"]
 
 
@@ -79,7 +82,7 @@ def causes(calendar, day, holidays, accessible):
     if weekday(day) == 6:
         found.append(("Sunday", ""))
     if day in calendar.federal:
-        found.append((name or legal_name(day), ", 6(a)(6)"))
+        found.append((called(day, name), ", 6(a)(6)"))
     if holidays == AFTER and day in calendar.state:
         found.append((name or "legal holiday of the state", ", 6(a)(6)(C)"))
     if accessible and any(outage[0] == day for outage in calendar.outages):
@@ -103,8 +106,13 @@ def shown_at(calendar, instant):
 def begins(calendar, deadline, line):
     unit, count = deadline.length
     if unit == "set":
-        expect(line == Line(deadline.event, "set for this day by an order", "6(a), 2009 Note"), "an order sets the day")
+        expect(line == Line(deadline.event, "set for this day by an order", BY_ORDER), "an order sets the day")
         return runs(deadline.event, False, deadline.grants)
+    if unit == "at":
+        end = instant_at(calendar.clock.zone, deadline.event, 60 * deadline.minute)
+        day, time = shown_at(calendar, end)
+        expect(line == Line(day, "set by an order for " + time, BY_ORDER), "an order sets the time")
+        return runs_until(end, deadline.grants, BY_ORDER)
     if unit == "d":
         event = later_event(deadline)
         if deadline.right_from is not None and event < deadline.right_from:
@@ -194,7 +202,7 @@ def runs(last, three, grants):
             expect(line == wanted, "three days are added for the service")
             return counting(last, 3, AFTER, False, grants)
         if grants:
-            return extended(deadline, line, grants, last)
+            return extended(calendar, deadline, line, grants, last)
         outages = [outage for outage in calendar.outages if outage[0] == last]
         if moves(deadline) and outages:
             expect(line in [Line(last, inaccessible(outage), "6(a)(3)(A)") for outage in outages],
@@ -207,7 +215,7 @@ def runs(last, three, grants):
 def moves(deadline):
     """The clerk's office matters for filing, and not where the end is a date certain: one to which the time was extended last, or
     one that an order sets."""
-    certain = deadline.grants[-1][0] != "+" if deadline.grants else deadline.length[0] == "set"
+    certain = deadline.grants[-1][0] != "+" if deadline.grants else deadline.length[0] in ("set", "at")
     return deadline.act == "filing" and not certain
 
 
@@ -223,7 +231,8 @@ def for_access(calendar, deadline, day, section, end):
 def closes(last):
     def place(calendar, deadline, line):
         if deadline.act == "filing":
-            what = "last day, to {}, e-filing to midnight".format(minute_text(calendar.clock.closes))
+            until = calendar.clock.efiling_until
+            what = "last day, to {}, e-filing to {}".format(minute_text(calendar.clock.closes), "midnight" if until is None else minute_text(until))
             expect(line == Line(last, what, "6(a)(4)"), "the last day ends when the office closes")
         else:
             expect(line == Line(last, "last day, to midnight", "ours"), "the last day ends at midnight")
@@ -232,26 +241,44 @@ def closes(last):
 
 
 def extension(deadline, grant):
-    """What is said of an extension, and the section."""
+    """The day of an extension or of what an order sets, what is said of it, and the section."""
     section = "4(m)" if deadline.summons else "6(b)"
     if grant[0] == "+":
         unit = {"d": "day", "h": "hour"}[grant[-1]]
-        return None, "by {} {}{}".format(int(grant[1:-1]), unit, "" if int(grant[1:-1]) == 1 else "s"), section
-    return day_of_text(grant), "to this day", section
+        return None, "extended by {} {}{}".format(int(grant[1:-1]), unit, "" if int(grant[1:-1]) == 1 else "s"), section
+    words = grant.split(" ")
+    if words[0] != "order":
+        return day_of_text(grant), "extended to this day", section
+    time = "{} of ".format(words[2]) if sets_time(grant) else ""
+    return day_of_text(words[1]), "reset to {}this day by an order".format(time), BY_ORDER
+
+
+def sets_time(grant):
+    """Whether an order sets a time of day."""
+    return len(grant.split(" ")) == 3
 
 
 def fits(deadline, grant):
-    return (grant[-1] == "h" and grant[0] == "+") == (deadline.length[0] == "h")
+    to_instant = sets_time(grant) or (grant[-1] == "h" and grant[0] == "+")
+    return to_instant == (deadline.length[0] in ("h", "at"))
 
 
-def extended(deadline, line, grants, last):
-    day, by, section = extension(deadline, grants[0])
-    if not fits(deadline, grants[0]):
-        expect(line == Line(day, "not extended " + by, section), "the extension is of another kind")
-        return nowhere(grants[1:])
-    expect(line == Line(day, "extended " + by, section), "the time is extended")
-    if day is not None:
+def from_certain(calendar, grants, day):
+    """On from the date certain of the first of these, or from the time of it."""
+    if not sets_time(grants[0]):
         return runs(day, False, grants[1:])
+    end = instant_at(calendar.clock.zone, day, 60 * minute_of_text(grants[0].split(" ")[2]))
+    return runs_until(end, grants[1:], BY_ORDER)
+
+
+def extended(calendar, deadline, line, grants, last):
+    day, what, section = extension(deadline, grants[0])
+    if not fits(deadline, grants[0]):
+        expect(line == Line(day, "not " + what, section), "the extension is of another kind")
+        return nowhere(grants[1:])
+    expect(line == Line(day, what, section), "the time is extended")
+    if day is not None:
+        return from_certain(calendar, grants, day)
     return counting(last, int(grants[0][1:-1]), AFTER, False, grants[1:])
 
 
@@ -292,14 +319,16 @@ def meets_last_hour(calendar, end, outage):
     return any(day == outage[0] and 60 * outage[1] <= second < 60 * outage[2] for day, second in seconds)
 
 
-def runs_until(end, grants):
+def runs_until(end, grants, section=BY_HOURS):
     def place(calendar, deadline, line):
         if grants:
-            day, by, section = extension(deadline, grants[0])
+            day, what, by_rule = extension(deadline, grants[0])
             if not fits(deadline, grants[0]):
-                expect(line == Line(day, "not extended " + by, section), "the extension is of another kind")
+                expect(line == Line(day, "not " + what, by_rule), "the extension is of another kind")
                 return nowhere(grants[1:])
-            expect(line == Line(day, "extended " + by, section), "the time is extended")
+            expect(line == Line(day, what, by_rule), "the time is extended")
+            if day is not None:
+                return from_certain(calendar, grants, day)
             return counting_hours(end, int(grants[0][1:-1]), AFTER, grants[1:])
         met = [outage for outage in calendar.outages if meets_last_hour(calendar, end, outage)]
         if moves(deadline) and met:
@@ -307,14 +336,14 @@ def runs_until(end, grants):
                    "the clerk's office was inaccessible in the last hour")
             day, second = civil(calendar.clock.zone, end)
             return for_access(calendar, deadline, day, "6(a)(3)(B)", same_time(second, ends_at))
-        return ends_at(end)(calendar, deadline, line)
+        return ends_at(end, section)(calendar, deadline, line)
     return place
 
 
-def ends_at(end):
+def ends_at(end, section=BY_HOURS):
     def place(calendar, deadline, line):
         day, time = shown_at(calendar, end)
-        expect(line == Line(day, "the time ends at " + time, "6(a)(2)"), "the time ends at that instant")
+        expect(line == Line(day, "the time ends at " + time, section), "the time ends at that instant")
         return "until {} {}".format(day_text(day), time)
     return place
 
@@ -325,10 +354,10 @@ def nowhere(grants):
         if not grants:
             expect(line == Line(None, "beyond the days covered", "ours"), "the time is beyond the days covered")
             return "beyond"
-        day, by, section = extension(deadline, grants[0])
+        day, what, section = extension(deadline, grants[0])
         if day is not None and fits(deadline, grants[0]):
-            expect(line == Line(day, "extended " + by, section), "the time is extended")
-            return runs(day, False, grants[1:])
-        expect(line == Line(day, "not extended " + by, section), "there is nothing to extend")
+            expect(line == Line(day, what, section), "the time is extended")
+            return from_certain(calendar, grants, day)
+        expect(line == Line(day, "not " + what, section), "there is nothing to extend")
         return nowhere(grants[1:])
     return place

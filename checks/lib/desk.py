@@ -16,7 +16,9 @@ TOGETHER, KEEP_REFUSED, FAULTS = "--all-or-nothing", "--keep-refused", 3
 # that has a fault.
 FAULTY, FAULT_LINE = 8, re.compile(rb"\d+ (?:\d+|-) fault ")
 # A row that the desk takes, and clerk_office doesn't.
-ROW_OF_DESK = re.compile(rb'(?m)^"?[0-9]+"?,"?set"?,')
+ROW_OF_DESK = re.compile(rb'(?m)^"?[0-9]+"?,"?(?:set|reset|end|resume|close|reopen|rule|assign|title|label)"?,')
+# The judges of a row that sets a hearing.
+PANEL = re.compile(rb"(?m)^[0-9]+,(?:book|move),[^,\r\n]*,[^,\r\n]*,([^,\r\n]+),")
 # What a session says first of each that was cut off before it.
 CUT_OFF = re.compile(rb"docket: a session of [^\n]* was cut off; the last row that is kept is row (\d+): see 'docket log [^\n]* --row \1'\n")
 # A court's file that is short, so that a journal's bytes are mostly those of its rows.
@@ -153,13 +155,78 @@ def report_of(programs, words, data):
 
 
 def set_rows(draw, rows, cases, faulty=True):
-    """The rows with some put among them by which an order sets a deadline for a day, one of the days in them. Some have a fault, unless
-    none is to have one."""
+    """The rows with some put among them by which an order sets a deadline for a day, one of the days in them, or for a time of it, or
+    another end for a deadline. Some have a fault, unless none is to have one."""
     days = re.findall(rb"\d{4}-\d\d-\d\d", b"".join(rows)) or [b"2025-09-07"]
     rows = list(rows)
     for _ in range(draw.randint(1, 8)):
-        time = draw.choice([b""] * 12 + [b"09:30"] * faulty)
+        time = draw.choice([b""] * 8 + [b"00:00", b"02:30", b"09:30", b"17:00"] + [b"9:30"] * faulty)
         act = draw.choice([b"filing"] * 8 + [b"service"] * 4 + [b"answer"] * faulty)
         row = b"1,set,%d,%s,%s,%s\n" % (draw.choice(cases), draw.choice(days), time, act)
+        if draw.random() < 0.5:
+            row = b"1,reset,%d,%d,%s,%s,%s\n" % (draw.choice(cases), draw.randint(1, 6), draw.choice(days), time, draw.choice(days))
         rows.insert(draw.randint(min(len(rows), 3), len(rows)), row)
     return rows
+
+
+def fact_rows(draw, rows, cases, faulty=True):
+    """The rows with some put among them that end one of the first deadlines of a case, or resume it, some that rule on one of its first
+    motions, and a few that close a case or reopen it. Some have a fault, unless none is to have one."""
+    days = re.findall(rb"\d{4}-\d\d-\d\d", b"".join(rows)) or [b"2025-09-07"]
+    reasons = [b"moot", b"vacated", b"stayed", b"suspended", b"withdrawn"] + [b"settled"] * faulty
+    rows = list(rows)
+    for _ in range(draw.randint(1, 12)):
+        subject, dated = b"%d,%d" % (draw.choice(cases), draw.randint(1, 4)), draw.choice(days)
+        day = dated if faulty and draw.random() < 0.1 else b""
+        row = draw.choice([b"1,end,%s,%s,%s\n" % (subject, draw.choice(reasons), dated), b"1,resume,%s,%s,%s\n" % (subject, day, dated)])
+        rows.insert(draw.randint(min(len(rows), 4), len(rows)), row)
+    rulings = [b"granted", b"denied", b"in part", b"moot", b"withdrawn", b"reserved"] + [b"vacated"] * faulty
+    for _ in range(draw.randint(0, 6)):
+        row = b"1,rule,%d,%d,%s,%s\n" % (draw.choice(cases), draw.randint(1, 4), draw.choice(rulings), draw.choice(days))
+        rows.insert(draw.randint(min(len(rows), 4), len(rows)), row)
+    ways = [b"dismissed", b"judgment", b"settled", b"transferred", b"remanded", b"otherwise"] + [b"moot"] * faulty
+    for _ in range(draw.choice([0, 0, 1, 2])):
+        case, at = draw.choice(cases), draw.randint(min(len(rows), 4), len(rows))
+        rows.insert(at, b"1,close,%d,%s,%s\n" % (case, draw.choice(ways), draw.choice(days)))
+        rows.insert(draw.randint(at, len(rows)), b"1,reopen,%d,%s\n" % (case, draw.choice(days)))
+    return rows
+
+
+def assign_rows(draw, rows, cases, faulty=True):
+    """The rows with a few put among them that assign a case to a judge of a hearing in them, and may refer it to another, where they
+    have hearings. A few name a judge whom no court has. Some have a fault, unless none is to have one."""
+    text = b"".join(rows)
+    days = re.findall(rb"\d{4}-\d\d-\d\d", text)
+    judges = sorted({name for panel in PANEL.findall(text) for name in panel.split(b"+")})
+    rows = list(rows)
+    for _ in range(draw.choice([0, 1, 2, 4]) if judges else 0):
+        named = judges + [b"Nobody"] * (draw.random() < 0.2)
+        to, referred, dated = draw.choice(named), draw.choice(named + [b""] * len(named)), draw.choice(days + [b"9/2/25"] * faulty)
+        row = b"1,assign,%d,%s,%s,%s\n" % (draw.choice(cases), to, referred, dated)
+        rows.insert(draw.randint(min(len(rows), 4), len(rows)), row)
+    return rows
+
+
+# What cases, deadlines and motions are called in made rows: texts that mean something in HTML, in a spreadsheet, in SQL or to a shell,
+# and some that are right to left, or go from one to the other. None has a comma, a quote or the end of a line.
+TEXTS = ["Doe v. Acme", "answer of Acme", "In re: Marie-Ève", "<script>alert(1)</script>", "=cmd|' /C calc'!A0", "a; DROP TABLE cases", "&amp;", "--",
+         "$(id)", "\u202eemca", "\u200f\u05d0\u05d1", "\U0001f6e1 seal"]
+# And texts that no row may have.
+NO_TEXTS = ["", "a\tb", "a\x7f", "a\x85b", "x" * 201, "\u00e9" * 101]
+
+
+def called_rows(draw, rows, cases, faulty=True):
+    """The rows with some put among them that say what a case, or one of its first deadlines or motions, is called. Some have a fault,
+    unless none is to have one."""
+    rows = list(rows)
+    for _ in range(draw.randint(1, 8)):
+        text = draw.choice(TEXTS + NO_TEXTS * faulty).encode()
+        of = draw.choice([b"deadline", b"motion"] * 4 + [b"case"] * faulty)
+        row = draw.choice([b"1,title,%d,%s\n" % (draw.choice(cases), text), b"1,label,%d,%s,%d,%s\n" % (draw.choice(cases), of, draw.randint(1, 4), text)])
+        rows.insert(draw.randint(min(len(rows), 4), len(rows)), row)
+    return rows
+
+
+def desk_rows(draw, rows, cases, faulty=True):
+    """The rows with some among them that the desk alone takes."""
+    return assign_rows(draw, fact_rows(draw, set_rows(draw, rows, cases, faulty), cases, faulty), cases, faulty)

@@ -1,23 +1,25 @@
 """A docket of which a check asks reports: an input of clerk_office, or a folder into which its rows were entered.
 
 In the folder some cases are opened by a number of the court, as 1:25-cv-01234, and rows are given to several clerks; in some,
-orders set deadlines for days, by rows that the desk alone takes. What the reports say of it is compared with what clerk_office
-says of the same rows, all of clerk 1 and with cases by their numbers, which is the check's to translate; where it doesn't take all
-rows, the second program in Python speaks in its place.
+orders set deadlines, or other ends for them, deadlines are ended and resumed, motions are ruled on, and cases assigned and closed, by
+rows that the desk alone takes. What the reports say of it is compared with what clerk_office says of the same rows, all of clerk 1 and
+with cases by their numbers, which is the check's to translate; where it doesn't take all rows, the second program in Python speaks in
+its place.
 """
 import re
 from typing import NamedTuple
 
 from lib.case_names import made_name
-from lib.desk import Desk, FAULTY, divided, has_rows_of_desk, report_of, set_rows
+from lib.desk import Desk, FAULTY, desk_rows, divided, has_rows_of_desk, report_of
 from lib.kept_numbers import Numbers
+from lib.memo_head import below_head
 from lib.programs import Ended, Programs, run
 from lib.several_clerks import with_clerks
 from office_reference import ended as ended_by_reference
 
 # A row at the end that is answered by one line: what follows it are the sheets and the calendars.
 LAST_ROW = b"1,compute,59e,2025-08-04,,,\n"
-OF_CASE = re.compile(rb"^(\d+,(?:open|start|file|extend|motion|book|move|cancel|sheet|set),)(\d+)(?=,|\r?\n)")
+OF_CASE = re.compile(rb"^(\d+,(?:open|start|file|extend|motion|book|move|cancel|sheet|set|reset|end|resume|close|reopen|rule|assign|title|label),)(\d+)(?=,|\r?\n)")
 CLERK = re.compile(rb'(?m)^"?([0-9]+)"?,')
 
 
@@ -52,12 +54,13 @@ class Given(NamedTuple):
         return Ended(0, self.numbers.text(data, ended.output.decode()).encode(), ended.errors)
 
     def memo(self, last=b""):
-        """The reasons of what clerk_office says, with the numbers of the folder."""
+        """What clerk_office says, with its reasons and the numbers of the folder: the memo without its head."""
         data = self.read_by_office(last)
         ended = report_of(self.programs, ["memo"], data)
-        if ended.status != 0 or self.numbers is None:
+        if ended.status != 0:
             return ended
-        return Ended(0, self.numbers.text(data, ended.output.decode()).encode(), ended.errors)
+        text = below_head(ended.output.decode())
+        return Ended(0, (text if self.numbers is None else self.numbers.text(data, text)).encode(), ended.errors)
 
     def as_several(self):
         """What clerk_office says of the input as it is, with all clerks that there may be."""
@@ -101,7 +104,7 @@ def given_docket(programs, chance, data, parent):
         return input_of(programs, several, clerks, data)
     desk = Desk(programs, parent, court)
     if chance.random() < 0.4:
-        rows = set_rows(chance, rows, [1, 2])
+        rows = desk_rows(chance, rows, [1, 2])
     lines = [row if row.endswith(b"\n") else row + b"\n" for row in with_names(chance, rows)]
     ended = desk.call("enter", given=b"".join(lines))
     assert ended.status in (0, FAULTY), ended

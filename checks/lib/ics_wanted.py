@@ -5,9 +5,10 @@ import re
 import time
 from collections import namedtuple
 
+from lib.assigned import judges_in
 from lib.case_names import called
 from lib.given_docket import LAST_ROW
-from lib.memo_lines import closing_of, other_day, other_of, reasons_of
+from lib.memo_lines import closing_of, ended_in, other_day, other_of, reasons_of
 from lib.period_words import RULES, SET
 from reference.periods import period_of_text
 from reference.rule6 import FILING
@@ -18,7 +19,8 @@ ACTS = {"filing": "to file", "service": "to serve"}
 OTHER = "other reading "
 STATES = {"timely": ", filed in time", "late": ", filed late"}
 
-Item = namedtuple("Item", "day second case kind number summary description begins ends room panel")
+# `ended` says that it is a deadline that was ended and not resumed.
+Item = namedtuple("Item", "day second case kind number summary description begins ends room panel ended", defaults=(False,))
 Hearing = namedtuple("Hearing", "day first count panel room notice affidavits")
 # A deadline that no row starts any more: its case and number, the code of its period, and the day from which it ran.
 Lost = namedtuple("Lost", "case number code day")
@@ -92,7 +94,9 @@ def deadline_item(names, case, words, closes, other):
         return None
     what, described = period_in_words(code)
     day, state = day_of(words[4]), words[6] if end == "until" else words[5]
-    summary = "Case {} deadline {}: {}{}".format(called(names, case), number, what, STATES.get(state, ""))
+    ended = ended_in(words)
+    summary = "Case {} deadline {}: {}{}{}".format(called(names, case), number, what, STATES.get(state, ""),
+                                                   ", ended " + ended if ended else "")
     if end == "until":
         ending, second = "The time ends at {} on the court's clock".format(words[5]), seconds(words[5])
         begins = (day, second)
@@ -102,7 +106,7 @@ def deadline_item(names, case, words, closes, other):
             ending += "; for filing on paper when the clerk's office closes, at " + closes
     reading = "" if other is None else "\nBy another reading of the Rules: {}.".format(other[len(OTHER):])
     return Item(day, second, case, 0, number, summary, "Period: {}.\n{}.{}".format(described, ending, reading), begins, None, None,
-                None)
+                None, ended is not None)
 
 
 def lost_item(names, lost):
@@ -138,13 +142,15 @@ def hearing_of(words):
 
 
 def docket_of(names, lines, closes, reasons):
-    """What the sheets at the end of a text say, where cases have these names and deadlines these reasons: the items, the judges before whom each case has a
-    hearing, and the deadlines that end beyond the days covered."""
-    items, before, beyond, case, motion = [], {}, set(), None, None
+    """What the sheets at the end of a text say, where cases have these names and deadlines these reasons: the items, the judges whom each
+    case is before, and the deadlines that end beyond the days covered."""
+    items, assigned, heard, beyond, case, motion = [], {}, {}, set(), None, None
     for line in lines:
         words = line.split(" ")
         if words[0] == "case":
             case = int(words[1])
+        elif words[0] == "assigned":
+            assigned[case] = set(judges_in(line))
         elif words[0] == "deadline":
             items.append(deadline_item(names, case, words, closes, other_of(reasons[case, int(words[1])])))
             if items[-1] is None:
@@ -154,10 +160,10 @@ def docket_of(names, lines, closes, reasons):
         elif words[0] == "hearing":
             item = hearing_item(names, case, motion, hearing_of(words[1:]))
             items.append(item)
-            before.setdefault(case, set()).update(item.panel)
+            heard.setdefault(case, set()).update(item.panel)
         elif words[0] == "judge":
             break
-    return Docket([item for item in items if item], before, beyond)
+    return Docket([item for item in items if item], {**heard, **assigned}, beyond)
 
 
 def histories_of(rows, answers, judge):
@@ -167,15 +173,21 @@ def histories_of(rows, answers, judge):
     for number, row in rows.items():
         fields = row.split(",")
         answer = answers.get(number, "")
-        if fields[1] not in ("book", "move", "cancel") or answer.startswith("refused"):
+        if not (fields[1] in ("book", "move", "cancel") or answer.startswith("ruled, hearing of ")) or answer.startswith("refused"):
             continue
         key = int(fields[2]), int(fields[3])
-        if fields[1] != "cancel" and (judge is None or judge in fields[4].split("+")):
+        if fields[1] in ("book", "move") and (judge is None or judge in fields[4].split("+")):
             known[key] = Hearing(day_of(fields[6]), seconds(fields[7]) // 900, quarters(fields[8]), fields[4], fields[5],
                                  fields[9], None), False
         elif key in known:
             known[key] = known[key][0], True
     return known
+
+
+def given_to(rows, answers, judge):
+    """The cases that rows assigned or referred to that judge."""
+    assigned = [row.split(",") for number, row in rows.items() if answers.get(number) == "assigned"]
+    return {int(fields[2]) for fields in assigned if judge in fields[3:5]}
 
 
 def named_order(rows, answers):
@@ -193,7 +205,7 @@ def revisions_of(rows, answers):
         if not answers.get(number, "refused").startswith("refused"):
             if fields[1] in ("holiday", "inaccessible"):
                 last[0] = number
-            elif fields[1] in ("start", "set", "file", "extend", "book", "move", "cancel"):
+            elif fields[1] in ("start", "set", "file", "extend", "reset", "end", "resume", "close", "reopen", "rule", "assign", "title", "label", "book", "move", "cancel"):
                 last[int(fields[2])] = number
     return last
 
@@ -207,7 +219,7 @@ def uid(case, kind, number):
 
 def entries_wanted(names, docket, rows, answers, choice, lost=()):
     """The items that a calendar has, in order, each with whether it is off the calendar. Of the deadlines that no row starts any more
-    it has those of the case, where the judge ever had a hearing in it."""
+    it has those of the case, where the case was ever before the judge."""
     first, last, judge, case = choice
     histories = histories_of(rows, answers, judge)
 
@@ -217,21 +229,23 @@ def entries_wanted(names, docket, rows, answers, choice, lost=()):
     def is_judged(item):
         return judge is None or judge in (item.panel or docket.before.get(item.case, ()))
 
-    def has_left(of):
-        had = [off for key, (_, off) in histories.items() if key[0] == of]
-        return judge is not None and bool(had) and all(had)
+    def was_before(of):
+        return judge is None or of in given_to(rows, answers, judge) or any(of == one for one, _ in histories)
+
+    def cancelled(item):
+        return item._replace(summary="Cancelled: " + item.summary), True
     due = sorted(filter(is_chosen, docket.items), key=lambda i: (i.day, i.second, i.case, i.kind, i.number))
-    entries = [(item, False) for item in due if is_judged(item)]
-    entries += [(item._replace(summary="Off this calendar: " + item.summary), True) for item in due
-                if item.kind == 0 and has_left(item.case)]
+    entries = [cancelled(item) if item.ended else (item, False) for item in due if is_judged(item)]
+    entries += [cancelled(item) if item.ended else (item._replace(summary="Off this calendar: " + item.summary), True) for item in due
+                if item.kind == 0 and not is_judged(item) and was_before(item.case)]
     for key in filter(histories.__contains__, named_order(rows, answers)):
         hearing, off = histories[key]
         item = hearing_item(names, *key, hearing)
         if off and is_chosen(item):
-            entries.append((item._replace(summary="Cancelled: " + item.summary), True))
+            entries.append(cancelled(item))
     for item in [lost_item(names, one) for one in lost]:
-        if case in (None, item.case) and (judge is None or item.case in {of for of, _ in histories}):
-            entries.append((item._replace(summary="Cancelled: " + item.summary), True))
+        if case in (None, item.case) and was_before(item.case):
+            entries.append(cancelled(item))
     return entries
 
 
@@ -277,7 +291,7 @@ def rows_of(given, text):
     found = {}
     for place, row in enumerate(rows, 1):
         fields = row.split(",")
-        if fields[1] in ("book", "move", "cancel"):
+        if fields[1] in ("book", "move", "cancel", "rule"):
             fields[3] = str(given.numbers.of("motion", fields[2], fields[3]))
         found[given.numbers.of_row(place)] = ",".join(fields)
     return found

@@ -34,15 +34,25 @@ def booking_line(b):
     return "{} case {} motion {} room {}".format(span(b), b["case"], b["motion"], b["room"])
 
 
+def state(d, done):
+    """The state of a deadline, with the act that was done, and why it is due no more, where it was ended."""
+    if "ended" not in d:
+        return d["state"] + done
+    return d["state"] + done + ", ended " + d["ended"] if done else "ended " + d["ended"]
+
+
 def sheet_lines(sheet):
-    yield "case {} filed {}".format(sheet["case"], sheet["filed"])
+    yield "case {} filed {}".format(sheet["case"], sheet["filed"]) + (", closed {closed} {closing}".format(**sheet) if "closed" in sheet else "")
+    if "assigned" in sheet:
+        yield "assigned " + sheet["judge"] + (", referred to " + sheet["referred"] if sheet["referred"] is not None else "")
     for d in sheet["deadlines"]:
         filed = d["filed"]
         done = "" if filed is None else " {day} {time} {means}".format(**filed)
-        yield "deadline {} {} {} {}{}".format(d["number"], period(d), shown(d), d["state"], done)
+        yield "deadline {} {} {} {}".format(d["number"], period(d), shown(d), state(d, done))
     for m in sheet["motions"]:
         need = "exparte" if m["notice_days"] is None else m["notice_days"]
-        yield "motion {} served {} need {}".format(m["number"], m["served"], need)
+        ruled = ", {ruling} {ruled}".format(**m) if "ruling" in m else ""
+        yield "motion {} served {} need {}{}".format(m["number"], m["served"], need, ruled)
         h = m["hearing"]
         if h is not None:
             yield "hearing {} {} {} notice {} affidavits {}".format(span(h), "+".join(h["judges"]), h["room"], h["notice"],
@@ -55,8 +65,10 @@ def answer_lines(a):
         yield "deadline {} {}".format(a["number"], shown(a))
     elif kind == "filed":
         yield "filed timely" if a["timely"] else "filed late"
-    elif kind == "extended":
-        yield "extended " + shown(a)
+    elif kind in ("extended", "reset", "resumed"):
+        yield kind + " " + shown(a)
+    elif kind == "ruled":
+        yield "ruled" if a["hearing_cancelled"] is None else "ruled, hearing of {} cancelled".format(a["hearing_cancelled"])
     elif kind == "motion":
         yield "motion {}".format(a["number"])
     elif kind == "refused":

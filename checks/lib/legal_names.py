@@ -51,14 +51,30 @@ def set_on(date, capital):
     return None
 
 
+def observed_on(day):
+    """The holiday that is observed on the day in place of a Saturday or a Sunday, or None."""
+    date = datetime.date.fromisoformat(day_text(day))
+    other = {FRIDAY: 1, MONDAY: -1}.get(weekday(day))
+    return None if other is None else set_on(date + datetime.timedelta(other), False)
+
+
+def short(name):
+    """A holiday as it is called where another word follows."""
+    return "Juneteenth" if name.startswith("Juneteenth") else name
+
+
 def legal_name(day):
     """What the day is called where it is in the federal list."""
-    date = datetime.date.fromisoformat(day_text(day))
-    name = set_on(date, True)
+    name = set_on(datetime.date.fromisoformat(day_text(day)), True)
     if name is not None:
         return name
-    other = {FRIDAY: 1, MONDAY: -1}.get(weekday(day))
-    name = None if other is None else set_on(date + datetime.timedelta(other), False)
-    if name is None:
-        return "legal holiday"
-    return ("Juneteenth" if name.startswith("Juneteenth") else name) + ", observed"
+    name = observed_on(day)
+    return "legal holiday" if name is None else short(name) + ", observed"
+
+
+def called(day, name):
+    """What the day is called where it is in the federal list, and the court's file gives it this name, or none."""
+    if not name:
+        return legal_name(day)
+    holiday = observed_on(day)
+    return name + ", observed" * (holiday is not None and name in (holiday, short(holiday)))

@@ -281,7 +281,7 @@ def with_fault(chance, rows):
         elif change == 2:
             fields = fields[:column] or [""]
         elif change == 3:
-            fields[1:2] = [chance.choice(["fly", "Open", "", "shee t", "set"])]
+            fields[1:2] = [chance.choice(["fly", "Open", "", "shee t", "set", "reset", "end", "resume", "close", "rule", "assign", "title"])]
         else:
             fields[column] = chance.choice(JUNK)
         rows[at] = ",".join(fields)

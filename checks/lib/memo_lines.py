@@ -2,6 +2,8 @@
 import datetime
 import re
 
+from lib.period_words import called, heading
+
 
 def closing_of(text):
     """The lines after the last answer: sheets and calendars."""
@@ -24,6 +26,12 @@ def reasons_of(lines):
     return reasons
 
 
+def as_on_page(period, reasons):
+    """The lines below a deadline with its period as a page describes it; None where they don't call it by its Rule."""
+    in_memo, on_page = ("{:18}{:<50}  {}\n".format("", *words(period, None)[0][1:]) for words in (called, heading))
+    return reasons.replace(in_memo, on_page, 1) if in_memo in reasons else None
+
+
 def other_of(reasons):
     """The other reading among the reasons of a deadline that ends first, as what is due marks it, or none. A whole day ends after each
     time of it."""
@@ -38,3 +46,8 @@ def other_day(text):
     """The day of the other reading that a text of a deadline names, or none."""
     found = re.search(r"other reading(?: of the Rules:)? (\d{4}-\d\d-\d\d)", text or "")
     return found and datetime.date.fromisoformat(found[1])
+
+
+def ended_in(words):
+    """Why the deadline is due no more of whose line on a sheet these are the words, or none."""
+    return " ".join(words[words.index("ended") + 1:]) if "ended" in words else None

@@ -7,16 +7,17 @@ from lib.derivation_steps import time_text
 from lib.legal_names import legal_name
 from lib.period_words import right_from
 from reference.civil import civil, day_of_text, day_text, instant_at, minute_text, weekday
-from reference.docket import DATES, DEADLINES, GRANTS, MOTIONS, OUTAGES, STEPS, deadline_of, hearing_of, motion_of, opening, step
-from reference.periods import granted, is_in_range, shown
-from reference.rule6 import AFTER, BEFORE, BEYOND, ELECTRONIC, FILING, PAPER, Filing, is_timely, permitted
+from reference.docket import (DATES, DEADLINES, FACTS, GRANTS, MOTIONS, OUTAGES, STEPS, deadline_of, hearing_of, motion_of, opening,
+                              step)
+from reference.periods import granted, is_in_range, is_order, is_set, shown
+from reference.rule6 import AFTER, BEFORE, BEYOND, ELECTRONIC, FILING, PAPER, Filing, day_end, is_timely, permitted
 
 
 def notes(court, rows, work, answer):
     """What is said of the answer to a command or to a question."""
     if answer[0] == "filed":
         return recorded(court, rows, work)
-    if answer[0] == "extended":
+    if answer[0] in ("extended", "reset"):
         return of_extension(court, rows, work, answer[1])
     if answer[0] == "refused":
         return REFUSED.get(answer[1], nothing)(court, rows, work, answer)
@@ -41,7 +42,7 @@ def end_of(court, end):
 
 
 def docketed(rows, command):
-    found = deadline_of(rows, command[1], command[2]) if command[0] in ("file", "extend") else None
+    found = deadline_of(rows, command[1], command[2]) if command[0] in ("file", "extend", "end", "resume") else None
     return None if found is None else found.row
 
 
@@ -74,7 +75,7 @@ def sources(court, works):
     for number, work in enumerate(works, 1):
         if work[0] in STEPS:
             docket, answer = step(court, docket, work)
-            if answer[0] in ("started", "extended", "filed"):
+            if answer[0] in ("started", "extended", "reset", "filed", "ended", "resumed"):
                 deadline = answer[1] if answer[0] == "started" else work[2]
                 line = (None, "{} by row {}".format(answer[0], number), "docketed")
                 made.setdefault((work[1], deadline), []).append(line)
@@ -96,12 +97,11 @@ def margin(court, row, end, done):
         days = "{} day{}".format(abs(end.end - done.day), "" if abs(end.end - done.day) == 1 else "s")
         early = done.day < end.end
         return "timely, " + days + " before this last day" if early else "late, " + days + " after this last day"
-    closes = court.clock.closes
-    if not files(row) or done.means != PAPER:
-        return "timely, on the last day, which ends at midnight"
-    if done.minute <= closes:
-        return "timely, on the last day, which ends at " + minute_text(closes)
-    return "late, {} min after closing at {}".format(done.minute - closes, minute_text(closes))
+    ends = day_end(court.clock, row.period.act, done.means)
+    if ends is None or done.minute <= ends:
+        return "timely, on the last day, which ends at " + ("midnight" if ends is None else minute_text(ends))
+    what = "closing" if done.means == PAPER else "e-filing ended"
+    return "late, {} min after {} at {}".format(done.minute - ends, what, minute_text(ends))
 
 
 # How far an end lies from a day, and what a reader is warned of
@@ -130,15 +130,17 @@ def starts(row):
 
 
 def runs_from_event(row):
-    """Whether the period is counted after its event: a day that an order sets has none."""
-    return row.period.direction == AFTER and row.period.unit != "set"
+    """Whether the period is counted after its event: an end that an order sets has none."""
+    return row.period.direction == AFTER and not is_set(row.period)
 
 
 def of_extension(court, rows, command, end):
-    """The end that an extension gave was past when it was asked for, or lies after the event that it counts back from."""
+    """The end that an extension gave was past when it was asked for, or an order made, or lies after the event that it counts back
+    from."""
     asked, row = command[3].asked, docketed(rows, command)
     filing = Filing(asked.day, asked.minute, ELECTRONIC)
-    lines = [] if is_timely(court.clock, end, row.period.act, filing) else [note(asked.day, "asked for after the end that it gives")]
+    late = "the order is dated after the end that it sets" if is_order(command[3].grant) else "asked for after the end that it gives"
+    lines = [] if is_timely(court.clock, end, row.period.act, filing) else [note(asked.day, late)]
     return lines + of_end(court, row, end)
 
 
@@ -165,7 +167,7 @@ def of_set_day(rows, day, filed):
 
 def of_deadline(court, rows, row, filed, today):
     """The notes on a deadline of a case that was filed on that day, where it counts from a day or None."""
-    if row.period.unit == "set":
+    if is_set(row.period):
         return of_set_day(rows, row.event.day, filed)
     events = [row.event.day] + ([] if row.second is None else [row.second])
     lines = [note(event, "the event lies before the filing of the case") for event in events if event < filed]
@@ -225,6 +227,11 @@ def not_longer(court, rows, command, answer):
 
 def alone(what, section):
     return lambda court, rows, command, answer: [(None, what, section)]
+
+
+def by_grant(asked, ordered, section):
+    """A line on an extension that was asked for, or on what an order sets."""
+    return lambda court, rows, command, answer: [(None, ordered if is_order(command[3].grant) else asked, section)]
 
 
 # Refusals of hearings. Of `book` and `move` the fields are those of a Hearing: case, motion, judges, room, day, first,
@@ -317,8 +324,16 @@ LENGTHS = {"start": PERIOD, "compute": PERIOD, "extend": "an extension is 1 to 3
 MOST = {"start": "a case has {} deadlines at most".format(DEADLINES),
         "extend": "a deadline has {} extensions at most".format(GRANTS),
         "motion": "a case has {} motions at most".format(MOTIONS),
+        "end": "a case has {} such rows at most".format(FACTS),
+        "resume": "a case has {} such rows at most".format(FACTS),
+        "close": "a case has {} such rows at most".format(FACTS),
+        "reopen": "a case has {} such rows at most".format(FACTS),
+        "rule": "a case has {} such rows at most".format(FACTS),
+        "assign": "a case has {} such rows at most".format(FACTS),
         "holiday": "a list of holidays has {} dates at most".format(DATES),
         "inaccessible": "the docket has {} outages at most".format(OUTAGES)}
+PANEL = "a panel is one to three judges, each once"
+PANELS = {"book": PANEL, "move": PANEL, "assign": "the case is referred to the judge who has it"}
 
 REFUSED = {
     1: alone("the case isn't open; cases are 1 to 4096", "ours"),
@@ -330,7 +345,7 @@ REFUSED = {
     7: unsuited,
     8: span("beyond the days covered, "),
     9: recorded,
-    10: alone("this time must not be extended", "6(b)(2)"),
+    10: by_grant("this time must not be extended", "this time isn't reset to a later end", "6(b)(2)"),
     11: alone("an extension takes good cause, which wasn't found", "6(b)(1)"),
     12: late("a motion is needed"),
     13: late("neglect must be excused"),
@@ -348,6 +363,11 @@ REFUSED = {
     25: by_command(MOST),
     26: alone("the court's file names no such judge", "ours"),
     27: alone("the court's file names no such room", "ours"),
-    28: alone("hours are extended by hours, days by days", "ours"),
-    29: alone("a panel is one to three judges, each once", "ours"),
+    28: by_grant("hours are extended by hours, days by days", "a day is reset to a day, an hour to an hour", "ours"),
+    29: by_command(PANELS),
+    30: alone("the case is closed; `reopen` opens it again", "ours"),
+    31: alone("the case isn't closed; `close` closes one", "ours"),
+    32: taken(" is heard, "),
+    33: alone("the deadline is ended; `resume` takes it up again", "ours"),
+    34: alone("the deadline isn't ended; `end` ends one", "ours"),
 }

@@ -8,7 +8,7 @@ those of others can be placed by themselves. And it gives up where a row that is
 import re
 from collections import namedtuple
 
-from reference.docket import SLOTS, STEPS, Hearing, hearing_of, opening, shares_slots, step, view
+from reference.docket import SLOTS, STEPS, Hearing, assignment_of, hearing_of, opening, ruling_of, shares_slots, step, view
 from reference.text_out import answer_lines, booking_line, closing_lines
 
 # A row, and the lines of the answer to it. `reads` and `writes` are sets of parts of the docket, a bit each.
@@ -81,10 +81,32 @@ class Parts:
             count = self.set_of((word, case), *["court"] * (word == "start"))
             made = self.set_of((word, case, int(first[1]))) if not refusal else 0
             return here | count, self.set_of((word, case)) | made | changed
+        if word in ("close", "reopen"):
+            return here | self.set_of(("facts", case), "court", "hearings"), here | changed
+        if word == "assign":
+            facts = self.set_of(("facts", case))
+            return here | facts | self.set_of("court"), facts | changed
+        if word == "title":
+            return here | self.set_of(("facts", case), "court"), 0
+        if word == "label":
+            named = self.set_of(("start" if work[2] == "deadline" else "motion", case, work[3]))
+            return here | named | self.set_of(("facts", case), "court"), 0
+        if word in ("end", "resume"):
+            deadline, facts = self.set_of(("start", case, work[2])), self.set_of(("facts", case))
+            return here | deadline | facts | self.set_of("court"), facts | changed
+        if word == "rule":
+            return self.of_ruling(work, first, here | self.set_of(("motion", case, work[2])), changed)
         if word in ("file", "extend"):
             deadline = self.set_of(("start", case, work[2]))
             return here | deadline | (self.set_of("court") if refusal != 3 else 0), deadline | changed
         return self.of_hearing(work, refusal, here | self.set_of(("motion", case, work[2])), changed)
+
+    def of_ruling(self, work, first, there, changed):
+        """A ruling changes the hearing of its motion where it took it off."""
+        motion = work[1:3]
+        hearing, facts, times = self.set_of(("hearing",) + motion), self.set_of(("facts", motion[0])), self.times.get(motion, 0)
+        taken = hearing | times | self.set_of("hearings") if first[0] == "ruled," else 0
+        return there | hearing | facts | times | self.set_of("court"), facts | changed | taken
 
     def of_hearing(self, work, refusal, there, changed):
         motion = work[1:3]
@@ -322,7 +344,10 @@ def key_of(moment):
     days, *lists = moment.docket
     days = [sorted(map(str, dates)) for dates in (days.federal, days.state, days.outages)]
     rows = [sorted(map(str, items)) for items in lists]
-    return moment.places, tuple(query.row for queries in moment.waiting for query in queries), hash(str((days, rows)))
+    # of two rulings on a motion the later row counts, and of two assignments of one day
+    ruled = sorted(str(ruling_of(moment.docket, motion.case, motion.number)) for motion in moment.docket.motions)
+    assigned = sorted(str(assignment_of(moment.docket, case.number)) for case in moment.docket.cases)
+    return moment.places, tuple(query.row for queries in moment.waiting for query in queries), hash(str((days, rows, ruled, assigned)))
 
 
 def numbers_in(order):

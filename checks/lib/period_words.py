@@ -1,5 +1,9 @@
-"""The lines that come before the reasons of a deadline: its period in words, the section that sets it, and its event."""
+"""The lines that come before the reasons of a deadline: its period in words, the section that sets it, and its event. On a page it is
+described, and in a memo called by its Rule.
+"""
 import re
+
+from lib.written_fields import ENTERED
 
 # Of the periods of the Rules: the number of days, what is to be done, the section, and the event.
 ANSWER, WAIVED = "12(a)(1)(A)(ii)", "from when the request for a waiver was sent"
@@ -60,3 +64,20 @@ def heading(text, event):
         section, what = MARKS[mark]
         lines.append((None, what, section))
     return lines
+
+
+def citation(section):
+    """A section as a memo cites it: before one of the Federal Rules of Civil Procedure stands `Rule`."""
+    return ("Rule " if re.match("[0-9]", section) and " U.S.C. " not in section else "") + section
+
+
+def called(text, event):
+    """The lines of a period as a memo calls it. A period of the Rules is called by its section; behind an entered one are the sections
+    of docs/law/RULES.md with such a period, or its code where there is none."""
+    (day, what, where), *others = heading(text, event)
+    if text in RULES:
+        days, words, section, _ = RULES[text]
+        return [(day, "Rule {}: {}, {}".format(section, words, counted(days, "day")), where)] + others
+    sections = [citation(section) for section, texts in ENTERED.items() if text in texts]
+    back = ", as in " + ", ".join(sections) if sections else " ({})".format(text)
+    return [(day, what + back, where)] + others

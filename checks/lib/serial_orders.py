@@ -12,7 +12,7 @@ from lib.order_search import FULL, NoOrder, Search
 from reference.docket import STEPS, opening, step, view
 from reference.text_out import answer_lines, closing_lines
 
-OF_SHEET = ("deadline ", "motion ", "hearing ")
+OF_SHEET = ("assigned ", "deadline ", "motion ", "hearing ")
 
 
 def explained(court, rows, clerks, limit, text):

@@ -168,10 +168,10 @@ def explained(sessions, kept, before):
 def replayed(journal):
     """Decides each row of a journal on all before it, by the reference in Python, and compares the answers: the replay, which has what
     each row is answered now."""
-    rows, struck, replay = [], set(), Replay(court_of(journal.entries[0]), [], set(), {})
+    rows, struck, replay = [], set(), Replay(court_of(journal.entries[0], True), [], set(), {})
     for entry in journal.entries[1:]:
         if entry.startswith(CORRECTIONS):
-            court = court_of(entry.partition(b"\n")[2]) if entry.startswith(COURT_MARK) else replay.court
+            court = court_of(entry.partition(b"\n")[2], True) if entry.startswith(COURT_MARK) else replay.court
             if not entry.startswith(COURT_MARK):
                 row = {int(entry.partition(b"\n")[0].split(b" ")[1])}
                 struck = struck | row if entry.startswith(STRIKE_MARK) else struck - row

@@ -68,7 +68,47 @@ def spoiled():
     order = "1,set,12,2025-11-03,,filing"
     for name, act in [("another word", "answer"), ("a misspelt word", "filling"), ("nothing", "")]:
         way(name + " as an act", put(order, "filing", act))
-    way("a time for a day that an order sets", put(order, ",,", ",9:30,"))
+    for name, time in [("half past nine without a zero", "9:30"), ("a time past the end of the day", "24:30"), ("noon in words", "noon")]:
+        way(name + " as the time that an order sets", put(order, ",,", ",{},".format(time)))
+    # other ends that orders set
+    other = "1,reset,12,2,2025-11-20,,2025-11-10"
+    for name, date in [("a date that may be two", "11/10/2025"), ("nothing", "")]:
+        way(name + " as the day of an order", put(other, "2025-11-10", date))
+    way("a time in place of the end that an order sets", put(other, "2025-11-20", "09:30"))
+    # deadlines that are ended and resumed
+    end, resume = "1,end,12,2,moot,2025-10-06", "1,resume,12,2,,2025-10-20"
+    for name, why in [("another word", "settled"), ("a misspelt word", "vacatd"), ("nothing", "")]:
+        way(name + " as why a deadline is ended", put(end, "moot", why))
+    way("a day of an order that is none", put(end, "2025-10-06", "9/31/2025"))
+    way("a day for a deadline that is resumed", put(resume, ",,", ",2025-11-03,"))
+    way("the day of an order in the place before it", put(resume, ",,", ","))
+    # cases that are closed
+    close = "1,close,12,settled,2025-11-03"
+    for name, why in [("another word", "moot"), ("a misspelt word", "setled"), ("nothing", "")]:
+        way(name + " as how a case is closed", put(close, "settled", why))
+    way("how a case is closed left out", put(close, "settled,", ""))
+    way("a deadline in a row that reopens a case", "1,reopen,12,2,2025-11-03")
+    # motions that are ruled on
+    rule = "1,rule,12,2,granted,2025-11-03"
+    for name, ruling in [("another word", "settled"), ("a misspelt word", "grantd"), ("nothing", "")]:
+        way(name + " as how a motion is ruled on", put(rule, "granted", ruling))
+    way("how a motion is ruled on left out", put(rule, "granted,", ""))
+    way("a day of a ruling that is none", put(rule, "2025-11-03", "9/31/2025"))
+    # cases that are assigned
+    assign = "1,assign,12,Ames,Brandt,2025-09-08"
+    way("a misspelt judge to whom a case is referred", put(assign, "Brandt", "Brant"))
+    way("two judges to whom a case is assigned", put(assign, "Ames", "Ames+Brandt"))
+    way("no judge to whom a case is assigned", put(assign, "Ames", ""))
+    way("the judge to whom a case is referred left out with the comma", put(assign, "Brandt,", ""))
+    way("the same judge twice where a case is assigned", put(assign, "Brandt", "Ames"))
+    way("the judge to whom a case is referred under a heading", "clerk,command,case,judge,referred to,dated", put(assign, "Brandt", "brandt"))
+    # what cases, deadlines and motions are called
+    label = "1,label,12,deadline,2,answer of Acme"
+    for name, of in [("another word", "case"), ("a misspelt word", "dedline"), ("nothing", "")]:
+        way(name + " as what is called something", put(label, "deadline", of))
+    way("nothing as what a case is called", "1,title,12,")
+    way("an accent in what a case is called", "1, title, 12, Marie-\u00c8ve")
+    way("the number of a deadline in words", put(label, ",2,", ",two,"))
     # numbers
     for name, case in [("a real case number", "1:25-cv-01234-ABC"), ("a leading zero", "012"), ("a hash before it", "#12"), ("a word before it", "case 12"),
                        ("a number as spreadsheets write it", "7.0"), ("a blank in it", "1 2"), ("a dot in it", "1.2"), ("a dot before it", ".5"), ("a dot after it", "7."),
@@ -128,9 +168,9 @@ def spoiled():
     for name, holidays in [("a misspelt list", "fedral"), ("another list", "county"), ("nothing", ""), ("both lists", "federal and state")]:
         way(name, "1,holiday,2025-12-24," + holidays)
     # command words
-    for name, word in [("a misspelt command", "opne"), ("another command", "close"), ("nothing", ""), ("strike", "strike"), ("a command in another tongue", "eröffnen")]:
+    for name, word in [("a misspelt command", "opne"), ("another command", "delete"), ("nothing", ""), ("strike", "strike"), ("a command in another tongue", "eröffnen")]:
         way(name + " as a command", "1,{},12,2025-09-02".format(word))
-    for word in ["strat", "flie", "extened", "moton", "boook", "mvoe", "cancle", "hoilday", "inaccesible", "sheets", "calender", "computes", "opens"]:
+    for word in ["strat", "flie", "extened", "moton", "boook", "mvoe", "cancle", "hoilday", "inaccesible", "sheets", "calender", "computes", "opens", "rest"]:
         way("a misspelt command " + word, "1,{},12,2025-09-02".format(word))
     way("the clerk left out", "open,12,2025-09-02")
     way("the command and the case changed about", "1,12,open,2025-09-02")

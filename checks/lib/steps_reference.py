@@ -14,7 +14,8 @@ Hand = namedtuple("Hand", "command reads")
 # A part that was read, the length of the history then, and the lists as they were then.
 Read = namedtuple("Read", "part length rows")
 
-ABOUT_CASE = {"open": False, "motion": False, "start": True, "file": True, "extend": True}
+ABOUT_CASE = {"open": False, "motion": False, "start": True, "file": True, "extend": True, "end": True, "resume": True, "close": True,
+              "reopen": True, "rule": True, "assign": True, "title": True, "label": True}
 
 
 def opening_world(court, clerks):
@@ -53,7 +54,8 @@ def wanted(court, command, rows):
         return [case_part(command), "court"] + old + calendars(court, command[3], command[4])
     if word == "cancel":
         return [case_part(command)] + calendars_now(court, rows, command)
-    return [case_part(command)] + (["court"] if ABOUT_CASE[word] else [])
+    parts = [case_part(command)] + (["court"] if ABOUT_CASE[word] else [])
+    return parts + (calendars_now(court, rows, command) if word == "rule" else [])
 
 
 def next_part(court, hand):
@@ -71,9 +73,15 @@ def written(court, rows, command):
     parts = {case_part(command)}
     if word in ("book", "move"):
         parts.update(calendars(court, command[3], command[4]))
-    if word in ("move", "cancel"):
+    if word in ("move", "cancel") or word == "rule" and takes_off(rows, command):
         parts.update(calendars_now(court, rows, command))
     return parts
+
+
+def takes_off(rows, command):
+    """Whether a ruling takes the hearing of its motion off, which is on a later day."""
+    old = hearing_of(rows, command[1], command[2])
+    return old is not None and old.day > command[4]
 
 
 def with_hand(world, clerk, hand):

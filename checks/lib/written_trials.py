@@ -89,11 +89,11 @@ def check_misspelt(desk, draw, count):
 
 
 def defined():
-    """The sections of the definition, by book and number, each with its texts."""
+    """The sections of the definition, by book and number, each as it is cited and with its texts."""
     sections = re.findall(r'(?:one_period|two_periods) ([A-Za-z]+)((?: \(codes "[^"]*"\))+)', NAMED.read_text())
     texts = [(book, re.findall('"([^"]*)"', given)) for book, given in sections]
-    assert len(texts) == len({(book, given[0]) for book, given in texts}), "a section is defined twice"
-    return {(book, given[0]): given[1:] for book, given in texts}
+    assert len(texts) == len({(book, given[1]) for book, given in texts}), "a section is defined twice"
+    return {(book, given[1]): (given[0], given[2:]) for book, given in texts}
 
 
 def check_definition():
@@ -101,7 +101,8 @@ def check_definition():
     documented = {}
     for section, texts in ENTERED.items():
         before, number = parted(section)
-        documented["UnitedStatesCode" if is_statute(section) else BOOKS[before], folded(number)] = texts
+        book = "UnitedStatesCode" if is_statute(section) else BOOKS[before]
+        documented[book, folded(number)] = number if book == "CivilRules" else section, texts
     assert defined() == documented, [(key, defined().get(key), documented.get(key)) for key in set(defined()) | set(documented)
                                      if defined().get(key) != documented.get(key)]
 

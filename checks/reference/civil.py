@@ -23,8 +23,9 @@ Change = namedtuple("Change", "month week weekday seconds")
 # The offset of standard time; that of daylight saving time and the two changes are None where there is none.
 Zone = namedtuple("Zone", "standard daylight begins ends")
 
-# When the office is scheduled to open and to close, in minutes after midnight.
-Clock = namedtuple("Clock", "zone opens closes")
+# When the office is scheduled to open and to close, and to when a last day runs for electronic filing, in minutes after midnight;
+# None where it runs to midnight.
+Clock = namedtuple("Clock", "zone opens closes efiling_until", defaults=[None])
 
 
 class CannotTell(Exception):

@@ -43,7 +43,8 @@ def split(data):
     return data, b""
 
 
-def court_of(data):
+def court_of(data, at_desk=False):
+    """The court, as clerk_office reads its file, or as the desk does, which reads one key more."""
     table = table_of(data)
     zone = zone_of_text(text_at(table, "zone"))
     if zone is None:
@@ -60,7 +61,8 @@ def court_of(data):
     state = dates_at(table, "state", first, last)
     judges = names_at(table, "judges")
     rooms = names_at(table, "rooms")
-    return Court(Clock(zone, opens, closes), Days(first, last, federal, state, []), judges, rooms)
+    until = minute_at(table, "efiling_until") if at_desk and "efiling_until" in table else None
+    return Court(Clock(zone, opens, closes, until), Days(first, last, federal, state, []), judges, rooms)
 
 
 def value_at(table, key, kind):
@@ -136,7 +138,7 @@ def table_of(data):
 
 def small_table_of(text):
     """The table of lines `KEY = VALUE`, where VALUE is a plain text, a number, or a list of them, also over lines."""
-    token = re.compile(r'[ \t]*("[^"\\\x00-\x1f\x7f]*"|[0-9]+|[A-Za-z]+|[=\[\],]|(?:#[^\r\n]*)?(?:\r?\n|\Z))')
+    token = re.compile(r'[ \t]*("[^"\\\x00-\x1f\x7f]*"|[0-9]+|[A-Za-z_]+|[=\[\],]|(?:#[^\r\n]*)?(?:\r?\n|\Z))')
     tokens, at = deque(), 0
     while at < len(text):
         found = token.match(text, at)
@@ -148,7 +150,7 @@ def small_table_of(text):
         key = tokens.popleft()
         if is_end(key):
             continue
-        expect(key.isalpha() and key not in table and tokens and tokens.popleft() == "=")
+        expect(re.fullmatch("[A-Za-z_]+", key) and key not in table and tokens and tokens.popleft() == "=")
         table[key] = small_value(tokens)
         expect(not tokens or is_end(tokens.popleft()))
     return table

@@ -1,24 +1,32 @@
-"""The docket of one thread: five lists of rows, and what each command and query makes of them.
+"""The docket of one thread: six lists of rows, and what each command and query makes of them.
 
 A command is a tuple of its word and its fields, an answer a tuple of its word and what belongs to it. A refusal is
 ("refused", number, ..). No list is ever changed in place.
 """
 from collections import namedtuple
 
-from .periods import Deadline, granted, refused_extension, refused_start, shown
+from .periods import Deadline, granted, is_order, refused_extension, refused_start, shown
 from .rule6 import AFTER, BEYOND, Outage, covered, has_outage, is_timely, notice_day, permitted
 
-Rows = namedtuple("Rows", "days cases deadlines motions hearings")
+Rows = namedtuple("Rows", "days cases deadlines motions hearings facts")
 Case = namedtuple("Case", "number filed")
 DeadlineOf = namedtuple("DeadlineOf", "case number row")
 # `need` is a number of days, or None where the motion may be heard ex parte
 Motion = namedtuple("Motion", "case number served need")
 # `judges` is a tuple of numbers, `first` and `count` are slots of 15 minutes, `notice` is the day it was served
 Hearing = namedtuple("Hearing", "case motion judges room day first count notice")
+# That a deadline of a case was ended, and why, or that it was resumed: then `why` is None. Where `deadline` is None it is the case
+# that was closed, and how, or reopened. `dated` is the day of the order or the paper
+Fact = namedtuple("Fact", "case deadline why dated")
+# How a motion of a case was ruled on: it is among the facts
+Ruling = namedtuple("Ruling", "case motion how dated")
+# That a judge has a case, by number, and to which other judge it is referred: None where it is to none. It is one of the facts too
+Assignment = namedtuple("Assignment", "case judge referred dated")
 
 CASES = 4096
 DEADLINES = MOTIONS = 64
 GRANTS = 32
+FACTS = 512
 DATES = 4096
 OUTAGES = 512
 SLOTS = 96
@@ -30,7 +38,7 @@ class Refused(Exception):
 
 
 def opening(court):
-    return Rows(court.days, [], [], [], [])
+    return Rows(court.days, [], [], [], [], [])
 
 
 def step(court, rows, command):
@@ -81,12 +89,48 @@ def hearing_of(rows, case, motion):
     return next((hearing for hearing in rows.hearings if (hearing.case, hearing.motion) == (case, motion)), None)
 
 
+def last_fact(rows, case, number):
+    """The last fact of a deadline, or of the case itself where the number is None, unless it resumed or reopened it."""
+    found = next((fact for fact in reversed(rows.facts) if isinstance(fact, Fact) and (fact.case, fact.deadline) == (case, number)), None)
+    return found if found is not None and found.why is not None else None
+
+
+def closing_of(rows, case):
+    """The fact by which a case is closed. None where it isn't."""
+    return last_fact(rows, case, None)
+
+
+def assignment_of(rows, case):
+    """The assignment of a case that counts: that of the latest day, and of one day that of the last row. None where it has none."""
+    facts = [fact for fact in rows.facts if isinstance(fact, Assignment) and fact.case == case]
+    return max(reversed(facts), key=lambda fact: fact.dated, default=None)
+
+
+def ending_of(rows, case, number):
+    """Why a deadline is due no more: its case is closed, or it was ended. None where it is due."""
+    if closing_of(rows, case) is not None:
+        return "case closed"
+    found = last_fact(rows, case, number)
+    return None if found is None else found.why
+
+
+def ruling_of(rows, case, number):
+    """The last ruling on a motion. None where there is none."""
+    return next((fact for fact in reversed(rows.facts) if isinstance(fact, Ruling) and (fact.case, fact.motion) == (case, number)), None)
+
+
 def replaced(items, old, new):
     return [new if item is old else item for item in items]
 
 
 def refuse_no_case(rows, case):
     refuse(not 1 <= case <= CASES or case_of(rows, case) is None, 1)
+
+
+def refuse_shut(rows, case):
+    """A closed case takes no command but the one that reopens it."""
+    refuse_no_case(rows, case)
+    refuse(closing_of(rows, case) is not None, 30)
 
 
 # Commands: cases and deadlines
@@ -100,7 +144,7 @@ def open_case(court, rows, case, filed):
 
 
 def start(court, rows, case, period, event, second, kind):
-    refuse_no_case(rows, case)
+    refuse_shut(rows, case)
     number = refused_start(rows.days, period, event, second, kind)
     refuse(number is not None, number)
     place = len(deadlines_of(rows, case)) + 1
@@ -112,7 +156,7 @@ def start(court, rows, case, period, event, second, kind):
 
 
 def file_act(court, rows, case, number, filing):
-    refuse_no_case(rows, case)
+    refuse_shut(rows, case)
     old = deadline_of(rows, case, number)
     refuse(old is None, 3)
     refuse(not covered(rows.days, filing.day), 5)
@@ -125,7 +169,7 @@ def file_act(court, rows, case, number, filing):
 
 
 def extend(court, rows, case, number, request):
-    refuse_no_case(rows, case)
+    refuse_shut(rows, case)
     old = deadline_of(rows, case, number)
     refuse(old is None, 3)
     refuse(old.row.filed is not None, 9)
@@ -134,14 +178,95 @@ def extend(court, rows, case, number, request):
     refuse(len(old.row.grants) >= GRANTS, 25)
     new = old._replace(row=granted(old.row, request.grant))
     return (rows._replace(deadlines=replaced(rows.deadlines, old, new)),
-            ("extended", shown(rows.days, court.clock, new.row)))
+            ("reset" if is_order(request.grant) else "extended", shown(rows.days, court.clock, new.row)))
+
+
+# Commands: facts of a case
+
+
+def end(court, rows, case, number, why, dated):
+    old = deadline_for_fact(rows, case, number, dated)
+    refuse(ending_of(rows, case, number) is not None, 33)
+    return with_fact(rows, Fact(case, old.number, why, dated)), ("ended",)
+
+
+def resume(court, rows, case, number, dated):
+    old = deadline_for_fact(rows, case, number, dated)
+    refuse(ending_of(rows, case, number) is None, 34)
+    now = shown(rows.days, court.clock, old.row)
+    refuse(now == BEYOND, 8)
+    return with_fact(rows, Fact(case, old.number, None, dated)), ("resumed", now)
+
+
+def deadline_for_fact(rows, case, number, dated):
+    """The deadline that a fact is about: one without an act."""
+    refuse_shut(rows, case)
+    old = deadline_of(rows, case, number)
+    refuse(old is None, 3)
+    refuse(not covered(rows.days, dated), 5)
+    refuse(old.row.filed is not None, 9)
+    return old
+
+
+def close(court, rows, case, why, dated):
+    refuse_shut(rows, case)
+    refuse(not covered(rows.days, dated), 5)
+    for of_motion in motions_of(rows, case):
+        hearing = hearing_of(rows, case, of_motion.number)
+        refuse(hearing is not None and hearing.day > dated, 32, case, of_motion.number)
+    return with_fact(rows, Fact(case, None, why, dated)), ("closed",)
+
+
+def reopen(court, rows, case, dated):
+    refuse_no_case(rows, case)
+    refuse(closing_of(rows, case) is None, 31)
+    refuse(not covered(rows.days, dated), 5)
+    return with_fact(rows, Fact(case, None, None, dated)), ("reopened",)
+
+
+def rule(court, rows, case, number, how, dated):
+    """A ruling, of whatever kind, takes the hearing off if it is on a later day."""
+    refuse_shut(rows, case)
+    refuse(motion_of(rows, case, number) is None, 4)
+    refuse(not covered(rows.days, dated), 5)
+    after = with_fact(rows, Ruling(case, number, how, dated))
+    old = hearing_of(rows, case, number)
+    if old is None or old.day <= dated:
+        return after, ("ruled", None)
+    return after._replace(hearings=[hearing for hearing in after.hearings if hearing is not old]), ("ruled", old.day)
+
+
+def assign(court, rows, case, judge, referred, dated):
+    refuse_shut(rows, case)
+    refuse(any(number is not None and number >= len(court.judges) for number in (judge, referred)), 26)
+    refuse(judge == referred, 29)
+    refuse(not covered(rows.days, dated), 5)
+    return with_fact(rows, Assignment(case, judge, referred, dated)), ("assigned",)
+
+
+def title(court, rows, case):
+    """What a case is called is no part of the docket; it is decided alone whether it may be said."""
+    refuse_shut(rows, case)
+    return rows, ("titled",)
+
+
+def label(court, rows, case, of, number):
+    refuse_shut(rows, case)
+    refuse(of == "deadline" and deadline_of(rows, case, number) is None, 3)
+    refuse(of == "motion" and motion_of(rows, case, number) is None, 4)
+    return rows, ("labelled",)
+
+
+def with_fact(rows, fact):
+    refuse(sum(other.case == fact.case for other in rows.facts) >= FACTS, 25)
+    return rows._replace(facts=rows.facts + [fact])
 
 
 # Commands: motions and hearings
 
 
 def motion(court, rows, case, served, need):
-    refuse_no_case(rows, case)
+    refuse_shut(rows, case)
     refuse(not covered(rows.days, served), 5)
     refuse(need is not None and not 1 <= need <= 365, 6)
     place = len(motions_of(rows, case)) + 1
@@ -162,7 +287,7 @@ def move(court, rows, *fields):
 def hearing_asked(court, rows, asked, moved):
     """The hearing and the motion's old one, where none of the refusals applies."""
     days = rows.days
-    refuse_no_case(rows, asked.case)
+    refuse_shut(rows, asked.case)
     of_motion = motion_of(rows, asked.case, asked.motion)
     refuse(of_motion is None, 4)
     refuse(any(judge >= len(court.judges) for judge in asked.judges), 26)
@@ -198,7 +323,7 @@ def refuse_clash(clashes, number):
 
 
 def cancel(court, rows, case, number):
-    refuse_no_case(rows, case)
+    refuse_shut(rows, case)
     refuse(motion_of(rows, case, number) is None, 4)
     old = hearing_of(rows, case, number)
     refuse(old is None, 16)
@@ -260,6 +385,7 @@ def calendar_of(rows, judge):
     return sorted(of_judge, key=lambda hearing: (hearing.day, hearing.first))
 
 
-STEPS = {"open": open_case, "start": start, "file": file_act, "extend": extend, "motion": motion, "book": book,
-         "move": move, "cancel": cancel, "holiday": holiday, "inaccessible": inaccessible}
+STEPS = {"open": open_case, "start": start, "file": file_act, "extend": extend, "end": end, "resume": resume, "close": close,
+         "reopen": reopen, "rule": rule, "assign": assign, "title": title, "label": label, "motion": motion, "book": book, "move": move, "cancel": cancel,
+         "holiday": holiday, "inaccessible": inaccessible}
 VIEWS = {"sheet": sheet, "calendar": calendar, "compute": compute}

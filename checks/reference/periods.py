@@ -7,8 +7,9 @@ from .rule6 import (AFTER, BEFORE, BEYOND, ELECTRONIC, FILING, SERVICE, Filing, 
                     end_of_hours, is_timely, last_day, rolled, with_access, with_access_hours)
 
 # `kind` and `second` say whether a kind of service and a second day are "required", "none" or "noted" (may be);
-# `unit` is "d" or "h", or "set" where an order sets the end and nothing is counted; `added` says that the period runs from service under Rule 5(b)(2); `extended` is under which
-# rule it may be extended: "4m", "6b" or "never".
+# `unit` is "d" or "h", or, where an order sets the end and nothing is counted, "set" for a day and "at" for a time of it;
+# `added` says that the period runs from service under Rule 5(b)(2); `extended` is under which rule it may be extended: "4m",
+# "6b" or "never".
 Period = namedtuple("Period", "text count unit direction act kind second added extended")
 
 RULES = {period.text: period for period in (
@@ -32,7 +33,8 @@ Event = namedtuple("Event", "day minute")
 # What a deadline is computed from; `filed` is the act, or None.
 Deadline = namedtuple("Deadline", "period event second kind grants filed")
 
-# An extension: "d" or "h" with a number, or "until" with a day.
+# An extension: "d" or "h" with a number, or "until" with a day; or what an order sets: "reset" with a day, or "reset at" with a
+# day and a minute of it.
 Grant = namedtuple("Grant", "unit value")
 Request = namedtuple("Request", "grant asked motion cause neglect")
 
@@ -49,13 +51,28 @@ def period_of_text(text):
                   "6b" if mark == "plain" else "never")
 
 
-def set_to(act):
-    """The period of an act that an order wants by the day of the event."""
-    return Period("set/" + act, 0, "set", AFTER, act, "none", "none", False, "6b")
+def set_to(act, timed):
+    """The period of an act that an order wants by the day of the event, or by its minute."""
+    return Period("set/" + act, 0, "at" if timed else "set", AFTER, act, "none", "none", False, "6b")
+
+
+def is_set(period):
+    """Whether an order sets the period's end."""
+    return period.unit in ("set", "at")
+
+
+def ends_at_instant(period):
+    """Whether the period ends at an instant, and not with a day."""
+    return period.unit in ("h", "at")
+
+
+def is_order(grant):
+    """Whether an order sets the end itself."""
+    return grant.unit in ("reset", "reset at")
 
 
 def is_in_range(unit, count):
-    return unit == "set" or 1 <= count <= (3650 if unit == "d" else 8760)
+    return unit in ("set", "at") or 1 <= count <= (3650 if unit == "d" else 8760)
 
 
 def refused_start(days, period, event, second, kind):
@@ -74,8 +91,9 @@ def suits(wanted, given):
 
 
 def fits(period, grant):
-    """An extension by hours is for a period in hours, one by days or to a date for a period in days."""
-    return (grant.unit == "h") == (period.unit == "h")
+    """An extension by hours or to a time is for a period that ends at an instant, one by days or to a date for one that ends with a
+    day."""
+    return (grant.unit in ("h", "reset at")) == ends_at_instant(period)
 
 
 def extended(days, clock, deadline):
@@ -83,6 +101,8 @@ def extended(days, clock, deadline):
     period, event = deadline.period, deadline.event
     if period.unit == "set":
         end = event.day
+    elif period.unit == "at":
+        end = instant_at(clock.zone, event.day, 60 * event.minute)
     elif period.unit == "d":
         day = event.day if deadline.second is None else max(event.day, deadline.second)
         added = period.added and adds_three(deadline.kind, event.day)
@@ -93,8 +113,10 @@ def extended(days, clock, deadline):
     for grant in deadline.grants:
         if not fits(period, grant):
             end = None
-        elif grant.unit == "until":
+        elif grant.unit in ("until", "reset"):
             end = grant.value
+        elif grant.unit == "reset at":
+            end = instant_at(clock.zone, grant.value.day, 60 * grant.value.minute)
         elif end is not None and grant.unit == "d":
             end = rolled(days, end + grant.value, AFTER)
         elif end is not None:
@@ -105,24 +127,39 @@ def extended(days, clock, deadline):
 def shown(days, clock, deadline):
     """6(a), (b), (d): what is shown of the deadline."""
     end = extended(days, clock, deadline)
-    to_date = deadline.grants[-1].unit == "until" if deadline.grants else deadline.period.unit == "set"
+    to_date = deadline.grants[-1].unit not in ("d", "h") if deadline.grants else is_set(deadline.period)
     if end is not None and deadline.period.act == FILING and not to_date:
         direction = AFTER if deadline.grants else deadline.period.direction
-        if deadline.period.unit == "h":
+        if ends_at_instant(deadline.period):
             end = with_access_hours(days, clock, end, direction)
         else:
             end = with_access(days, end, direction)
     if end is None:
         return BEYOND
-    return Shown("until" if deadline.period.unit == "h" else "last", end)
+    return Shown("until" if ends_at_instant(deadline.period) else "last", end)
 
 
 def granted(deadline, grant):
     return deadline._replace(grants=deadline.grants + [grant])
 
 
+def refused_order(days, clock, deadline, request):
+    """The refusal of another end that an order sets, its number, or None. What 6(b)(2) bars gets no later one."""
+    grant = request.grant
+    day = grant.value if grant.unit == "reset" else grant.value.day
+    if not covered(days, request.asked.day) or not covered(days, day):
+        return 5
+    now, then = shown(days, clock, deadline), shown(days, clock, granted(deadline, grant))
+    no_later = BEYOND not in (now, then) and now.kind == then.kind and then.end <= now.end
+    if deadline.period.extended == "never" and not no_later:
+        return 10
+    return None if fits(deadline.period, grant) else 28
+
+
 def refused_extension(days, clock, deadline, request):
-    """6(b): the refusal of the extension, its number, or None."""
+    """6(b): the refusal of the extension, or of what an order sets, its number, or None."""
+    if is_order(request.grant):
+        return refused_order(days, clock, deadline, request)
     grant, asked, period = request.grant, request.asked, deadline.period
     if not covered(days, asked.day) or (grant.unit == "until" and not covered(days, grant.value)):
         return 5

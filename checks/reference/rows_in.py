@@ -108,15 +108,23 @@ def time_or_none(text, court):
     return 0 if text == "" else minute_of_text(text)
 
 
-def no_time(text, court):
-    """The time of a day that an order sets as a whole."""
-    return 0 if text == "" else None
+def given_time(text, court):
+    """A list of the minute, or an empty one where no time is given."""
+    if text == "":
+        return []
+    minute = minute_of_text(text)
+    return None if minute is None else [minute]
 
 
 def quarter(text, court):
     """A slot of 15 minutes, by its time."""
     minute = minute_of_text(text)
     return minute // 15 if minute is not None and minute % 15 == 0 else None
+
+
+def no_day(text, court):
+    """The day of a deadline that is resumed as it was."""
+    return [] if text == "" else None
 
 
 def date_or_none(text, court):
@@ -134,6 +142,11 @@ def kind(text, court):
 
 def one_of(*words):
     return lambda text, court: text if text in words else None
+
+
+def called(text, court):
+    """What something is called: 1 to 200 bytes without control characters."""
+    return None if not 1 <= len(text.encode()) <= TEXT_BYTES or CONTROL.search(text) else text
 
 
 def period(text, court):
@@ -173,6 +186,10 @@ def judge(text, court):
     return place(court.judges, text)
 
 
+def judge_or_none(text, court):
+    return [] if text == "" else [place(court.judges, text)]
+
+
 def room(text, court):
     return place(court.rooms, text)
 
@@ -204,8 +221,24 @@ COLUMNS = {
     "sheet": [number],
     "calendar": [judge, date],
 }
+TEXT_BYTES = 200
+# A control character, of ASCII or after it.
+CONTROL = re.compile("[\x00-\x1f\x7f-\x9f]")
+WHY = one_of("moot", "vacated", "stayed", "suspended", "withdrawn")
 # The forms that the desk alone takes.
-DESK_COLUMNS = {**COLUMNS, "set": [number, date, no_time, one_of("filing", "service")]}
+DESK_COLUMNS = {
+    **COLUMNS,
+    "set": [number, date, given_time, one_of("filing", "service")],
+    "reset": [number, number, date, given_time, date],
+    "end": [number, number, WHY, date],
+    "resume": [number, number, no_day, date],
+    "close": [number, one_of("dismissed", "judgment", "settled", "transferred", "remanded", "otherwise"), date],
+    "reopen": [number, date],
+    "rule": [number, number, one_of("granted", "denied", "in part", "moot", "withdrawn", "reserved"), date],
+    "assign": [number, judge, judge_or_none, date],
+    "title": [number, called],
+    "label": [number, one_of("deadline", "motion"), number, called],
+}
 WORKS = {
     "open": lambda case, filed: ("open", case, filed),
     "start": lambda case, *rest: ("start", case) + asked_period(*rest),
@@ -220,12 +253,31 @@ WORKS = {
     "inaccessible": lambda day, begin, end: ("inaccessible", day, begin, end),
     "sheet": lambda case: ("sheet", case),
     "calendar": lambda of_judge, day: ("calendar", of_judge, day),
-    "set": lambda case, day, minute, act: ("start", case, set_to(act), Event(day, minute), None, None),
+    "set": lambda case, day, minute, act: ("start", case, set_to(act, bool(minute)), Event(day, only(minute) or 0), None, None),
+    "reset": lambda case, deadline, day, minute, dated: ("extend", case, deadline, order(reset_to(day, minute), dated)),
+    "end": lambda case, deadline, why, dated: ("end", case, deadline, why, dated),
+    "resume": lambda case, deadline, day, dated: ("resume", case, deadline, dated),
+    "close": lambda case, why, dated: ("close", case, why, dated),
+    "reopen": lambda case, dated: ("reopen", case, dated),
+    "rule": lambda case, motion, ruling, dated: ("rule", case, motion, ruling, dated),
+    "assign": lambda case, to_judge, referred, dated: ("assign", case, to_judge, only(referred), dated),
+    "title": lambda case, text: ("title", case),
+    "label": lambda case, of, of_number, text: ("label", case, of, of_number),
 }
 
 
 def asked_period(of_rule, day, minute, second, of_service):
     return of_rule, Event(day, minute), only(second), only(of_service)
+
+
+def reset_to(day, minute):
+    """Another end that an order sets: a day, or a time of it."""
+    return Grant("reset at", Event(day, minute[0])) if minute else Grant("reset", day)
+
+
+def order(grant, dated):
+    """What an order of a day grants: nothing was asked for, and nothing has to be found."""
+    return Request(grant, Event(dated, 0), False, False, False)
 
 
 def request(extension, day, minute, motion, cause, neglect):

@@ -103,13 +103,22 @@ def adds_three(kind, served):
     return kind in ("C", "D", "F") or (kind == "E" and served < AMENDED)
 
 
+def day_end(clock, act, means):
+    """6(a)(4). The minute at which a last day ends: for a paper filing the closing one, for an electronic one that of a local rule; None
+    where it ends at midnight, as for service."""
+    if act == SERVICE:
+        return None
+    return clock.efiling_until if means == ELECTRONIC else clock.closes
+
+
 def is_timely(clock, shown, act, filing):
-    """6(a)(4). The last day ends for a paper filing with the closing minute, else at midnight."""
+    """6(a)(4). The last day ends at the minute of its end, which is in time, or at midnight."""
     if shown.kind == "until":
         return instant_at(clock.zone, filing.day, 60 * filing.minute) <= shown.end
     if shown.kind == "beyond" or filing.day > shown.end:
         return False
-    return filing.day < shown.end or filing.means == ELECTRONIC or act == SERVICE or filing.minute <= clock.closes
+    end = day_end(clock, act, filing.means)
+    return filing.day < shown.end or end is None or filing.minute <= end
 
 
 def notice_day(days, hearing, count):

@@ -1,6 +1,6 @@
 """The text of a run: a line for each answer, the lines of sheets, and those of calendars."""
 from .civil import civil, day_text, minute_text
-from .docket import SLOT, calendar_of, case_of, deadlines_of, hearing_of, motions_of
+from .docket import SLOT, assignment_of, calendar_of, case_of, closing_of, deadlines_of, ending_of, hearing_of, motions_of, ruling_of
 from .periods import shown
 from .rule6 import BEYOND, is_timely, notice_day
 
@@ -9,7 +9,7 @@ NAMES = {1: "NoSuchCase", 2: "CaseIsOpen", 3: "NoSuchDeadline", 4: "NoSuchMotion
          12: "LateWithoutMotion", 13: "LateWithoutNeglect", 14: "NotLonger", 15: "AlreadySet", 16: "NotSet",
          17: "NotACourtDay", 18: "OutsideHours", 19: "ShortNotice", 20: "JudgeBusy", 21: "RoomBusy",
          22: "AlreadyHoliday", 23: "HearingThatDay", 24: "NoticeLost", 25: "Full", 26: "NoSuchJudge",
-         27: "NoSuchRoom", 28: "WrongGrant", 29: "BadPanel"}
+         27: "NoSuchRoom", 28: "WrongGrant", 29: "BadPanel", 30: "CaseIsClosed", 31: "NotClosed", 32: "HearingAhead", 33: "AlreadyEnded", 34: "NotEnded"}
 
 
 def answer_lines(court, rows, answer):
@@ -21,8 +21,10 @@ def answer_lines(court, rows, answer):
         return ["deadline {} {}".format(rest[0], shown_text(court, rest[1]))]
     if word == "filed":
         return ["filed timely" if rest[0] else "filed late"]
-    if word == "extended":
-        return ["extended " + shown_text(court, rest[0])]
+    if word in ("extended", "reset", "resumed"):
+        return [word + " " + shown_text(court, rest[0])]
+    if word == "ruled":
+        return ["ruled" if rest[0] is None else "ruled, hearing of {} cancelled".format(day_text(rest[0]))]
     if word == "motion":
         return ["motion {}".format(rest[0])]
     if word == "computed":
@@ -66,13 +68,15 @@ def deadline_line(court, rows, deadline):
     row = deadline.row
     now = shown(rows.days, court.clock, row)
     text = "deadline {} {} {} ".format(deadline.number, row.period.text, shown_text(court, now))
+    ended = ending_of(rows, deadline.case, deadline.number)
     if row.filed is None:
-        return text + "pending"
+        return text + ("pending" if ended is None else "ended " + ended)
     if now == BEYOND:
         state = "undecided"
     else:
         state = "timely" if is_timely(court.clock, now, row.period.act, row.filed) else "late"
-    return text + "{} {} {} {}".format(state, day_text(row.filed.day), minute_text(row.filed.minute), row.filed.means)
+    text += "{} {} {} {}".format(state, day_text(row.filed.day), minute_text(row.filed.minute), row.filed.means)
+    return text if ended is None else "{}, ended {}".format(text, ended)
 
 
 def hearing_line(court, rows, hearing):
@@ -83,12 +87,26 @@ def hearing_line(court, rows, hearing):
         "none" if affidavits is None else day_text(affidavits))
 
 
+def assigned_text(court, rows, number):
+    """Who has a case, and to whom it is referred. Empty where it isn't assigned."""
+    assignment = assignment_of(rows, number)
+    if assignment is None:
+        return ""
+    referred = "" if assignment.referred is None else ", referred to " + court.judges[assignment.referred]
+    return "assigned " + court.judges[assignment.judge] + referred
+
+
 def sheet_lines(court, rows, number):
-    lines = ["case {} filed {}".format(number, day_text(case_of(rows, number).filed))]
+    closed = closing_of(rows, number)
+    how = "" if closed is None else ", closed {} {}".format(day_text(closed.dated), closed.why)
+    lines = ["case {} filed {}{}".format(number, day_text(case_of(rows, number).filed), how)]
+    lines += [text for text in [assigned_text(court, rows, number)] if text]
     lines += [deadline_line(court, rows, deadline) for deadline in deadlines_of(rows, number)]
     for motion in motions_of(rows, number):
         need = "exparte" if motion.need is None else motion.need
-        lines.append("motion {} served {} need {}".format(motion.number, day_text(motion.served), need))
+        ruled = ruling_of(rows, number, motion.number)
+        how = "" if ruled is None else ", {} {}".format(ruled.how, day_text(ruled.dated))
+        lines.append("motion {} served {} need {}{}".format(motion.number, day_text(motion.served), need, how))
         hearing = hearing_of(rows, number, motion.number)
         if hearing is not None:
             lines.append(hearing_line(court, rows, hearing))

@@ -16,11 +16,17 @@ pub record IsInstantSecond (t : ℤ) : Type 0 where
   pub low : neg_ℤ (pos 9_600_000_000) ≤ℤ t
   pub high : t ≤ℤ pos 9_600_000_000
 
--- a court's time zone, and the minutes of the day at which the clerk's office opens and closes
+-- A court's time zone, the minutes of the day at which the clerk's office opens and closes, and the minute to which electronic filing
+-- runs on a last day, where a local rule sets one. Without one it runs to midnight (Fed. R. Civ. P. 6(a)(4)(A)).
 pub record ClockView : Type 0 where
   pub zone : TimeZone
   pub opens : ℕ
   pub closes : ℕ
+  pub efiling_until : Option ℕ
+
+-- the clock with such a minute
+abbrev pub with_efiling_until : ℕ → ClockView → ClockView
+with_efiling_until minute clock = record clock { efiling_until = Some minute }
 
 -- a day, and a second of it counted from midnight
 pub record CivilTime : Type 0 where

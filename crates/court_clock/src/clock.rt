@@ -1,9 +1,9 @@
 //! The court's clock.
 
-ghost use Rattle.std.specs.Prelude.{◌≡◌, ◌<◌, ◌<ℤ◌, ◌≤ℤ◌, ◌-ℤ◌, ℤ, true, option_map, IfSome, IfOk, All};
+ghost use Rattle.std.specs.Prelude.{◌≡◌, ◌<◌, ◌<ℤ◌, ◌≤ℤ◌, ◌-ℤ◌, ℤ, true, None, option_map, IfSome, IfOk, All};
 ghost use Rattle.std.specs.Arc.{arc_value};
 ghost use Rattle.jiff.specs.Words.{plain_zone, IsOffsetSeconds, IsWithin};
-ghost use Rattle.court_clock.specs.Clock.{ClockView, CivilTime, is_ruled, offset_seconds, shown_second, second_of, civil_of, larger_offset, smaller_offset, standard_offset, daylight_offset, instant_of, IsClock};
+ghost use Rattle.court_clock.specs.Clock.{ClockView, CivilTime, is_ruled, offset_seconds, shown_second, second_of, civil_of, larger_offset, smaller_offset, standard_offset, daylight_offset, instant_of, with_efiling_until, IsClock};
 ghost use Rattle.court_clock.specs.Clock.Stretch.{IsSteady};
 
 use crate::day::Day;
@@ -28,28 +28,30 @@ const DAY: i64 = 86_400;
 /// The most seconds that a zone's clock may be ahead of UTC.
 const MOST_OFFSET: i32 = 93_599;
 
-/// The court's time zone, and the hours at which the clerk's office is scheduled to open and close. The clock has a
-/// list of the stretches between the zone's transitions within the court's span, and looks an offset up there.
+/// The court's time zone, the hours at which the clerk's office is scheduled to open and close, and the minute to which
+/// electronic filing runs on a last day, where that isn't midnight. The clock has a list of the stretches between the
+/// zone's transitions within the court's span, and looks an offset up there.
 #[derive(Drop)]
 pub struct Clock {
     zone: TimeZone<'static>,
     opens: u16,
     closes: u16,
+    efiling_until: Option<u16>,
     stretches: Arc<Vec<Stretch>>,
 }
 
 impl Model for Clock {
     ghost Value = { ClockView };
 
-    ghost view = { λ c. record { zone = plain_zone c.zone; opens = c.opens; closes = c.closes } };
+    ghost view = { λ c. record { zone = plain_zone c.zone; opens = c.opens; closes = c.closes; efiling_until = c.efiling_until } };
 
-    ghost invariant = { λ c. IsClock (plain_zone c.zone) c.opens c.closes × All (λ s. IsSteady (plain_zone c.zone) s.from s.until s.offset) (arc_value c.stretches).items };
+    ghost invariant = { λ c. IsClock (plain_zone c.zone) c.opens c.closes × IfSome c.efiling_until (λ minute. minute < 1440) × All (λ s. IsSteady (plain_zone c.zone) s.from s.until s.offset) (arc_value c.stretches).items };
 }
 
 impl Clock {
     /// The clock of a zone that `zone_from_text` gives. `hours` are the minutes of the day, counted from midnight, at
     /// which the clerk's office opens and, later, closes; `from` and `to` are the first and the last day of the court's
-    /// span. An `Err` says that memory ran out.
+    /// span. Electronic filing runs to midnight. An `Err` says that memory ran out.
     pub fn new(
         alloc: Global,
         zone: TimeZone<'static>,
@@ -58,7 +60,7 @@ impl Clock {
         to: Day,
     ) -> Result<Clock, AllocError>
         requires { IsClock (plain_zone zone) hours.0 hours.1 }
-        ensures { IfOk result (λ c. c ≡ record { zone = plain_zone zone.entry; opens = hours.0; closes = hours.1 }) }
+        ensures { IfOk result (λ c. c ≡ record { zone = plain_zone zone.entry; opens = hours.0; closes = hours.1; efiling_until = None }) }
     {
         let first = instant_by(second_of(from, 0), MOST_OFFSET);
         let last = instant_by(second_of(to, 86_399), -MOST_OFFSET);
@@ -68,6 +70,7 @@ impl Clock {
             zone,
             opens,
             closes,
+            efiling_until: None,
             stretches: Arc::new(alloc, stretches)?,
         })
     }
@@ -87,6 +90,23 @@ impl Clock {
         ensures within_the_day { result < 1440 }
     {
         self.closes
+    }
+
+    /// The minute of the day, counted from midnight, to which a last day runs for electronic filing where a local rule sets
+    /// it (Fed. R. Civ. P. 6(a)(4)). None where it runs to midnight.
+    pub fn efiling_until(&self) -> Option<u16>
+        ensures value { result ≡ self.now.efiling_until }
+        ensures within_the_day { IfSome result (λ minute. minute < 1440) }
+    {
+        self.efiling_until
+    }
+
+    /// Sets that minute.
+    pub fn set_efiling_until(&mut self, minute: u16)
+        requires { minute < 1440 }
+        ensures { self.new ≡ with_efiling_until minute self.old }
+    {
+        self.efiling_until = Some(minute);
     }
 
     /// How many seconds the clock is ahead of UTC at the instant; negative where it is behind UTC.
@@ -150,6 +170,7 @@ impl Clock {
             zone: self.zone,
             opens: self.opens,
             closes: self.closes,
+            efiling_until: self.efiling_until,
             stretches: self.stretches.clone()?,
         })
     }

@@ -1,14 +1,14 @@
 -- A court's file: what is read from it, or its first fault.
 pub mod Reading
-use Rattle.std.specs.Prelude.{◌≡◌, ℕ, nat_lt, nat_le, ◌&&◌, Bool, ℤ, int_le, List, [], Result, Ok}
+use Rattle.std.specs.Prelude.{◌≡◌, ℕ, nat_lt, nat_le, ◌&&◌, Bool, ℤ, int_le, List, [], Option, Some, None, Result, Ok}
 use Rattle.std.specs.Option.{ok_or}
-use Rattle.toml.specs.Data.{Members}
+use Rattle.toml.specs.Data.{Members, get_member}
 use Rattle.court_clock.specs.Words.{ClockView, IsSameCourtClock, Zone, days_through, zone_of_text, zone_view}
 use Rattle.court_file_text.specs.declared.key.Key.TheVariants as key
 use Rattle.court_file_text.specs.declared.fault.CourtFault.{CourtFault}
 use Rattle.court_file_text.specs.declared.fault.CourtFault.TheVariants.{NotToml, BadZone, BadHours, BadSpan}
 use Rattle.court_days.specs.Days.{DaysView}
-use Rattle.court_file_text.specs.Words.{◌>>=◌, must, toml_of, text_at, minute_at, date_at, names_at}
+use Rattle.court_file_text.specs.Words.{◌>>=◌, must, toml_of, key_name, text_at, minute_at, minute_if_there, date_at, names_at}
 use Rattle.court_days.specs.Court.Reading.{dates_at}
 
 -- what a court's file says
@@ -16,6 +16,7 @@ pub record CourtFile : Type 0 where
   pub zone : Zone
   pub opens : ℕ
   pub closes : ℕ
+  pub efiling_until : Option ℕ
   pub days : DaysView
   pub judges : List (List ℕ)
   pub rooms : List (List ℕ)
@@ -33,6 +34,7 @@ file_of court = record {
   zone = zone_view court.clock.zone;
   opens = court.clock.opens;
   closes = court.clock.closes;
+  efiling_until = court.clock.efiling_until;
   days = court.days;
   judges = court.judges;
   rooms = court.rooms;
@@ -73,7 +75,7 @@ days_at file = do
   state ← dates_at key.State from to file
   Ok (record { from = from; to = to; federal = federal; state = state; outages = [] })
 
--- the whole file, key by key
+-- the whole file, key by key, as clerk_office reads it: for it electronic filing runs to midnight
 unfoldable pub court_of : Members → Result CourtFile CourtFault
 court_of file = do
   zone ← zone_at file
@@ -81,13 +83,40 @@ court_of file = do
   days ← days_at file
   judges ← names_at key.Judges file
   rooms ← names_at key.Rooms file
-  Ok (record { zone = zone; opens = hours.0; closes = hours.1; days = days; judges = judges; rooms = rooms })
+  Ok (record { zone = zone; opens = hours.0; closes = hours.1; efiling_until = None; days = days; judges = judges; rooms = rooms })
 
 -- the court whose file the bytes are
 unfoldable pub court_in : List ℕ → Result CourtFile CourtFault
 court_in bytes = do
   file ← ok_or (toml_of bytes) NotToml
   court_of file
+
+-- the file with the minute to which electronic filing runs, if there is one
+abbrev pub with_minute : Option ℕ → CourtFile → CourtFile
+with_minute None file = file
+with_minute (Some minute) file = record file { efiling_until = Some minute }
+
+-- The whole file, as the desk reads it: after those keys the one by which a local rule sets that minute (Fed. R. Civ. P. 6(a)(4)). It may
+-- be missing.
+unfoldable pub desk_court_of : Members → Result CourtFile CourtFault
+desk_court_of document = do
+  file ← court_of document
+  minute ← minute_if_there key.EfilingUntil document
+  Ok (with_minute minute file)
+
+-- the court whose file the bytes are, as the desk reads it
+unfoldable pub desk_court_in : List ℕ → Result CourtFile CourtFault
+desk_court_in bytes = do
+  document ← ok_or (toml_of bytes) NotToml
+  desk_court_of document
+
+-- Without that key the desk reads a court's file as clerk_office does. Whatever the desk reads clerk_office reads too, and alike but for
+-- that minute; and clerk_office never has one.
+pub record DeskReadsAlike : Type 0 where
+  pub without_the_key : (document : Members) → get_member (key_name key.EfilingUntil) document ≡ None → desk_court_of document ≡ court_of document
+  pub but_for_the_minute : (bytes : List ℕ) (file : CourtFile) → desk_court_in bytes ≡ Ok file
+      → (minute : Option ℕ) × (office : CourtFile) × (court_in bytes ≡ Ok office) × (file ≡ with_minute minute office)
+  pub to_midnight : (bytes : List ℕ) (file : CourtFile) → court_in bytes ≡ Ok file → file.efiling_until ≡ None
 
 -- A court opens with no outages: those of the clerk's office are entered later.
 abbrev pub FilesNameNoOutages : Type 0

@@ -1,17 +1,21 @@
 //! A court, from its file.
 
 ghost use Rattle.std.specs.Prelude.{◌≡◌, true, ◌<◌, ◌≤◌, ℕ, length, slice_get, IfSome, IfOk, option_copied, Ok};
+ghost use Rattle.std.specs.Option.{ok_or};
 ghost use Rattle.toml.specs.View.{table_view};
 ghost use Rattle.jiff.specs.Words.{plain_zone};
 ghost use Rattle.court_clock.specs.Words.{is_ruled, zone_view};
-ghost use Rattle.court_days.specs.Court.{CourtView, file_of, court_of, court_in, zone_at, hours_at, days_at, is_span};
-ghost use Rattle.court_file_text.specs.Words.{Gives, name_index};
+ghost use Rattle.court_days.specs.Court.{CourtView, file_of, court_of, court_in, desk_court_of, desk_court_in, zone_at, hours_at, days_at, is_span};
+ghost use Rattle.court_file_text.specs.declared.fault.CourtFault.TheVariants.{NotToml};
+ghost use Rattle.court_file_text.specs.Words.{Gives, name_index, toml_of};
 
 use crate::court::reading::dates_at;
 use crate::days::Days;
 use crate::days::holidays::Holidays;
 use court_clock::{Clock, Day, zone_from_text};
-use court_file_text::{CourtFault, Key, Names, date_at, minute_at, names_at, text_at};
+use court_file_text::{
+    CourtFault, Key, Names, date_at, minute_at, minute_if_there, names_at, text_at,
+};
 use jiff::tz::TimeZone;
 use std::alloc::Global;
 use std::marker::Model;
@@ -40,25 +44,18 @@ impl Model for Court {
 }
 
 impl Court {
-    /// The court whose file the bytes are, or the file's first fault in the order of its keys.
+    /// The court whose file the bytes are, as clerk_office reads it, or the file's first fault in the order of its keys.
     /// `NotToml` exactly where the crate `toml` reads no document in them, and `OutOfMemory` where memory ran out.
     #[tactic(auto, unfolding(crate::specs::Court::court_in))]
     pub fn from_bytes(alloc: Global, bytes: &[u8]) -> Result<Court, CourtFault>
         ensures { Gives file_of result (court_in bytes.now) }
     {
-        match toml::table_from_slice(alloc, bytes) {
-            Ok(file) => Court::from_table(alloc, &file),
-            Err(error) => {
-                if error.is_memory() {
-                    return Err(CourtFault::OutOfMemory);
-                }
-                Err(CourtFault::NotToml)
-            }
-        }
+        let file = document_of(alloc, bytes)?;
+        Court::from_table(alloc, &file)
     }
 
-    /// The court whose file the document is, or the file's first fault in the order of its keys. `OutOfMemory` where
-    /// memory ran out.
+    /// The court whose file the document is, as clerk_office reads it, or the file's first fault in the order of its keys.
+    /// `OutOfMemory` where memory ran out.
     #[tactic(auto, unfolding(crate::specs::Court::court_of))]
     pub fn from_table(alloc: Global, file: &Table) -> Result<Court, CourtFault>
         ensures { Gives file_of result (court_of (table_view file.now)) }
@@ -74,6 +71,31 @@ impl Court {
             judges,
             rooms,
         })
+    }
+
+    /// The same as the desk reads it, which also takes the minute to which a local rule lets electronic filing run.
+    #[tactic(auto, unfolding(crate::specs::Court::desk_court_in))]
+    pub fn from_desk_bytes(alloc: Global, bytes: &[u8]) -> Result<Court, CourtFault>
+        ensures { Gives file_of result (desk_court_in bytes.now) }
+    {
+        let file = document_of(alloc, bytes)?;
+        Court::from_desk_table(alloc, &file)
+    }
+
+    /// The same of a document.
+    #[tactic(auto, unfolding(crate::specs::Court::desk_court_of))]
+    pub fn from_desk_table(alloc: Global, file: &Table) -> Result<Court, CourtFault>
+        ensures { Gives file_of result (desk_court_of (table_view file.now)) }
+    {
+        let mut court = Court::from_table(alloc, file)?;
+        let minute = minute_if_there(file, Key::EfilingUntil)?;
+        match minute {
+            Some(minute) => {
+                court.clock.set_efiling_until(minute);
+                Ok(court)
+            }
+            None => Ok(court),
+        }
     }
 
     /// The court's zone and office hours.
@@ -132,6 +154,21 @@ impl Court {
         ensures most { result ≤ 32 }
     {
         self.rooms.len() as u8
+    }
+}
+
+/// The document that the bytes are, or `NotToml`; `OutOfMemory` where memory ran out.
+fn document_of(alloc: Global, bytes: &[u8]) -> Result<Table, CourtFault>
+    ensures { Gives table_view result (ok_or (toml_of bytes.now) NotToml) }
+{
+    match toml::table_from_slice(alloc, bytes) {
+        Ok(file) => Ok(file),
+        Err(error) => {
+            if error.is_memory() {
+                return Err(CourtFault::OutOfMemory);
+            }
+            Err(CourtFault::NotToml)
+        }
     }
 }
 

@@ -2,7 +2,7 @@
 
 ghost use Rattle.court_days.specs.Days.Search.{EarliestIsLeast, LatestIsGreatest};
 ghost use Rattle.court_days.specs.Days.Rolled.{RolledIsNearest};
-ghost use Rattle.court_days.specs.Court.{FilesNameNoOutages};
+ghost use Rattle.court_days.specs.Court.{DeskReadsAlike, FilesNameNoOutages};
 
 /// Rolling gives the nearest permitted day, and none only where the day isn't covered or no covered day is that.
 pub fn rolled_is_nearest()
@@ -24,4 +24,10 @@ pub fn latest_is_greatest()
 /// The court of a file has no outages: those of the clerk's office are entered later.
 pub fn files_name_no_outages()
     ensures { FilesNameNoOutages }
+{}
+
+/// The desk reads a court's file as clerk_office does, but for the minute to which electronic filing runs. Without the key
+/// of that minute, and for clerk_office, it runs to midnight.
+pub fn desk_reads_alike()
+    ensures { DeskReadsAlike }
 {}

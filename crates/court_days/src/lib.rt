@@ -9,4 +9,7 @@ mod laws;
 pub use court::Court;
 pub use days::{Days, Outage};
 pub use holiday_list::HolidayList;
-pub use laws::{earliest_is_least, files_name_no_outages, latest_is_greatest, rolled_is_nearest};
+pub use laws::{
+    desk_reads_alike, earliest_is_least, files_name_no_outages, latest_is_greatest,
+    rolled_is_nearest,
+};

@@ -4,7 +4,7 @@ use Rattle.toml.specs.Data.{Members}
 use Rattle.court_file_text.specs.declared.fault.CourtFault.{CourtFault}
 use Rattle.court_file_text.specs.declared.fault.CourtFault.TheVariants.{OutOfMemory}
 use Rattle.court_file_text.specs.Words.{Fails, toml_of}
-use Rattle.court_days.specs.Words.{CourtFile, court_of}
+use Rattle.court_days.specs.Words.{CourtFile, desk_court_of}
 use Rattle.court_file_check.specs.declared.faults.Fault.{Fault}
 use Rattle.court_file_check.specs.declared.warnings.Asked.{Asked}
 use Rattle.court_file_check.specs.declared.check.Checked.{Checked}
@@ -24,15 +24,15 @@ some_seen [] h = absurd (cc)
 some_seen (f ∷ faults) h = λ none. cc
 
 -- reading a document without faults gives none
-pub no_fault : (document : Members) (e : CourtFault) → faults_in document ≡ [] → Fails e (court_of document) → e ≢ OutOfMemory → ⊥
-no_fault document e none fails there = go (court_of document) (fails_is e (court_of document) fails there) (faults_begin document) where
+pub no_fault : (document : Members) (e : CourtFault) → faults_in document ≡ [] → Fails e (desk_court_of document) → e ≢ OutOfMemory → ⊥
+no_fault document e none fails there = go (desk_court_of document) (fails_is e (desk_court_of document) fails there) (faults_begin document) where
   go : (read : Result CourtFile CourtFault) → read ≡ Err e → BeginsWith read (faults_in document) → ⊥
   go (Ok file) is begins = cc
   go (Err other) is begins = let first = begins.0 in let rest = begins.1 in let are : faults_in document ≡ first ∷ rest = begins.2 in cc
 
 pub all_faults : (document : Members) (faults : List FaultView) → faults ≡ faults_in document → faults ≢ [] → AreAllFaults document faults
-all_faults document faults all some = go (court_of document) refl (faults_begin document) where
-  go : (read : Result CourtFile CourtFault) → court_of document ≡ read → BeginsWith read (faults_in document) → AreAllFaults document faults
+all_faults document faults all some = go (desk_court_of document) refl (faults_begin document) where
+  go : (read : Result CourtFile CourtFault) → desk_court_of document ≡ read → BeginsWith read (faults_in document) → AreAllFaults document faults
   go (Ok file) is none = absurd (some (all ∙ none))
   go (Err e) is begins = record { all = all; first = begins.0; rest = begins.1; are = all ∙ begins.2; of_court = is ∙ ap Err (sym begins.3) }
 

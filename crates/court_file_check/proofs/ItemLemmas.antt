@@ -12,7 +12,7 @@ use Rattle.court_days.specs.Words.{DaysView}
 use Rattle.court_file_check.specs.declared.warnings.slips.Slip.{Slip}
 use Rattle.court_file_check.specs.Warnings.{day_of_data, later, slip_of, slips_from}
 use Rattle.court_file_check.specs.Seen.{FaultView}
-use Rattle.court_file_check.specs.Faults.{faulty, each_date, and_good, each_name, zone_faults, hours_faults, span_faults, dates_faults, names_faults, faults_in}
+use Rattle.court_file_check.specs.Faults.{faulty, each_date, and_good, each_name, zone_faults, hours_faults, span_faults, dates_faults, names_faults, efiling_faults, office_faults_in, faults_in}
 
 pub date_goes_on : (k : Key) (so_far more whole : List FaultView) (values : List Value) (i : ℕ) (value : Value)
     → i < length values → value ≡ get_or values i value → more ≡ so_far ++ faulty k (Some i) (date_of_item k (view value))
@@ -44,10 +44,10 @@ unfolding each_name
 names_done k so_far whole names values i past same = sym (append-nil so_far) ∙ (rw (drop_all i values past) at same)
 
 -- the faults of each part, one after the other
-pub all_parts : (file : Members) (none a b c d e f g : List FaultView) → none ≡ [] → a ≡ none ++ zone_faults file → b ≡ a ++ hours_faults file → c ≡ b ++ span_faults file
-    → d ≡ c ++ dates_faults key.Federal file → e ≡ d ++ dates_faults key.State file → f ≡ e ++ names_faults key.Judges file → g ≡ f ++ names_faults key.Rooms file → g ≡ faults_in file
-unfolding faults_in
-all_parts file none a b c d e f g is0 is1 is2 is3 is4 is5 is6 is7 = rw (is7, is6, is5, is4, is3, is2, is1, is0) (simp append_assoc)
+pub all_parts : (file : Members) (none a b c d e f g h : List FaultView) → none ≡ [] → a ≡ none ++ zone_faults file → b ≡ a ++ hours_faults file → c ≡ b ++ span_faults file
+    → d ≡ c ++ dates_faults key.Federal file → e ≡ d ++ dates_faults key.State file → f ≡ e ++ names_faults key.Judges file → g ≡ f ++ names_faults key.Rooms file → h ≡ g ++ efiling_faults file → h ≡ faults_in file
+unfolding faults_in office_faults_in
+all_parts file none a b c d e f g h is0 is1 is2 is3 is4 is5 is6 is7 is8 = rw (is8, is7, is6, is5, is4, is3, is2, is1, is0) (simp append_assoc)
 
 -- the slips of one item more
 pub slip_goes_on : (c : DaysView) (so_far more whole : List (ℕ × Slip)) (before next : Option ℤ) (values : List Value) (i : ℕ) (value : Value) (day : Option ℤ) (told : Option Slip)

@@ -11,7 +11,7 @@ use Rattle.court_file_check.specs.declared.warnings.Asked.{Asked}
 use Rattle.court_file_check.specs.declared.warnings.Warnings.{Warnings}
 use Rattle.court_file_check.specs.declared.review.DayTest.TheVariants.{FederalAtWeekend, InBoth, Lacking, StateAtWeekend, Unknown}
 use Rattle.court_file_check.specs.declared.warnings.slips.Slip.{Slip}
-use Rattle.court_file_check.specs.Warnings.{bare_years, slips_from, closes_early, is_long_day, is_short_span, ends_soon, unsaid_closings, unsaid_holidays}
+use Rattle.court_file_check.specs.Warnings.{bare_years, slips_from, closes_early, is_long_day, is_efiling_early, is_short_span, ends_soon, unsaid_closings, unsaid_holidays}
 
 -- the slips of a list, if there is one
 abbrev pub slips_in : DaysView → Result Items CourtFault → List (ℕ × Slip)
@@ -22,6 +22,7 @@ slips_in c (Err e) = []
 pub record AreWarnings (asked : Asked) (text : List ℕ) (document : Members) (file : CourtFile) (w : Warnings) : Type 0 where
   pub closes_early : w.closes_early ≡ closes_early file.closes
   pub long_day : w.long_day ≡ is_long_day file.opens file.closes
+  pub efiling_early : w.efiling_early ≡ is_efiling_early file.closes file.efiling_until
   pub short_span : w.short_span ≡ is_short_span file.days
   pub ends_soon : w.ends_soon ≡ ends_soon file.days asked.today
   pub bare_years : w.bare_years.items ≡ bare_years file.days

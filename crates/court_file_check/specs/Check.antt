@@ -4,7 +4,7 @@ use Rattle.toml.specs.Data.{Members}
 use Rattle.toml.specs.View.{table_view}
 use Rattle.court_file_text.specs.declared.fault.CourtFault.TheVariants.{NotToml as BadToml}
 use Rattle.court_file_text.specs.Words.{toml_of}
-use Rattle.court_days.specs.Words.{CourtFile, court_in, court_of}
+use Rattle.court_days.specs.Words.{CourtFile, desk_court_in, desk_court_of}
 use Rattle.court_file_check.specs.declared.warnings.Asked.{Asked}
 use Rattle.court_file_check.specs.declared.check.Checked.{Checked}
 use Rattle.court_file_check.specs.declared.check.Checked.TheVariants.{NotToml, Faulty, Taken}
@@ -18,12 +18,12 @@ pub record AreAllFaults (document : Members) (faults : List FaultView) : Type 0 
   pub first : FaultView
   pub rest : List FaultView
   pub are : faults ≡ first ∷ rest
-  pub of_court : court_of document ≡ Err first.fault
+  pub of_court : desk_court_of document ≡ Err first.fault
 
 -- the court's program takes the document, and this is what is said of it
 pub record IsTaken (asked : Asked) (document : Members) (IsTold : CourtFile → Type 0) : Type 0 where
   pub file : CourtFile
-  pub taken : court_of document ≡ Ok file
+  pub taken : desk_court_of document ≡ Ok file
   pub told : IsTold file
 
 -- what is found in a document
@@ -40,6 +40,6 @@ pub record IsOfDocument (asked : Asked) (bytes : List ℕ) (checked : Checked) :
 
 -- What is found in bytes: that they are no TOML, where the court's program says so too; or what is found in the document.
 abbrev pub IsCheckOf : Asked → List ℕ → Checked → Type 0
-IsCheckOf asked bytes (NotToml error) = court_in bytes ≡ Err BadToml
+IsCheckOf asked bytes (NotToml error) = desk_court_in bytes ≡ Err BadToml
 IsCheckOf asked bytes (Faulty file faults) = IsOfDocument asked bytes (Faulty file faults)
 IsCheckOf asked bytes (Taken file warnings) = IsOfDocument asked bytes (Taken file warnings)

@@ -6,9 +6,9 @@ use Rattle.court_file_text.specs.declared.key.Key.{Key}
 use Rattle.court_file_text.specs.declared.key.Key.TheVariants as key
 use Rattle.court_file_text.specs.declared.fault.CourtFault.{CourtFault}
 use Rattle.court_file_text.specs.declared.fault.CourtFault.TheVariants.{BadHours, BadSpan}
-use Rattle.court_file_text.specs.Words.{must, minute_at, date_at, list_at, date_of_item, and_name}
+use Rattle.court_file_text.specs.Words.{must, minute_at, minute_if_there, date_at, list_at, date_of_item, and_name}
 use Rattle.court_days.specs.Court.{zone_at, is_span}
-use Rattle.court_days.specs.Words.{court_of}
+use Rattle.court_days.specs.Words.{desk_court_of}
 use Rattle.court_file_check.specs.Seen.{FaultView}
 
 -- the fault of what is read at a key or at an item of its list, if it has one
@@ -71,19 +71,27 @@ names_faulty k (Err e) = faulty {A = Items} k None (Err e)
 unfoldable pub names_faults : Key → Members → List FaultView
 names_faults k file = names_faulty k (list_at k 32 file)
 
--- all, key by key
-unfoldable pub faults_in : Members → List FaultView
-faults_in file =
+-- that of the minute to which electronic filing runs, if the file has its key
+unfoldable pub efiling_faults : Members → List FaultView
+efiling_faults file = faulty key.EfilingUntil None (minute_if_there key.EfilingUntil file)
+
+-- those that clerk_office would meet, key by key
+unfoldable pub office_faults_in : Members → List FaultView
+office_faults_in file =
     zone_faults file
     ++ (hours_faults file
     ++ ((span_faults file ++ (dates_faults key.Federal file ++ dates_faults key.State file))
     ++ (names_faults key.Judges file ++ names_faults key.Rooms file)))
+
+-- all
+unfoldable pub faults_in : Members → List FaultView
+faults_in file = office_faults_in file ++ efiling_faults file
 
 -- a list of faults begins with that of what is read, and is empty where that has none
 abbrev pub BeginsWith : {A : Type 0} → Result A CourtFault → List FaultView → Type 0
 BeginsWith (Ok x) faults = faults ≡ []
 BeginsWith (Err e) faults = (first : FaultView) × (rest : List FaultView) × (faults ≡ first ∷ rest) × (first.fault ≡ e)
 
--- the faults begin with the one that the clerk's program gives, and there is none where it takes the file
+-- the faults begin with the one that the desk's program gives, and there is none where it takes the file
 abbrev pub FaultsBeginWithTheCourts : Type 0
-FaultsBeginWithTheCourts = (file : Members) → BeginsWith (court_of file) (faults_in file)
+FaultsBeginWithTheCourts = (file : Members) → BeginsWith (desk_court_of file) (faults_in file)

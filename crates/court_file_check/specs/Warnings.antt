@@ -68,6 +68,11 @@ closes_early closes = nat_lt closes 720
 abbrev pub is_long_day : ℕ → ℕ → Bool
 is_long_day opens closes = nat_lt (opens + 720) closes
 
+-- electronic filing ends before the office closes
+abbrev pub is_efiling_early : (closes : ℕ) → (until : Option ℕ) → Bool
+is_efiling_early closes None = false
+is_efiling_early closes (Some until) = nat_lt until closes
+
 -- The span has less than the longest period of the table after its first day: 90 days, Fed. R. Civ. P. 4(m) and
 -- 12(a)(1)(A)(ii).
 abbrev pub is_short_span : DaysView → Bool

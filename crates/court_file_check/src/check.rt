@@ -3,7 +3,7 @@
 ghost use Rattle.std.specs.Prelude.{◌≡◌, ◌≢◌, [], Ok, map, IfOk};
 ghost use Rattle.std.specs.Bool.{OnTrue, OnFalse};
 ghost use Rattle.toml.specs.View.{table_view};
-ghost use Rattle.court_days.specs.Words.{court_of, file_of};
+ghost use Rattle.court_days.specs.Words.{desk_court_of, file_of};
 ghost use Rattle.court_file_check.specs.Faults.{faults_in};
 ghost use Rattle.court_file_check.specs.Seen.{seen};
 ghost use Rattle.court_file_check.specs.Check.{IsCheckOf, IsDocumentCheck};
@@ -76,9 +76,9 @@ fn has_any(faults: &[Fault]) -> bool
 #[tactic(auto, using(crate::proofs::CheckLemmas::no_fault))]
 fn court_of(alloc: Global, file: &Table) -> Result<Court, AllocError>
     requires { faults_in (table_view file.now) ≡ [] }
-    ensures { IfOk result (λ court. court_of (table_view file.now) ≡ Ok (file_of court)) }
+    ensures { IfOk result (λ court. desk_court_of (table_view file.now) ≡ Ok (file_of court)) }
 {
-    match Court::from_table(alloc, file) {
+    match Court::from_desk_table(alloc, file) {
         Ok(court) => Ok(court),
         Err(CourtFault::OutOfMemory) => Err(AllocError),
         Err(_) => unreachable!(),

@@ -16,7 +16,7 @@ mod keys;
 pub(crate) mod names;
 
 use dates::check_dates;
-use keys::{check_hours, check_span, check_zone};
+use keys::{check_efiling, check_hours, check_span, check_zone};
 use names::check_names;
 
 /// What is wrong.
@@ -106,5 +106,6 @@ pub fn faults_of(alloc: Global, file: &Table) -> Result<Vec<Fault>, AllocError>
     check_dates(alloc, file, Key::State, &mut faults)?;
     check_names(alloc, file, Key::Judges, &mut faults)?;
     check_names(alloc, file, Key::Rooms, &mut faults)?;
+    check_efiling(file, &mut faults)?;
     Ok(faults.list)
 }

@@ -23,7 +23,7 @@ pub(crate) mod zone;
 
 use closings::unsaid_closings;
 use holidays::unsaid_holidays;
-use hours::{closes_early, ends_soon, is_long_day, is_short_span};
+use hours::{closes_early, ends_soon, is_efiling_early, is_long_day, is_short_span};
 use names::{Alike, alike_at};
 use slips::{Slip, slips_at};
 use years::bare_years;
@@ -49,6 +49,8 @@ pub struct Warnings {
     pub closes_early: bool,
     /// The office is open for more than twelve hours.
     pub long_day: bool,
+    /// Electronic filing ends before the office closes.
+    pub efiling_early: bool,
     /// The span is shorter than the longest period of the table of periods.
     pub short_span: bool,
     /// The span ends too early for the day from which the file is used.
@@ -96,6 +98,7 @@ pub(crate) fn warnings_of(
         zone: zone_doubt(file, days.to()),
         closes_early: closes_early(clock),
         long_day: is_long_day(clock),
+        efiling_early: is_efiling_early(clock.closes(), clock.efiling_until()),
         short_span: is_short_span(days),
         ends_soon: ends_soon(days, asked.today),
         bare_years: bare_years(alloc, days)?,

@@ -1,5 +1,5 @@
 -- What a court's file says at each of its keys, or its fault.
-use Rattle.std.specs.Prelude.{◌≡◌, ℕ, zero, suc, nat_le, ◌&&◌, ◌||◌, ◌==◌, not, Bool, ℤ, List, [], ◌∷◌, ◌++◌, length, Option, None, Result, Ok, Err, if◌then◌else◌}
+use Rattle.std.specs.Prelude.{◌≡◌, ℕ, zero, suc, nat_le, ◌&&◌, ◌||◌, ◌==◌, not, Bool, ℤ, List, [], ◌∷◌, ◌++◌, length, Option, Some, None, Result, Ok, Err, if◌then◌else◌}
 use Rattle.std.specs.Option.{ok_or}
 use Rattle.std.specs.List.{list_any, list_all}
 use Rattle.std.specs.Char.{is_ascii_digit, is_ascii_alphabetic}
@@ -39,6 +39,15 @@ unfoldable pub minute_at : Key → Members → Result ℕ CourtFault
 minute_at k file = do
   text ← text_at k file
   ok_or (minute_of_text text) BadHours
+
+-- what is read at a key that may be missing, by the value that is there
+abbrev pub if_there : {A : Type 0} → Option Data → Result A CourtFault → Result (Option A) CourtFault
+if_there None read = Ok None
+if_there (Some value) read = read >>= λ x. Ok (Some x)
+
+-- the minute at such a key
+unfoldable pub minute_if_there : Key → Members → Result (Option ℕ) CourtFault
+minute_if_there k file = if_there (get_member (key_name k) file) (minute_at k file)
 
 unfoldable pub date_at : Key → Members → Result ℤ CourtFault
 date_at k file = do

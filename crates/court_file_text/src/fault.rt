@@ -27,7 +27,7 @@ pub enum CourtFault {
     BadDate(FaultText),
     /// 5: `zone` is neither an offset nor a POSIX rule.
     BadZone,
-    /// 6: `opens` or `closes` is no time of day, or the office doesn't open before it closes.
+    /// 6: `opens`, `closes` or `efiling_until` is no time of day, or the office doesn't open before it closes.
     BadHours,
     /// 7: `from` is after `to`, or the span has more than 36,525 days.
     BadSpan,

@@ -26,6 +26,8 @@ pub enum Key {
     Judges,
     /// The rooms' names.
     Rooms,
+    /// The minute to which electronic filing runs on a last day. The desk alone reads it, and it may be missing.
+    EfilingUntil,
 }
 
 impl Key {
@@ -43,6 +45,7 @@ impl Key {
             Key::State => "state",
             Key::Judges => "judges",
             Key::Rooms => "rooms",
+            Key::EfilingUntil => "efiling_until",
         }
     }
 }

@@ -9,4 +9,4 @@ mod reading;
 pub use fault::{CourtFault, FaultText, NumberedFault};
 pub use key::Key;
 pub use names::Names;
-pub use reading::{date_at, date_of_item, list_at, minute_at, names_at, text_at};
+pub use reading::{date_at, date_of_item, list_at, minute_at, minute_if_there, names_at, text_at};

@@ -1,9 +1,11 @@
 //! What a court's file says at each of its keys.
 
-ghost use Rattle.std.specs.Prelude.{◌≡◌, ◌≤◌, ◌<◌, ◌+◌, [], length, IfOk, OnOk};
+ghost use Rattle.std.specs.Prelude.{◌≡◌, ◌≤◌, ◌<◌, ◌+◌, [], length, option_map, IfOk, IfSome, OnOk};
 ghost use Rattle.std.specs.List.{list_all};
+ghost use Rattle.toml.specs.Data.{get_member};
 ghost use Rattle.toml.specs.View.{view, table_view, array_view, items_view};
-ghost use Rattle.court_file_text.specs.Reading.{Gives, value_at, text_at, minute_at, date_at, list_at, text_of, date_of_item, and_name, names_at, is_name, is_name_byte, each_item};
+ghost use Rattle.court_file_text.specs.Key.{key_name};
+ghost use Rattle.court_file_text.specs.Reading.{Gives, value_at, text_at, minute_at, minute_if_there, date_at, list_at, text_of, date_of_item, and_name, names_at, is_name, is_name_byte, each_item};
 
 use crate::fault::{CourtFault, FaultText};
 use crate::key::Key;
@@ -45,6 +47,28 @@ pub fn minute_at(file: &Table, key: Key) -> Result<u16, CourtFault>
         Some(minute) => Ok(minute),
         None => Err(CourtFault::BadHours),
     }
+}
+
+/// The minute of the day at a key that may be missing.
+#[tactic(auto, unfolding(crate::specs::Reading::minute_if_there))]
+pub fn minute_if_there(file: &Table, key: Key) -> Result<Option<u16>, CourtFault>
+    ensures value { Gives (λ m. m) result (minute_if_there key (table_view file.now)) }
+    ensures in_the_day { IfOk result (λ there. IfSome there (λ m. m < 1440)) }
+{
+    match value_if_there(file, key) {
+        Some(_) => {
+            let minute = minute_at(file, key)?;
+            Ok(Some(minute))
+        }
+        None => Ok(None),
+    }
+}
+
+/// The value at a key, if it is there.
+fn value_if_there(file: &Table, key: Key) -> Option<&Value>
+    ensures { option_map (λ v. view v.now) result ≡ get_member (key_name key) (table_view file.now) }
+{
+    file.get(key.name())
 }
 
 /// The date at a key.

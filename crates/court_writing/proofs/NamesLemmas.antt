@@ -1,6 +1,6 @@
 -- Names that are read from lines, and compared with others.
 use Rattle.std.specs.Borrow.{Bor}
-use Rattle.std.proofs.Common.{◌≡◌, ℕ, ◌+◌, ◌<◌, ◌≤◌, Bool, true, false, List, [], ◌∷◌, ◌++◌, Option, Result, Ok, Err, Some, get_or, take, drop, length, map, slice_get, refl, sym, ap, subst, ◌∙◌, add-one, arith}
+use Rattle.std.proofs.Common.{◌≡◌, ℕ, ◌+◌, ◌<◌, ◌≤◌, Bool, true, false, List, [], ◌∷◌, ◌++◌, Option, Result, Ok, Err, Some, get_or, take, drop, length, map, slice_get, refl, sym, ap, ◌∙◌, add-one, arith}
 use Rattle.std.specs.Prelude.{IfOk}
 use Rattle.std.specs.Str.{IsUtf8, is_utf8}
 use Rattle.std.specs.Vec.{vec_items}

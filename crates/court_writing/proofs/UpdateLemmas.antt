@@ -1,5 +1,5 @@
 -- Bytes that are put into a text, and why no years are added to a court's file.
-use Rattle.std.proofs.Common.{◌≡◌, ℕ, Bool, true, false, List, [], ◌∷◌, ◌++◌, Option, Some, None, Result, Ok, Err, int_le, ℤ, pos, ◌+ℤ◌, take, drop, refl, sym, ap, ◌∙◌, append_assoc, inl, inr, subst}
+use Rattle.std.proofs.Common.{◌≡◌, ℕ, true, false, List, [], ◌++◌, Option, Some, None, Result, Err, int_le, ℤ, pos, ◌+ℤ◌, take, drop, refl, sym, ap, ◌∙◌, append_assoc, inl, inr}
 use Rattle.std.proofs.lemmas.List.{take-append-drop}
 use Rattle.std.specs.Prelude.{◌⊎◌}
 use Rattle.court_clock.specs.Words.{day_text}

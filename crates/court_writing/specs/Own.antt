@@ -3,10 +3,12 @@ use Rattle.std.specs.Borrow.{Bor}
 use Rattle.std.specs.Prelude.{◌≡◌, ℕ, nat_lt, Bool, List, [], ◌∷◌, Option, codes, map, unwrap_or}
 use Rattle.court_writing.specs.declared.own.Office.{Office}
 
--- what a court says of its hours, its judges and its rooms, where it says something
+-- What a court says of its hours, its judges and its rooms, where it says something. Without a minute to which electronic filing runs on
+-- a last day the file has no key for it.
 pub record OwnView : Type 0 where
   pub opens : Option ℕ
   pub closes : Option ℕ
+  pub efiling_until : Option ℕ
   pub judges : Option (List (List ℕ))
   pub rooms : Option (List (List ℕ))
 
@@ -36,5 +38,6 @@ texts = map (λ name. name.now)
 pub record IsOfficeOf (own : OwnView) (office : Office) : Type 0 where
   pub opens : office.opens ≡ opens_of own
   pub closes : office.closes ≡ closes_of own
+  pub efiling_until : office.efiling_until ≡ own.efiling_until
   pub judges : texts office.judges.items ≡ judges_of own
   pub rooms : texts office.rooms.items ≡ rooms_of own

@@ -3,7 +3,7 @@ use Rattle.std.specs.Prelude.{◌≡◌, ◌⊎◌, ℕ, suc, ◌-◌, nat_le, �
 use Rattle.std.specs.List.{find, slice_split, starts_with}
 use Rattle.jiff_tz.specs.Year.{year_of_day}
 use Rattle.court_clock.specs.Words.{day_text, days_through}
-use Rattle.court_days.specs.Words.{CourtFile, DaysView, court_in, is_among, is_covered}
+use Rattle.court_days.specs.Words.{CourtFile, DaysView, desk_court_in, is_among, is_covered}
 use Rattle.court_days.specs.declared.holiday_list.HolidayList.{HolidayList}
 use Rattle.court_days.specs.declared.holiday_list.HolidayList.TheVariants as list
 use Rattle.court_file_text.specs.declared.fault.CourtFault.{CourtFault}
@@ -102,12 +102,12 @@ pub record IsUpdateFrom (before : CourtFile) (text : List ℕ) (to : ℕ) (resul
   pub court : District
   pub after : CourtFile
   pub named : court_said text ≡ Some court
-  pub is : court_in result ≡ Ok after
+  pub is : desk_court_in result ≡ Ok after
   pub extended : IsExtended court.state before.days.to to text result said
   pub grown : IsGrown court.state before.days (on 12 31 (pos to)) after.days
 
 abbrev pub IsUpdateOf : (text : List ℕ) → (to : ℕ) → (result said : List ℕ) → Type 0
-IsUpdateOf text to result said = (before : CourtFile) × (court_in text ≡ Ok before) × IsUpdateFrom before text to result said
+IsUpdateOf text to result said = (before : CourtFile) × (desk_court_in text ≡ Ok before) × IsUpdateFrom before text to result said
 
 -- ---- why it isn't made
 

@@ -3,7 +3,7 @@
 use Rattle.std.specs.Prelude.{◌≡◌, ℕ, ◌+◌, ℤ, pos, nat_le, ◌≤ℤ◌, ◌&&◌, Bool, List, Ok, Some, is_some}
 use Rattle.court_clock.specs.Words.{zone_of_text}
 use Rattle.toml.specs.Data.{Members}
-use Rattle.court_days.specs.Words.{CourtFile, DaysView, court_in, court_of, is_among}
+use Rattle.court_days.specs.Words.{CourtFile, DaysView, desk_court_in, desk_court_of, is_among}
 use Rattle.court_holidays.specs.States.Words.{on}
 use Rattle.court_holidays.specs.declared.states.state.State.{State}
 use Rattle.court_writing.specs.Listed.{federal_on, state_on}
@@ -29,6 +29,7 @@ pub record IsOfCourt (state : State) (zone : List ℕ) (own : OwnView) (from to 
   pub zone_is : zone_of_text zone ≡ Some file.zone
   pub opens : file.opens ≡ opens_of own
   pub closes : file.closes ≡ closes_of own
+  pub efiling_until : file.efiling_until ≡ own.efiling_until
   pub judges : file.judges ≡ judges_of own
   pub rooms : file.rooms ≡ rooms_of own
   pub days : AreDaysOf state from to file.days
@@ -36,9 +37,9 @@ pub record IsOfCourt (state : State) (zone : List ℕ) (own : OwnView) (from to 
 -- the document says that
 abbrev pub IsDocumentOf : State → (zone : List ℕ) → OwnView → (from to : ℕ) → Members → Type 0
 IsDocumentOf state zone own from to document =
-    (file : CourtFile) × (court_of document ≡ Ok file) × IsOfCourt state zone own (pos from) (pos to) file
+    (file : CourtFile) × (desk_court_of document ≡ Ok file) × IsOfCourt state zone own (pos from) (pos to) file
 
 -- the text is that court's file
 abbrev pub IsFileOf : State → (zone : List ℕ) → OwnView → (from to : ℕ) → List ℕ → Type 0
 IsFileOf state zone own from to text =
-    (file : CourtFile) × (court_in text ≡ Ok file) × IsOfCourt state zone own (pos from) (pos to) file
+    (file : CourtFile) × (desk_court_in text ≡ Ok file) × IsOfCourt state zone own (pos from) (pos to) file

@@ -50,7 +50,23 @@ fn push_hours(text: &mut String, office: &Office<'_>) -> Result<(), AllocError> 
     write!(
         text,
         "opens = \"{opens:02}:{minute_of_opening:02}\"\ncloses = \"{closes:02}:{minute_of_closing:02}\"\n"
-    )
+    )?;
+    push_efiling(text, office.efiling_until)
+}
+
+/// Adds to when electronic filing runs on a last day, if it is given.
+fn push_efiling(text: &mut String, until: Option<u16>) -> Result<(), AllocError> {
+    let Some(until) = until else {
+        return Ok(());
+    };
+    let (hour, minute) = (until / 60, until % 60);
+    text.push_str(
+        "
+# To when the last day of a period runs for electronic filing. Without this key it runs to midnight, Rule 6(a)(4)(A). Another
+# time has to be set by a statute, a local rule or an order: name it here. clerk_office doesn't read this key.
+",
+    )?;
+    write!(text, "efiling_until = \"{hour:02}:{minute:02}\"\n")
 }
 
 /// Adds what is said of another clock in the district.

@@ -1,7 +1,7 @@
 //! Whether a text is a court's file that goes on after another's last day, with the days of the court's lists.
 
 ghost use Rattle.std.specs.Prelude.{◌≡◌, ◌≤◌, ℤ, ◌≤ℤ◌, pos, true, None, IfOk, Ok};
-ghost use Rattle.court_days.specs.Words.{CourtFile, court_in, dates_of};
+ghost use Rattle.court_days.specs.Words.{CourtFile, desk_court_in, dates_of};
 ghost use Rattle.court_holidays.specs.States.Words.{on};
 ghost use Rattle.court_writing.specs.Update.{IsGrown, IsKept, IsLate, was_in};
 
@@ -25,10 +25,10 @@ pub(crate) fn check_grown(
 ) -> Result<(), UpdateFault>
     requires first { 2016 ≤ to }
     requires last { to ≤ 2199 }
-    ensures grown { IfOk result (λ _. (file : CourtFile) × (court_in text.now ≡ Ok file) × IsGrown state before.now (on 12 31 (pos to)) file.days) }
+    ensures grown { IfOk result (λ _. (file : CourtFile) × (desk_court_in text.now ≡ Ok file) × IsGrown state before.now (on 12 31 (pos to)) file.days) }
     ensures late { IsLate result }
 {
-    let court = match Court::from_bytes(alloc, text) {
+    let court = match Court::from_desk_bytes(alloc, text) {
         Ok(court) => court,
         Err(CourtFault::OutOfMemory) => return Err(UpdateFault::OutOfMemory),
         Err(_) => return Err(UpdateFault::NotReadBack),

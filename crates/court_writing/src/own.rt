@@ -13,6 +13,8 @@ pub struct CourtOwn {
     pub opens: Option<u16>,
     /// When it closes.
     pub closes: Option<u16>,
+    /// To when electronic filing runs on a last day, where a local rule sets it.
+    pub efiling_until: Option<u16>,
     /// The judges.
     pub judges: Option<Vec<String>>,
     /// The rooms.
@@ -22,7 +24,7 @@ pub struct CourtOwn {
 impl Model for CourtOwn {
     ghost Value = { OwnView };
 
-    ghost view = { λ o. record { opens = o.opens; closes = o.closes; judges = option_map (λ names. map string_bytes names.items) o.judges; rooms = option_map (λ names. map string_bytes names.items) o.rooms } };
+    ghost view = { λ o. record { opens = o.opens; closes = o.closes; efiling_until = o.efiling_until; judges = option_map (λ names. map string_bytes names.items) o.judges; rooms = option_map (λ names. map string_bytes names.items) o.rooms } };
 }
 
 /// The hours and the names that are written.
@@ -30,6 +32,7 @@ impl Model for CourtOwn {
 pub(crate) struct Office<'a> {
     pub opens: u16,
     pub closes: u16,
+    pub efiling_until: Option<u16>,
     pub judges: Vec<&'a str>,
     pub rooms: Vec<&'a str>,
 }
@@ -69,6 +72,7 @@ impl CourtOwn {
         Ok(Office {
             opens: self.opens(),
             closes: self.closes(),
+            efiling_until: self.efiling_until,
             judges: self.judges(alloc)?,
             rooms: self.rooms(alloc)?,
         })

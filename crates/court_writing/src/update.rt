@@ -2,7 +2,7 @@
 
 ghost use Rattle.std.specs.Prelude.{◌≡◌, ◌≤◌, ◌<ℤ◌, ◌≤ℤ◌, int_le, option_map, pos, slice_get, string_bytes, IfOk};
 ghost use Rattle.std.specs.Bool.{OnFalse, OnTrue};
-ghost use Rattle.court_days.specs.Words.{court_in, file_of};
+ghost use Rattle.court_days.specs.Words.{desk_court_in, file_of};
 ghost use Rattle.court_holidays.specs.States.Words.{on};
 ghost use Rattle.court_writing.specs.Courts.{of_district, zone_text};
 ghost use Rattle.court_writing.specs.Update.{IsRefused, IsUpdateFrom, IsUpdateOf, court_in_line, court_said, ends_late_enough, has_room, is_year, line_said, refusal, refusal_of, words};
@@ -71,9 +71,9 @@ pub struct Updated {
 #[tactic(auto, using(crate::proofs::UpdateLemmas::memory_refused, crate::proofs::UpdateLemmas::not_read))]
 pub fn court_update(alloc: Global, text: &[u8], to: u16) -> Result<Updated, UpdateFault>
     ensures updated { IfOk result (λ updated. IsUpdateOf text.now to updated.file.items (string_bytes updated.said)) }
-    ensures refused { IsRefused (refusal (court_in text.now) (court_said text.now) to) result }
+    ensures refused { IsRefused (refusal (desk_court_in text.now) (court_said text.now) to) result }
 {
-    match Court::from_bytes(alloc, text) {
+    match Court::from_desk_bytes(alloc, text) {
         Ok(court) => update_of(alloc, text, &court, to),
         Err(CourtFault::OutOfMemory) => Err(UpdateFault::OutOfMemory),
         Err(_) => Err(UpdateFault::NotRead),

@@ -92,7 +92,7 @@ fn check_document(
 {
     let judges = has_names(alloc, file, Key::Judges, &office.judges)?;
     let rooms = has_names(alloc, file, Key::Rooms, &office.rooms)?;
-    match Court::from_table(alloc, file) {
+    match Court::from_desk_table(alloc, file) {
         Ok(read) => {
             if judges
                 && rooms
@@ -160,12 +160,25 @@ fn is_name_at(read: &Names, place: usize, name: &str) -> bool
 fn is_of_years(state: State, office: &Office<'_>, from: u16, to: u16, read: &Court) -> bool
     requires { are_years from to ≡ true }
     ensures hours { result ≡ true → (read.now.clock.opens ≡ office.now.opens) × (read.now.clock.closes ≡ office.now.closes) }
+    ensures efiling { result ≡ true → read.now.clock.efiling_until ≡ office.now.efiling_until }
     ensures days { result ≡ true → AreDaysOf state (pos from) (pos to) read.now.days }
 {
     let clock = read.clock();
     clock.opens() == office.opens
         && clock.closes() == office.closes
+        && is_same_minute(clock.efiling_until(), office.efiling_until)
         && are_days_of(state, from, to, read.days())
+}
+
+/// Whether both are the same minute, or none.
+fn is_same_minute(one: Option<u16>, other: Option<u16>) -> bool
+    ensures { result ≡ true → one ≡ other }
+{
+    match (one, other) {
+        (Some(one), Some(other)) => one == other,
+        (None, None) => true,
+        _ => false,
+    }
 }
 
 /// Whether a file can be written for the years.

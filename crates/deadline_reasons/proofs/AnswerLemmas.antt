@@ -15,10 +15,10 @@ use Rattle.rule6.specs.Words.{expiry_of, last_day_of, end_of_hours_from, extende
 use Rattle.rule_periods.specs.declared.expiry.Expiry.{Expiry}
 use Rattle.rule_periods.specs.declared.expiry.Expiry.TheVariants.{OnDay, AtInstant}
 use Rattle.rule_periods.specs.declared.grant.Grant.{Grant}
-use Rattle.rule_periods.specs.declared.grant.Grant.TheVariants.{ByDays, ByHours, Until}
+use Rattle.rule_periods.specs.declared.grant.Grant.TheVariants.{ByDays, ByHours, Until, Reset, ResetAt}
 use Rattle.rule_periods.specs.declared.period.Entered.{Entered as EnteredPeriod}
 use Rattle.rule_periods.specs.declared.period.Length.{Length}
-use Rattle.rule_periods.specs.declared.period.Length.TheVariants.{Days, Hours, ToDay}
+use Rattle.rule_periods.specs.declared.period.Length.TheVariants.{Days, Hours, ToDay, ToTime}
 use Rattle.rule_periods.specs.declared.period.Period.{Period}
 use Rattle.rule_periods.specs.declared.period.Period.TheVariants.{Rule, Entered}
 use Rattle.rule_periods.specs.Words.{DeadlineRowView, base_of_period, end_of_rule, end_of_length, extended_of, act_due, direction_of, grant_fits, granted, granted_if_it_fits, is_certain, is_in_hours, shown_end, shown_after, shown_of}
@@ -38,12 +38,14 @@ module _ (c : DaysView) (clock : ClockView) (row : DeadlineRowView) where
   base_by p (Days n) = option_map OnDay (last_day_of c (event_day row p) n (direction_of p) (adds_three row p))
   base_by p (Hours h) = option_map AtInstant (end_of_hours_from c clock (instant_of clock.zone row.event.day (60 * row.event.minute)) h (direction_of p))
   base_by p ToDay = Some (OnDay row.event.day)
+  base_by p ToTime = Some (AtInstant (instant_of clock.zone row.event.day (60 * row.event.minute)))
 
   entered_is : (entered : EnteredPeriod) (length : Length) → end_of_length c clock row.event length entered.direction (adds_three row (Entered entered)) ≡ base_by (Entered entered) length
   unfolding end_of_length
   entered_is entered (Days n) = refl
   entered_is entered (Hours h) = refl
   entered_is entered ToDay = refl
+  entered_is entered ToTime = refl
 
   base_is : (p : Period) → base_of_period c clock row p ≡ base_by p (length_of row p)
   unfolding base_of_period end_of_rule
@@ -65,6 +67,8 @@ module _ (c : DaysView) (clock : ClockView) (row : DeadlineRowView) where
       ∙ ap (λ e. with_grants c clock row (option_map AtInstant (end_of_hours_from c clock e n (direction_of row.period))) row.grants) h.0
   begins_with ToDay (reason.Set day) next h =
       ap (answer_from c clock row) h.1 ∙ ap (λ d. with_grants c clock row (Some (OnDay d)) row.grants) h.0
+  begins_with ToTime (reason.SetAt instant) next h =
+      ap (answer_from c clock row) h.1 ∙ ap (λ t. with_grants c clock row (Some (AtInstant t)) row.grants) h.0
   begins_with length r next h = absurd h
 
   shown_is : shown_of c clock row ≡ with_grants c clock row (base_of_period c clock row row.period) row.grants
@@ -136,7 +140,7 @@ module _ (c : DaysView) (clock : ClockView) (row : DeadlineRowView) where
   -- the last day
   pub closes_keeps : (a : Act) (last : ℤ) (r : Reason) (next : Standing) → Closes clock a last r next → answer_from c clock row next ≡ shown_end a (Some (OnDay last))
   closes_keeps act.Service last (reason.UntilMidnight day) next h = ap (answer_from c clock row) h.1
-  closes_keeps act.Filing last (reason.UntilClosing day minute) next h = ap (answer_from c clock row) h.2
+  closes_keeps act.Filing last (reason.UntilClosing day closes until) next h = ap (answer_from c clock row) h.3
   closes_keeps a last r next h = absurd h
 
   pub passes : (test : OutageView → Bool) (outage : OutageView) → Contains c.outages outage → test outage ≡ true → list_any test c.outages ≡ true
@@ -177,6 +181,9 @@ module _ (c : DaysView) (clock : ClockView) (row : DeadlineRowView) where
   goes_on_keeps last false (Until d ∷ grants) (reason.Extended grant) next h =
       ap (answer_from c clock row) h.2
       ∙ and_then_extended _ (Some (OnDay last)) (Until d) grants (extended_is (is_in_hours row.period) (Some (OnDay last)) (Until d) (ap not h.1))
+  goes_on_keeps last false (Reset d ∷ grants) (reason.Extended grant) next h =
+      ap (answer_from c clock row) h.2
+      ∙ and_then_extended _ (Some (OnDay last)) (Reset d) grants (extended_is (is_in_hours row.period) (Some (OnDay last)) (Reset d) (ap not h.1))
   goes_on_keeps last false (g ∷ grants) (reason.NotExtended grant) next h =
       ap (answer_from c clock row) h.2
       ∙ and_then_extended None (Some (OnDay last)) g grants (not_extended_is (is_in_hours row.period) (Some (OnDay last)) g h.1)
@@ -193,6 +200,10 @@ module _ (c : DaysView) (clock : ClockView) (row : DeadlineRowView) where
   nothing_from_none false (ByHours n) h = refl
   nothing_from_none true (Until d) h = refl
   nothing_from_none false (Until d) h = absurd (cc)
+  nothing_from_none true (Reset d) h = refl
+  nothing_from_none false (Reset d) h = absurd (cc)
+  nothing_from_none true (ResetAt at) h = absurd (cc)
+  nothing_from_none false (ResetAt at) h = refl
 
   lacks_end : with_grants c clock row None [] ≡ shown.Beyond
   unfolding shown_after
@@ -201,9 +212,13 @@ module _ (c : DaysView) (clock : ClockView) (row : DeadlineRowView) where
     | inr f ↦ rw f refl
   ]
 
-  pub lacks_keeps : (grants : List Grant) (r : Reason) (next : Standing) → Lacks row grants r next → answer_from c clock row next ≡ with_grants c clock row None grants
+  pub lacks_keeps : (grants : List Grant) (r : Reason) (next : Standing) → Lacks clock row grants r next → answer_from c clock row next ≡ with_grants c clock row None grants
   lacks_keeps (Until d ∷ grants) (reason.Extended grant) next h =
       ap (answer_from c clock row) h.2 ∙ and_then_extended _ None (Until d) grants (extended_is (is_in_hours row.period) None (Until d) (ap not h.1))
+  lacks_keeps (Reset d ∷ grants) (reason.Extended grant) next h =
+      ap (answer_from c clock row) h.2 ∙ and_then_extended _ None (Reset d) grants (extended_is (is_in_hours row.period) None (Reset d) (ap not h.1))
+  lacks_keeps (ResetAt at ∷ grants) (reason.Extended grant) next h =
+      ap (answer_from c clock row) h.2 ∙ and_then_extended _ None (ResetAt at) grants (extended_is (is_in_hours row.period) None (ResetAt at) h.1)
   lacks_keeps (g ∷ grants) (reason.NotExtended grant) next h =
       ap (answer_from c clock row) h.2 ∙ and_then_extended None None g grants (nothing_from_none (is_in_hours row.period) g h.1)
   lacks_keeps [] reason.Beyond next h = ap (answer_from c clock row) h ∙ sym lacks_end

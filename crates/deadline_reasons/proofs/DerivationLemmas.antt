@@ -52,8 +52,8 @@ if_ok (Err e) P Q more h = h
 pub closing_follows : (c : DaysView) (clock : ClockView) (row : DeadlineRowView) (last : ℤ) (a : Act) (r : Reason) (next : Standing) → a ≡ act_due row → (needs_access row && has_outage c last) ≡ false → Closes clock a last r next → GoesOn c clock row last false [] r next
 closing_follows c clock row last act.Service (reason.UntilMidnight day) next same accessible h =
     (accessible, subst (λ a. Closes clock a last (reason.UntilMidnight day) next) same h)
-closing_follows c clock row last act.Filing (reason.UntilClosing day minute) next same accessible h =
-    (accessible, subst (λ a. Closes clock a last (reason.UntilClosing day minute) next) same h)
+closing_follows c clock row last act.Filing (reason.UntilClosing day closes until) next same accessible h =
+    (accessible, subst (λ a. Closes clock a last (reason.UntilClosing day closes until) next) same h)
 closing_follows c clock row last a r next same accessible h = absurd h
 
 -- no reasons at all lead from a standing to itself

@@ -9,7 +9,7 @@ use Rattle.court_days.specs.Words.{DaysView, OutageView, is_permitted}
 use Rattle.rule6.specs.Words.{continued, end_of_hours_from, extended_end, hours_from, meets_last_hour, same_time_on}
 use Rattle.rule_periods.specs.declared.expiry.Expiry.TheVariants.{AtInstant}
 use Rattle.rule_periods.specs.declared.grant.Grant.{Grant}
-use Rattle.rule_periods.specs.declared.grant.Grant.TheVariants.{ByHours}
+use Rattle.rule_periods.specs.declared.grant.Grant.TheVariants.{ByHours, ResetAt}
 use Rattle.rule_periods.specs.Words.{DeadlineRowView, act_due, is_in_hours, shown_end, shown_after}
 use Rattle.deadline_reasons.specs.declared.reason.Reason.{Reason}
 use Rattle.deadline_reasons.specs.declared.reason.Reason.TheVariants as reason
@@ -87,6 +87,9 @@ module _ (c : DaysView) (clock : ClockView) (row : DeadlineRowView) where
   goes_on_until_keeps end (ByHours n ∷ grants) (reason.Extended grant) next h =
       ap (answer_from c clock row) h.2
       ∙ and_then_extended c clock row _ (Some (AtInstant end)) (ByHours n) grants (extended_is c clock row (is_in_hours row.period) (Some (AtInstant end)) (ByHours n) h.1)
+  goes_on_until_keeps end (ResetAt at ∷ grants) (reason.Extended grant) next h =
+      ap (answer_from c clock row) h.2
+      ∙ and_then_extended c clock row _ (Some (AtInstant end)) (ResetAt at) grants (extended_is c clock row (is_in_hours row.period) (Some (AtInstant end)) (ResetAt at) h.1)
   goes_on_until_keeps end (g ∷ grants) (reason.NotExtended grant) next h =
       ap (answer_from c clock row) h.2
       ∙ and_then_extended c clock row None (Some (AtInstant end)) g grants (not_extended_is c clock row (is_in_hours row.period) (Some (AtInstant end)) g h.1)

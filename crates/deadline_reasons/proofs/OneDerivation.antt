@@ -13,9 +13,9 @@ use Rattle.rule6.specs.declared.timeliness.Shown.{Shown}
 use Rattle.rule6.specs.declared.timeliness.Shown.TheVariants as shown
 use Rattle.rule6.specs.Words.{next_day, meets_last_hour}
 use Rattle.rule_periods.specs.declared.grant.Grant.{Grant}
-use Rattle.rule_periods.specs.declared.grant.Grant.TheVariants.{ByDays, ByHours, Until}
+use Rattle.rule_periods.specs.declared.grant.Grant.TheVariants.{ByDays, ByHours, Until, Reset, ResetAt}
 use Rattle.rule_periods.specs.declared.period.Length.{Length}
-use Rattle.rule_periods.specs.declared.period.Length.TheVariants.{Days, Hours, ToDay}
+use Rattle.rule_periods.specs.declared.period.Length.TheVariants.{Days, Hours, ToDay, ToTime}
 use Rattle.rule_periods.specs.Words.{DeadlineRowView, act_due, direction_of, grant_fits, is_certain, is_in_hours}
 use Rattle.deadline_reasons.specs.declared.look.Look.{Look}
 use Rattle.deadline_reasons.specs.declared.reason.Reason.{Reason}
@@ -40,11 +40,15 @@ module _ (c : DaysView) (clock : ClockView) (row : DeadlineRowView) where
       let instant = instant_of clock.zone row.event.day (60 * row.event.minute) in
       (reason.HoursFrom instant, CountingHours instant h (direction_of row.period) row.grants)
   begins ToDay = (reason.Set row.event.day, Runs row.event.day (record { three = false; grants = row.grants }))
+  begins ToTime =
+      let instant = instant_of clock.zone row.event.day (60 * row.event.minute) in
+      (reason.SetAt instant, RunsUntil instant row.grants)
 
   begins_one : (length : Length) (r : Reason) (next : Standing) → Begins clock row length r next → begins length ≡ (r, next)
   begins_one (Days n) (reason.Excluded day) next h = rw (h.1, h.0) refl
   begins_one (Hours n) (reason.HoursFrom instant) next h = rw (h.1, h.0) refl
   begins_one ToDay (reason.Set day) next h = rw (h.1, h.0) refl
+  begins_one ToTime (reason.SetAt instant) next h = rw (h.1, h.0) refl
   begins_one length r next h = absurd h
 
   abbrev counts : ℤ → ℕ → Direction → ToCome → Reason × Standing
@@ -89,17 +93,19 @@ module _ (c : DaysView) (clock : ClockView) (row : DeadlineRowView) where
 
   abbrev closes : Act → ℤ → Reason × Standing
   closes act.Service last = (reason.UntilMidnight last, Ended (shown.Last last act.Service))
-  closes act.Filing last = (reason.UntilClosing last clock.closes, Ended (shown.Last last act.Filing))
+  closes act.Filing last = (reason.UntilClosing last clock.closes clock.efiling_until, Ended (shown.Last last act.Filing))
 
   closes_one : (a : Act) (last : ℤ) (r : Reason) (next : Standing) → Closes clock a last r next → closes a last ≡ (r, next)
   closes_one act.Service last (reason.UntilMidnight day) next h = rw (h.1, h.0) refl
-  closes_one act.Filing last (reason.UntilClosing day minute) next h = rw (h.2, h.1, h.0) refl
+  closes_one act.Filing last (reason.UntilClosing day minute until) next h = rw (h.3, h.2, h.1, h.0) refl
   closes_one a last r next h = absurd h
 
   abbrev extends_day : ℤ → Grant → List Grant → Option (Reason × Standing)
   extends_day last (ByDays n) grants = Some (reason.Extended (ByDays n), Counting last n After (record { three = false; grants = grants }))
   extends_day last (ByHours n) grants = None
   extends_day last (Until d) grants = Some (reason.Extended (Until d), Runs d (record { three = false; grants = grants }))
+  extends_day last (Reset d) grants = Some (reason.Extended (Reset d), Runs d (record { three = false; grants = grants }))
+  extends_day last (ResetAt at) grants = None
 
   abbrev goes_on : ℤ → Bool → List Grant → Option (Reason × Standing)
   goes_on last true grants =
@@ -115,6 +121,7 @@ module _ (c : DaysView) (clock : ClockView) (row : DeadlineRowView) where
   goes_on_one last true grants (reason.ThreeAdded kind) next h = rw (h.0, h.1) refl
   goes_on_one last false (ByDays n ∷ grants) (reason.Extended grant) next h = rw (h.1, h.2, h.0) refl
   goes_on_one last false (Until d ∷ grants) (reason.Extended grant) next h = rw (h.1, h.2, h.0) refl
+  goes_on_one last false (Reset d ∷ grants) (reason.Extended grant) next h = rw (h.1, h.2, h.0) refl
   goes_on_one last false (g ∷ grants) (reason.NotExtended grant) next h = rw (h.1, h.2, h.0) refl
   goes_on_one last false [] (reason.Inaccessible outage) next h =
       rw (h.0, outage_lies_on c clock row outage last h.1.0 h.2, h.1.1, h.3) refl
@@ -152,6 +159,8 @@ module _ (c : DaysView) (clock : ClockView) (row : DeadlineRowView) where
   extends_hours end (ByDays n) grants = None
   extends_hours end (ByHours n) grants = Some (reason.Extended (ByHours n), CountingHours end n After grants)
   extends_hours end (Until d) grants = None
+  extends_hours end (Reset d) grants = None
+  extends_hours end (ResetAt at) grants = Some (reason.Extended (ResetAt at), RunsUntil (instant_of clock.zone at.day (60 * at.minute)) grants)
 
   abbrev shut_at : ℤ → Option CivilTime → Option (Reason × Standing)
   shut_at end None = Some (reason.NotCovered, Nowhere [])
@@ -167,6 +176,7 @@ module _ (c : DaysView) (clock : ClockView) (row : DeadlineRowView) where
 
   goes_on_until_one : (end : ℤ) (grants : List Grant) (r : Reason) (next : Standing) → GoesOnUntil c clock row end grants r next → goes_on_until end grants ≡ Some (r, next)
   goes_on_until_one end (ByHours n ∷ grants) (reason.Extended grant) next h = rw (h.1, h.2, h.0) refl
+  goes_on_until_one end (ResetAt at ∷ grants) (reason.Extended grant) next h = rw (h.1, h.2, h.0) refl
   goes_on_until_one end (g ∷ grants) (reason.NotExtended grant) next h = rw (h.1, h.2, h.0) refl
   goes_on_until_one end [] (reason.LastHour outage day second) next h =
       rw (h.0, outage_meets c clock row end outage h.1.0 h.2, h.3, h.1.1, h.4) refl
@@ -182,17 +192,23 @@ module _ (c : DaysView) (clock : ClockView) (row : DeadlineRowView) where
   lacks_certain (ByDays n) grants = None
   lacks_certain (ByHours n) grants = None
   lacks_certain (Until d) grants = Some (reason.Extended (Until d), Runs d (record { three = false; grants = grants }))
+  lacks_certain (Reset d) grants = Some (reason.Extended (Reset d), Runs d (record { three = false; grants = grants }))
+  lacks_certain (ResetAt at) grants = Some (reason.Extended (ResetAt at), RunsUntil (instant_of clock.zone at.day (60 * at.minute)) grants)
 
   abbrev lacks : List Grant → Option (Reason × Standing)
   lacks [] = Some (reason.Beyond, Ended shown.Beyond)
   lacks (g ∷ grants) =
       if is_certain g && grant_fits (is_in_hours row.period) g then lacks_certain g grants else Some (reason.NotExtended g, Nowhere grants)
 
-  lacks_one : (grants : List Grant) (r : Reason) (next : Standing) → Lacks row grants r next → lacks grants ≡ Some (r, next)
+  lacks_one : (grants : List Grant) (r : Reason) (next : Standing) → Lacks clock row grants r next → lacks grants ≡ Some (r, next)
   lacks_one (Until d ∷ grants) (reason.Extended grant) next h = rw (h.1, h.2, h.0) refl
+  lacks_one (Reset d ∷ grants) (reason.Extended grant) next h = rw (h.1, h.2, h.0) refl
+  lacks_one (ResetAt at ∷ grants) (reason.Extended grant) next h = rw (h.1, h.2, h.0) refl
   lacks_one (ByDays n ∷ grants) (reason.NotExtended grant) next h = rw (h.2, h.0) refl
   lacks_one (ByHours n ∷ grants) (reason.NotExtended grant) next h = rw (h.2, h.0) refl
   lacks_one (Until d ∷ grants) (reason.NotExtended grant) next h = rw (h.1, h.2, h.0) refl
+  lacks_one (Reset d ∷ grants) (reason.NotExtended grant) next h = rw (h.1, h.2, h.0) refl
+  lacks_one (ResetAt at ∷ grants) (reason.NotExtended grant) next h = rw (h.1, h.2, h.0) refl
   lacks_one [] reason.Beyond next h = rw h refl
   lacks_one grants r next h = absurd h
 

@@ -12,9 +12,9 @@ use Rattle.rule6.specs.declared.timeliness.Act.TheVariants as act
 use Rattle.rule6.specs.declared.timeliness.Shown.TheVariants as shown
 use Rattle.rule6.specs.Words.{next_day, hours_from, meets_last_hour}
 use Rattle.rule_periods.specs.declared.grant.Grant.{Grant}
-use Rattle.rule_periods.specs.declared.grant.Grant.TheVariants.{ByDays, ByHours, Until}
+use Rattle.rule_periods.specs.declared.grant.Grant.TheVariants.{ByDays, ByHours, Until, Reset, ResetAt}
 use Rattle.rule_periods.specs.declared.period.Length.{Length}
-use Rattle.rule_periods.specs.declared.period.Length.TheVariants.{Days, Hours, ToDay}
+use Rattle.rule_periods.specs.declared.period.Length.TheVariants.{Days, Hours, ToDay, ToTime}
 use Rattle.rule_periods.specs.Words.{DeadlineRowView, act_due, direction_of, grant_fits, is_certain, is_in_hours}
 use Rattle.deadline_reasons.specs.declared.look.Look.{Look}
 use Rattle.deadline_reasons.specs.declared.reason.Reason.{Reason}
@@ -24,7 +24,8 @@ use Rattle.deadline_reasons.specs.Row.{length_of, event_day, adds_three, needs_a
 use Rattle.deadline_reasons.specs.Standing.{ToCome, Aim, LastDay, Hour, AccessibleDay, AccessibleHour, Standing, Unstarted, Counting, Looking, Runs, CountingHours, HoursEnd, RunsUntil, Moved, MovedUntil, Nowhere, Ended, grants_behind}
 
 -- Days are counted from the day of the event, which is excluded (Fed. R. Civ. P. 6(a)(1)(A)); hours from its instant,
--- at once (6(a)(2)(A)). Up to a date certain, which an order sets, nothing is counted (2009 Note to Fed. R. Civ. P. 6(a)).
+-- at once (6(a)(2)(A)). Up to a date certain, or a time of it, which an order sets, nothing is counted (2009 Note to
+-- Fed. R. Civ. P. 6(a)).
 abbrev pub Begins : ClockView → DeadlineRowView → Length → Reason → Standing → Type 0
 Begins clock row (Days n) (reason.Excluded day) next =
     (day ≡ event_day row row.period) × (next ≡ Counting day n (direction_of row.period) (record { three = adds_three row row.period; grants = row.grants }))
@@ -32,6 +33,8 @@ Begins clock row (Hours h) (reason.HoursFrom instant) next =
     (instant ≡ instant_of clock.zone row.event.day (60 * row.event.minute)) × (next ≡ CountingHours instant h (direction_of row.period) row.grants)
 Begins clock row ToDay (reason.Set day) next =
     (day ≡ row.event.day) × (next ≡ Runs day (record { three = false; grants = row.grants }))
+Begins clock row ToTime (reason.SetAt instant) next =
+    (instant ≡ instant_of clock.zone row.event.day (60 * row.event.minute)) × (next ≡ RunsUntil instant row.grants)
 Begins clock row length r next = ⊥
 
 -- Every day counts, and the last one is included (6(a)(1)(B), (C)).
@@ -60,17 +63,17 @@ Looks c clock d look aim (reason.PassedOver day cause) next =
 Looks c clock d look aim reason.NotCovered next = (is_covered c d ≡ false) × (next ≡ Nowhere (grants_behind aim))
 Looks c clock d look aim r next = (is_open c look.holidays look.accessible d ≡ true) × Finds clock d aim r next
 
--- The last day ends at midnight for service. For filing it ends at midnight by electronic means, and by others when
--- the clerk's office is scheduled to close (6(a)(4)).
+-- The last day ends at midnight for service. For filing it ends by electronic means at midnight, or at the minute that a local rule
+-- sets, and by others when the clerk's office is scheduled to close (6(a)(4)).
 abbrev pub Closes : ClockView → Act → ℤ → Reason → Standing → Type 0
 Closes clock act.Service last (reason.UntilMidnight day) next = (day ≡ last) × (next ≡ Ended (shown.Last last act.Service))
-Closes clock act.Filing last (reason.UntilClosing day minute) next =
-    (day ≡ last) × (minute ≡ clock.closes) × (next ≡ Ended (shown.Last last act.Filing))
+Closes clock act.Filing last (reason.UntilClosing day closes until) next =
+    (day ≡ last) × (closes ≡ clock.closes) × (until ≡ clock.efiling_until) × (next ≡ Ended (shown.Last last act.Filing))
 Closes clock a last r next = ⊥
 
 -- From a last day first three days are counted where the service adds them (6(d)), then each extension in turn (6(b),
--- 4(m)). Then, for filing, an outage on the last day moves the time (6(a)(3)(A)); of several outages the first is given.
--- Without one the time ends.
+-- 4(m)); an order may set another day in place of the one so far. Then, for filing, an outage on the last day moves the
+-- time (6(a)(3)(A)); of several outages the first is given. Without one the time ends.
 abbrev pub GoesOn : DaysView → ClockView → DeadlineRowView → ℤ → Bool → List Grant → Reason → Standing → Type 0
 GoesOn c clock row last true grants (reason.ThreeAdded kind) next =
     (row.service ≡ Some kind) × (next ≡ Counting last 3 After (record { three = false; grants = grants }))
@@ -78,6 +81,8 @@ GoesOn c clock row last false (ByDays n ∷ grants) (reason.Extended grant) next
     (grant ≡ ByDays n) × (is_in_hours row.period ≡ false) × (next ≡ Counting last n After (record { three = false; grants = grants }))
 GoesOn c clock row last false (Until d ∷ grants) (reason.Extended grant) next =
     (grant ≡ Until d) × (is_in_hours row.period ≡ false) × (next ≡ Runs d (record { three = false; grants = grants }))
+GoesOn c clock row last false (Reset d ∷ grants) (reason.Extended grant) next =
+    (grant ≡ Reset d) × (is_in_hours row.period ≡ false) × (next ≡ Runs d (record { three = false; grants = grants }))
 GoesOn c clock row last false (g ∷ grants) (reason.NotExtended grant) next =
     (grant ≡ g) × (grant_fits (is_in_hours row.period) g ≡ false) × (next ≡ Nowhere grants)
 GoesOn c clock row last false [] (reason.Inaccessible outage) next =
@@ -105,11 +110,14 @@ EndsHours c clock end direction grants (reason.Continued day second) next =
 EndsHours c clock end direction grants reason.NotCovered next = (civil_of clock.zone end ≡ None) × (next ≡ Nowhere grants)
 EndsHours c clock end direction grants r next = ⊥
 
--- From an instant each extension goes on in turn (6(b)). Then, for filing, an outage in the last hour moves the time
--- (6(a)(3)(B)); of several outages the first is given. Without one the time ends.
+-- From an instant each extension goes on in turn (6(b)); an order may set another instant in its place. Then, for filing,
+-- an outage in the last hour moves the time (6(a)(3)(B)); of several outages the first is given. Without one the time
+-- ends.
 abbrev pub GoesOnUntil : DaysView → ClockView → DeadlineRowView → ℤ → List Grant → Reason → Standing → Type 0
 GoesOnUntil c clock row end (ByHours h ∷ grants) (reason.Extended grant) next =
     (grant ≡ ByHours h) × (is_in_hours row.period ≡ true) × (next ≡ CountingHours end h After grants)
+GoesOnUntil c clock row end (ResetAt at ∷ grants) (reason.Extended grant) next =
+    (grant ≡ ResetAt at) × (is_in_hours row.period ≡ true) × (next ≡ RunsUntil (instant_of clock.zone at.day (60 * at.minute)) grants)
 GoesOnUntil c clock row end (g ∷ grants) (reason.NotExtended grant) next =
     (grant ≡ g) × (grant_fits (is_in_hours row.period) g ≡ false) × (next ≡ Nowhere grants)
 GoesOnUntil c clock row end [] (reason.LastHour outage day second) next =
@@ -125,14 +133,18 @@ abbrev pub ClosesAt : ℤ → Reason → Standing → Type 0
 ClosesAt end (reason.UntilInstant instant) next = (instant ≡ end) × (next ≡ Ended (shown.Until end))
 ClosesAt end r next = ⊥
 
--- Where a day that was needed isn't covered, only an extension to a date certain gives an end.
-abbrev pub Lacks : DeadlineRowView → List Grant → Reason → Standing → Type 0
-Lacks row (Until d ∷ grants) (reason.Extended grant) next =
+-- Where a day that was needed isn't covered, only an extension to a date certain gives an end, or an order that sets one.
+abbrev pub Lacks : ClockView → DeadlineRowView → List Grant → Reason → Standing → Type 0
+Lacks clock row (Until d ∷ grants) (reason.Extended grant) next =
     (grant ≡ Until d) × (is_in_hours row.period ≡ false) × (next ≡ Runs d (record { three = false; grants = grants }))
-Lacks row (g ∷ grants) (reason.NotExtended grant) next =
+Lacks clock row (Reset d ∷ grants) (reason.Extended grant) next =
+    (grant ≡ Reset d) × (is_in_hours row.period ≡ false) × (next ≡ Runs d (record { three = false; grants = grants }))
+Lacks clock row (ResetAt at ∷ grants) (reason.Extended grant) next =
+    (grant ≡ ResetAt at) × (is_in_hours row.period ≡ true) × (next ≡ RunsUntil (instant_of clock.zone at.day (60 * at.minute)) grants)
+Lacks clock row (g ∷ grants) (reason.NotExtended grant) next =
     (grant ≡ g) × ((is_certain g && grant_fits (is_in_hours row.period) g) ≡ false) × (next ≡ Nowhere grants)
-Lacks row [] reason.Beyond next = next ≡ Ended shown.Beyond
-Lacks row grants r next = ⊥
+Lacks clock row [] reason.Beyond next = next ≡ Ended shown.Beyond
+Lacks clock row grants r next = ⊥
 
 -- from where a derivation stands, this reason leads to where it stands next
 abbrev pub Follows : DaysView → ClockView → DeadlineRowView → Standing → Reason → Standing → Type 0
@@ -145,5 +157,5 @@ Follows c clock row (HoursEnd end direction grants) r next = EndsHours c clock e
 Follows c clock row (RunsUntil end grants) r next = GoesOnUntil c clock row end grants r next
 Follows c clock row (Moved d) r next = Closes clock (act_due row) d r next
 Follows c clock row (MovedUntil end) r next = ClosesAt end r next
-Follows c clock row (Nowhere grants) r next = Lacks row grants r next
+Follows c clock row (Nowhere grants) r next = Lacks clock row grants r next
 Follows c clock row (Ended shown) r next = ⊥

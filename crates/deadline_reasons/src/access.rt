@@ -73,7 +73,7 @@ fn closing(clock: &Clock, act: Act, day: Day) -> Reason
 {
     match act {
         Act::Service => Reason::UntilMidnight(day),
-        Act::Filing => Reason::UntilClosing(day, clock.closes()),
+        Act::Filing => Reason::UntilClosing(day, clock.closes(), clock.efiling_until()),
     }
 }
 

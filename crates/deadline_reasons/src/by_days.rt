@@ -42,8 +42,8 @@ pub(crate) fn push_days(
     close(days, clock, row, reasons, extended)
 }
 
-/// Adds the reasons of a deadline whose end an order sets.
-pub(crate) fn push_set(
+/// Adds the reasons of a deadline for which an order sets the day on which it ends.
+pub(crate) fn push_set_day(
     days: &Days,
     clock: &Clock,
     row: &DeadlineRow,
@@ -130,7 +130,7 @@ fn extend_all(
     Ok(extended)
 }
 
-/// Goes on by one extension.
+/// Goes on by one extension, or to the day that an order sets.
 fn extend(
     days: &Days,
     reasons: &mut Vec<Reason>,
@@ -153,7 +153,11 @@ fn extend(
             push(reasons, Reason::Extended(grant))?;
             Ok(Some(day))
         }
-        Grant::ByHours(_) => {
+        Grant::Reset(day) => {
+            push(reasons, Reason::Extended(grant))?;
+            Ok(Some(day))
+        }
+        Grant::ByHours(_) | Grant::ResetAt(_) => {
             push(reasons, Reason::NotExtended(grant))?;
             Ok(None)
         }

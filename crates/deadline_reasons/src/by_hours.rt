@@ -1,4 +1,4 @@
-//! The reasons of a period that is stated in hours.
+//! The reasons of a period that is stated in hours, and of a time of day that an order sets.
 
 ghost use Rattle.std.specs.Prelude.{◌≡◌, ◌<◌, ◌≤◌, ◌+ℤ◌, ◌&&◌, true, false, [], ◌∷◌, List, IfSome, IfNone, IfOk};
 ghost use Rattle.std.specs.List.{list_any};
@@ -42,6 +42,23 @@ pub(crate) fn push_hours(
     push(reasons, Reason::HoursFrom(begins))?;
     let end = count(days, clock, reasons, begins, h, row.period().direction())?;
     let extended = extend_all(days, clock, row, reasons, end)?;
+    close(days, clock, row, reasons, extended)
+}
+
+/// Adds the reasons of a deadline for which an order sets the time at which it ends.
+pub(crate) fn push_set_time(
+    days: &Days,
+    clock: &Clock,
+    row: &DeadlineRow,
+    reasons: &mut Vec<Reason>,
+) -> Result<(), AllocError>
+    requires { length_of row.now row.now.period ≡ stated.ToTime }
+    ensures { IfOk result (λ _. (shown : Shown) × LeadsOn days.now clock.now row.now reasons.old.items reasons.new.items Unstarted (Ended shown)) }
+{
+    let event = row.event();
+    let end = clock.instant_of(event.day(), 60 * u32::from(event.minute()));
+    push(reasons, Reason::SetAt(end))?;
+    let extended = extend_all(days, clock, row, reasons, Some(end))?;
     close(days, clock, row, reasons, extended)
 }
 
@@ -158,7 +175,7 @@ fn extend_all(
     Ok(extended)
 }
 
-/// Goes on by one extension.
+/// Goes on by one extension, or to the time that an order sets.
 fn extend(
     days: &Days,
     clock: &Clock,
@@ -178,7 +195,12 @@ fn extend(
             push(reasons, Reason::Extended(grant))?;
             count(days, clock, reasons, from, h, Direction::After)
         }
-        Grant::ByDays(_) | Grant::Until(_) => {
+        Grant::ResetAt(at) => {
+            let instant = clock.instant_of(at.day(), 60 * u32::from(at.minute()));
+            push(reasons, Reason::Extended(grant))?;
+            Ok(Some(instant))
+        }
+        Grant::ByDays(_) | Grant::Until(_) | Grant::Reset(_) => {
             push(reasons, Reason::NotExtended(grant))?;
             Ok(None)
         }

@@ -7,8 +7,8 @@ ghost use Rattle.deadline_reasons.specs.Derivation.{IsDerivation};
 ghost use Rattle.deadline_reasons.specs.Inside.Leading.{LeadsOn};
 ghost use Rattle.deadline_reasons.specs.Standing.{Unstarted, Ended};
 
-use crate::by_days::{push_days, push_set};
-use crate::by_hours::push_hours;
+use crate::by_days::{push_days, push_set_day};
+use crate::by_hours::{push_hours, push_set_time};
 use crate::reason::Reason;
 use crate::row::length;
 use court_clock::Clock;
@@ -43,6 +43,7 @@ fn push_all(
     match length(row) {
         Length::Days(n) => push_days(days, clock, row, reasons, n),
         Length::Hours(h) => push_hours(days, clock, row, reasons, h),
-        Length::ToDay => push_set(days, clock, row, reasons),
+        Length::ToDay => push_set_day(days, clock, row, reasons),
+        Length::ToTime => push_set_time(days, clock, row, reasons),
     }
 }

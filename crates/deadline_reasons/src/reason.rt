@@ -36,6 +36,8 @@ pub enum Reason {
     Excluded(Day),
     /// An order sets the end on this day, a date certain: nothing is counted, and it isn't rolled (2009 Note to 6(a)).
     Set(Day),
+    /// The same at this instant, where the order sets a time of day too.
+    SetAt(Instant),
     /// This number of days is counted, every day counts, and this day is the last of them (6(a)(1)(B), (C)).
     Counted(u32, Day),
     /// The day is passed over, and the next one is looked at, away from the event (6(a)(1)(C), (a)(5), (a)(6)), or
@@ -45,7 +47,7 @@ pub enum Reason {
     RunsTo(Day),
     /// Three days are added for this kind of service (6(d)).
     ThreeAdded(ServiceKind),
-    /// The time is extended (6(b); under Rule 4(m) by 4(m)).
+    /// The time is extended (6(b); under Rule 4(m) by 4(m)), or an order sets another end (2009 Note to 6(a)).
     Extended(Grant),
     /// This extension gives no end: it is of another kind than the period, or there is nothing that it could extend.
     NotExtended(Grant),
@@ -70,9 +72,9 @@ pub enum Reason {
     LastHour(Outage, Day, u32),
     /// The last day, which ends at midnight: the act is service, about which 6(a)(4) says nothing.
     UntilMidnight(Day),
-    /// The last day, which ends at midnight for electronic filing, and for other filing at the minute, counted from
-    /// midnight, at which the clerk's office is scheduled to close (6(a)(4)).
-    UntilClosing(Day, u16),
+    /// The last day, which ends for filing on paper at the first minute, counted from midnight, at which the clerk's office is
+    /// scheduled to close, and for electronic filing at the second one, or at midnight where there is none (6(a)(4)).
+    UntilClosing(Day, u16, Option<u16>),
     /// The instant at which the time ends.
     UntilInstant(Instant),
     /// The day that is to be looked at isn't covered by the court's file.

@@ -10,7 +10,8 @@ use Rattle.rule_periods.specs.Words.{DeadlineRowView, EventView}
 use Rattle.hearing_slots.specs.declared.need.Need.{Need}
 use Rattle.docket_rows.specs.declared.answer.Answer.TheVariants as answer
 use Rattle.docket_rows.specs.declared.command.Command.{Command as CommandOf}
-use Rattle.docket_rows.specs.declared.command.Command.TheVariants.{OpenCase, Start, FileAct, Extend, Motion, Book, MoveHearing, Cancel, Holiday, Inaccessible}
+use Rattle.docket_rows.specs.declared.command.Command.TheVariants.{OpenCase, Start, FileAct, Extend, Motion, Book, MoveHearing, Cancel, Holiday, Inaccessible, Fact}
+use Rattle.docket_rows.specs.declared.fact.Fact.TheVariants.{Ended, Resumed, Closed, Reopened, Ruled, Assigned, Titled, Labelled}
 use Rattle.docket_rows.specs.declared.refusal.Refusal.{Refusal}
 use Rattle.docket_rows.specs.Words.{CourtSetup, DocketedDeadline, DocketedMotion, Rows, answer_if_made, answered, is_deadline, is_deadline_in, is_motion_in, motion_checks, motion_refusal, next_deadline, next_motion, parts_of, refusal, rows_after, start_deadline_checks, start_deadline_refusal, started, step, with_deadline}
 use Rattle.docket_laws.proofs.CallerLemmas.{none_of, when-not-None}
@@ -76,6 +77,14 @@ after_command rows (MoveHearing s) c kind = of_same rows (rows_after rows (MoveH
 after_command rows (Cancel case motion) c kind = of_same rows (rows_after rows (Cancel case motion)) c kind refl refl
 after_command rows (Holiday day list) c kind = of_same rows (rows_after rows (Holiday day list)) c kind refl refl
 after_command rows (Inaccessible day from to) c kind = of_same rows (rows_after rows (Inaccessible day from to)) c kind refl refl
+after_command rows (Fact case (Ended deadline why dated)) c kind = of_same rows (rows_after rows (Fact case (Ended deadline why dated))) c kind refl refl
+after_command rows (Fact case (Resumed deadline dated)) c kind = of_same rows (rows_after rows (Fact case (Resumed deadline dated))) c kind refl refl
+after_command rows (Fact case (Closed why dated)) c kind = of_same rows (rows_after rows (Fact case (Closed why dated))) c kind refl refl
+after_command rows (Fact case (Reopened dated)) c kind = of_same rows (rows_after rows (Fact case (Reopened dated))) c kind refl refl
+after_command rows (Fact case (Ruled motion how dated)) c kind = of_same rows (rows_after rows (Fact case (Ruled motion how dated))) c kind refl refl
+after_command rows (Fact case (Assigned judge referred dated)) c kind = of_same rows (rows_after rows (Fact case (Assigned judge referred dated))) c kind refl refl
+after_command rows (Fact case Titled) c kind = of_same rows (rows_after rows (Fact case Titled)) c kind refl refl
+after_command rows (Fact case (Labelled which number)) c kind = of_same rows (rows_after rows (Fact case (Labelled which number))) c kind refl refl
 
 -- after a row that asks for this no case has fewer
 pub never_fewer : (setup : CourtSetup) (rows : Rows) (asked : Work) (c : ℕ) (kind : Counted) → count_of rows c kind ≤ count_of (docketed_then setup rows asked) c kind
@@ -146,3 +155,4 @@ gives_next setup rows moved (Command (MoveHearing s)) at is = absurd cc
 gives_next setup rows moved (Command (Cancel case motion)) at is = absurd cc
 gives_next setup rows moved (Command (Holiday day list)) at is = absurd cc
 gives_next setup rows moved (Command (Inaccessible day from to)) at is = absurd cc
+gives_next setup rows moved (Command (Fact case fact)) at is = absurd cc

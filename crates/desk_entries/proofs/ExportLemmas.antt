@@ -13,20 +13,20 @@ use Rattle.row_forms.specs.declared.line.line.Line.TheVariants as line
 use Rattle.row_forms.specs.Line.Words.{fields_read, line_read}
 use Rattle.desk_register.specs.declared.standing.Standing.{Standing}
 use Rattle.desk_register.specs.Words.{most_clerks}
-use Rattle.desk_entries.specs.Export.{number_asked, row_placed, row_written, rows_written, said_placed, shown_as}
+use Rattle.desk_entries.specs.Export.{before_number, number_asked, row_placed, row_written, rows_written, said_placed, shown_as}
 use Rattle.desk_entries.specs.Laws.{RowsAreWrittenAsTheyAre}
 
 same_number : (n : ℕ) → nat_eq n n ≡ true
 same_number n = grind (arith, nat_tests)
 
-at_its_place : (number : Option ℕ) (fields : List (List ℕ)) → row_placed number number fields ≡ row_text default_writer fields
-at_its_place None fields = refl
-at_its_place (Some number) fields = rw (same_number number) refl
+at_its_place : (before : ℕ) (number : Option ℕ) (fields : List (List ℕ)) → row_placed before number number fields ≡ row_text default_writer fields
+at_its_place before None fields = refl
+at_its_place before (Some number) fields = rw (same_number number) refl
 
 none_placed : (said : Line) (fields : List (List ℕ)) → said_placed [] said fields ≡ shown_as said fields
 none_placed line.Blank fields = refl
 none_placed (line.Fault cause) fields = refl
-none_placed (line.Row row) fields = ap (λ (w : Work). row_placed (number_asked row.work) (number_asked w) fields) (sym (placed_alone [] row.work refl)) ∙ at_its_place (number_asked row.work) fields
+none_placed (line.Row row) fields = ap (λ (w : Work). row_placed (before_number row.work) (number_asked row.work) (number_asked w) fields) (sym (placed_alone [] row.work refl)) ∙ at_its_place (before_number row.work) (number_asked row.work) fields
 
 pub rows_as_they_are : RowsAreWrittenAsTheyAre
 unfolding row_written

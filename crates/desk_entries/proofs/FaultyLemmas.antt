@@ -3,7 +3,7 @@ use Rattle.std.proofs.Common.{◌≡◌, ◌∙◌, ◌+◌, ◌<◌, ◌⊎◌,
 use Rattle.std.specs.Prelude.{Vec, slice_get}
 use Rattle.std.specs.declared.alloc.Global.{Global}
 use Rattle.desk_journal.specs.Words.{batch_of}
-use Rattle.court_days.specs.Words.{court_in}
+use Rattle.court_days.specs.Words.{desk_court_in}
 use Rattle.desk_entries.specs.declared.fault.HistoryFault.{HistoryFault}
 use Rattle.desk_entries.specs.declared.fault.HistoryFault.TheVariants.{Court, NoCourt, Other, OutOfMemory, Strike}
 use Rattle.desk_entries.specs.Docketed.{AreHistory, CannotBe, HasFault, IsBadFile, IsBadNote, IsFaultyEntry, SaysOthers}
@@ -54,7 +54,7 @@ pub bad_file : (before : List (List ℕ)) (entry later : List ℕ) (number : ℕ
 bad_file before entry later number NoCourt begun some counted bad = absurd bad
 bad_file before entry later number (Court n cause) begun some counted bad = (
   bad.0 ∙ counted,
-  subst (λ (f : List ℕ). court_in f ≡ Err cause) (sym (standing_file-file before entry later begun some)) bad.1,
+  subst (λ (f : List ℕ). desk_court_in f ≡ Err cause) (sym (standing_file-file before entry later begun some)) bad.1,
 )
 bad_file before entry later number (Strike n) begun some counted bad = absurd bad
 bad_file before entry later number (Other n) begun some counted bad = absurd bad

@@ -1,6 +1,6 @@
 -- A court and its docket, made of a journal's entries, or why they make none.
 use Rattle.std.specs.Prelude.{◌≡◌, ◌<◌, ◌+◌, ◌⊎◌, ℕ, false, List, [], ◌∷◌, ◌++◌, length, Option, None, Some, Err}
-use Rattle.court_days.specs.Words.{court_in}
+use Rattle.court_days.specs.Words.{desk_court_in}
 use Rattle.desk_entries.specs.declared.docketed.Docketed.{Docketed}
 use Rattle.desk_entries.specs.declared.fault.HistoryFault.{HistoryFault}
 use Rattle.desk_entries.specs.declared.fault.HistoryFault.TheVariants.{Court, NoCourt, Other, OutOfMemory, Strike}
@@ -15,7 +15,7 @@ pub record IsDocketed (docketed : Docketed) (entries : List (List ℕ)) : Type 0
 -- why a file is no court's, which is in the entry of that number
 abbrev pub IsBadFile : (file : List ℕ) → (number : ℕ) → HistoryFault → Type 0
 IsBadFile file number NoCourt = ⊥
-IsBadFile file number (Court n cause) = (n ≡ number) × (court_in file ≡ Err cause)
+IsBadFile file number (Court n cause) = (n ≡ number) × (desk_court_in file ≡ Err cause)
 IsBadFile file number (Strike n) = ⊥
 IsBadFile file number (Other n) = ⊥
 IsBadFile file number OutOfMemory = Unit {0}
@@ -42,7 +42,7 @@ GetsOtherAnswer before entry = (under : Standing) × StandsAfter before under ×
 -- what is wrong with an entry that comes after these: a court's file with a fault, a bad note, or a row with another answer
 abbrev pub IsFaultyEntry : (before : List (List ℕ)) → (entry : List ℕ) → HistoryFault → Type 0
 IsFaultyEntry before entry NoCourt = ⊥
-IsFaultyEntry before entry (Court number cause) = (number ≡ length before + 1) × (court_in (standing_file (before ++ entry ∷ [])) ≡ Err cause)
+IsFaultyEntry before entry (Court number cause) = (number ≡ length before + 1) × (desk_court_in (standing_file (before ++ entry ∷ [])) ≡ Err cause)
 IsFaultyEntry before entry (Strike number) = (number ≡ length before + 1) × IsBadNote (note_in entry) before entry
 IsFaultyEntry before entry (Other number) = (number ≡ next_number before) × (note_in entry ≡ None) × GetsOtherAnswer before entry
 IsFaultyEntry before entry OutOfMemory = Unit {0}

@@ -1,5 +1,6 @@
 pub mod Review
 pub mod Export
+pub mod Called
 pub mod Reported
 pub mod Past
 pub mod Docketed

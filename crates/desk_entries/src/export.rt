@@ -1,13 +1,13 @@
 //! Rows as they are written for other programs.
 ghost use Rattle.std.specs.Prelude.{◌≡◌, ◌++◌, OnOk};
 ghost use Rattle.csv.specs.Records.{fields_of};
-ghost use Rattle.desk_entries.specs.Export.{number_asked, number_in, row_placed, row_written, said_placed};
+ghost use Rattle.desk_entries.specs.Export.{before_in, before_number, number_asked, number_in, row_placed, row_written, said_placed};
 
 use case_numbers::after_name;
 use csv::StringRecord;
 use desk_numbers::{MovedNumbers, is_apart};
 use desk_register::{MOST_CLERKS, RowTypes, Standing, with_field};
-use docket_rows::Command;
+use docket_rows::{Command, Fact};
 use row_forms::{Line, Work, push_row_text, read_line};
 use std::alloc::{AllocError, Global};
 
@@ -31,15 +31,39 @@ fn number_asked(work: &Work) -> Option<u32>
     }
 }
 
-// Adds a row with these fields that names this number, where what has the number is at this place.
+// How many fields of the row of a command come before that number.
+fn before_in(command: &Command) -> u8
+    ensures { result ≡ before_in command.now }
+{
+    match command {
+        Command::Fact {
+            fact: Fact::Labelled { .. },
+            ..
+        } => 4,
+        _ => 3,
+    }
+}
+
+// How many fields of a row come before that number.
+fn before_number(work: &Work) -> u8
+    ensures { result ≡ before_number work.now }
+{
+    match work {
+        Work::Command(command) => before_in(command),
+        Work::Query(_) => 3,
+    }
+}
+
+// Adds a row with these fields that names this number after so many of them, where what has the number is at this place.
 fn push_placed(
     alloc: Global,
     text: &mut Vec<u8>,
+    before: u8,
     number: Option<u32>,
     place: Option<u32>,
     fields: &StringRecord,
 ) -> Result<(), AllocError>
-    ensures { OnOk result (text.new.items ≡ text.old.items ++ row_placed number place (fields_of fields.now)) }
+    ensures { OnOk result (text.new.items ≡ text.old.items ++ row_placed before number place (fields_of fields.now)) }
 {
     let Some(number) = number else {
         return push_row_text(text, fields);
@@ -53,7 +77,7 @@ fn push_placed(
     if is_apart(place) {
         return Ok(());
     }
-    push_row_text(text, &with_field(alloc, fields, 3, place)?)
+    push_row_text(text, &with_field(alloc, fields, before, place)?)
 }
 
 // Adds what is written of a line that says this and has these fields.
@@ -70,7 +94,8 @@ fn push_said(
     match said {
         Line::Row(row) => {
             let place = number_asked(&moved.place(&row.work));
-            push_placed(alloc, text, number_asked(&row.work), place, fields)
+            let before = before_number(&row.work);
+            push_placed(alloc, text, before, number_asked(&row.work), place, fields)
         }
         _ => Ok(()),
     }

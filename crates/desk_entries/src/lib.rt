@@ -3,6 +3,7 @@
 //! types and functions from here.
 #![tactic(auto)]
 
+mod called;
 mod docketed;
 mod export;
 mod fault;

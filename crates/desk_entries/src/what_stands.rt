@@ -33,7 +33,7 @@ pub(crate) fn court_of(alloc: Global, file: &[u8], number: u32) -> Result<Court,
     ensures court { IfOk result (λ court. SaysCourt file.now court) }
     ensures cause { IfErr result (IsBadFile file.now number) }
 {
-    match Court::from_bytes(alloc, file) {
+    match Court::from_desk_bytes(alloc, file) {
         Ok(court) => Ok(court),
         Err(CourtFault::OutOfMemory) => Err(HistoryFault::OutOfMemory),
         Err(cause) => Err(HistoryFault::Court(number, cause)),

@@ -5,5 +5,6 @@ pub mod PlainLemmas
 pub mod MapLemmas
 pub mod SubjectLemmas
 pub mod SaidLemmas
+pub mod CalledLemmas
 pub mod CallerLemmas
 pub mod StrikesLemmas

@@ -6,8 +6,9 @@ use Rattle.docket_rows.specs.declared.answer.Answer.{Answer}
 use Rattle.docket_rows.specs.declared.answer.Answer.TheVariants as answer
 use Rattle.docket_rows.specs.declared.command.Command.{Command}
 use Rattle.docket_rows.specs.declared.command.Command.TheVariants as command
+use Rattle.docket_rows.specs.declared.fact.Fact.TheVariants.{Ended, Resumed, Closed, Reopened, Ruled, Assigned, Titled, Labelled}
 use Rattle.docket_rows.specs.declared.refusal.Refusal.{Refusal}
-use Rattle.docket_rows.specs.declared.refusal.Refusal.TheVariants.{JudgeBusy, RoomBusy, HearingThatDay, NoticeLost}
+use Rattle.docket_rows.specs.declared.refusal.Refusal.TheVariants.{JudgeBusy, RoomBusy, HearingThatDay, NoticeLost, HearingAhead}
 use Rattle.docket_rows.specs.declared.sheet.Sheet.{Sheet}
 use Rattle.docket_rows.specs.declared.sheet.SheetDeadline.{SheetDeadline}
 use Rattle.docket_rows.specs.declared.sheet.SheetMotion.{SheetMotion}
@@ -38,6 +39,14 @@ same_command (command.Extend case deadline request) = ap (λ n. command.Extend c
 same_command (command.Book s) = ap (λ n. command.Book (record s { motion = n })) (same_place s.case Motion s.motion)
 same_command (command.MoveHearing s) = ap (λ n. command.MoveHearing (record s { motion = n })) (same_place s.case Motion s.motion)
 same_command (command.Cancel case motion) = ap (λ n. command.Cancel case n) (same_place case Motion motion)
+same_command (command.Fact case (Ended deadline why dated)) = ap (λ n. command.Fact case (Ended n why dated)) (same_place case Deadline deadline)
+same_command (command.Fact case (Resumed deadline dated)) = ap (λ n. command.Fact case (Resumed n dated)) (same_place case Deadline deadline)
+same_command (command.Fact case (Closed why dated)) = refl
+same_command (command.Fact case (Reopened dated)) = refl
+same_command (command.Fact case (Ruled motion how dated)) = ap (λ n. command.Fact case (Ruled n how dated)) (same_place case Motion motion)
+same_command (command.Fact case (Assigned judge referred dated)) = refl
+same_command (command.Fact case Titled) = refl
+same_command (command.Fact case (Labelled counted number)) = ap (λ n. command.Fact case (Labelled counted n)) (same_place case counted number)
 same_command other = refl
 
 same_work : (asked : Work) → placed [] asked ≡ asked
@@ -49,6 +58,7 @@ same_refusal : (r : Refusal) → numbered_refusal [] r ≡ r
 same_refusal (JudgeBusy case motion) = ap (JudgeBusy case) (same_number case Motion motion)
 same_refusal (RoomBusy case motion) = ap (RoomBusy case) (same_number case Motion motion)
 same_refusal (HearingThatDay case motion) = ap (HearingThatDay case) (same_number case Motion motion)
+same_refusal (HearingAhead case motion) = ap (HearingAhead case) (same_number case Motion motion)
 same_refusal (NoticeLost case motion) = ap (NoticeLost case) (same_number case Motion motion)
 same_refusal other = refl
 

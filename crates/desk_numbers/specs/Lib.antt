@@ -1,4 +1,5 @@
 pub mod Given
+pub mod Called
 pub mod Kept
 pub mod Said
 pub mod Tops

@@ -8,7 +8,7 @@ use Rattle.docket_rows.specs.declared.command.Command.{Command}
 use Rattle.docket_rows.specs.declared.command.Command.TheVariants as command
 use Rattle.docket_rows.specs.declared.command.Subject.{Subject}
 use Rattle.docket_rows.specs.declared.refusal.Refusal.{Refusal}
-use Rattle.docket_rows.specs.declared.refusal.Refusal.TheVariants.{JudgeBusy, RoomBusy, HearingThatDay, NoticeLost}
+use Rattle.docket_rows.specs.declared.refusal.Refusal.TheVariants.{JudgeBusy, RoomBusy, HearingThatDay, NoticeLost, HearingAhead}
 use Rattle.docket_rows.specs.declared.sheet.Sheet.{Sheet}
 use Rattle.docket_rows.specs.declared.sheet.SheetDeadline.{SheetDeadline}
 use Rattle.docket_rows.specs.declared.sheet.SheetMotion.{SheetMotion}
@@ -49,6 +49,7 @@ abbrev pub numbered_refusal : List Moved → Refusal → Refusal
 numbered_refusal moved (JudgeBusy case motion) = JudgeBusy case (number_in moved case Motion motion)
 numbered_refusal moved (RoomBusy case motion) = RoomBusy case (number_in moved case Motion motion)
 numbered_refusal moved (HearingThatDay case motion) = HearingThatDay case (number_in moved case Motion motion)
+numbered_refusal moved (HearingAhead case motion) = HearingAhead case (number_in moved case Motion motion)
 numbered_refusal moved (NoticeLost case motion) = NoticeLost case (number_in moved case Motion motion)
 numbered_refusal moved other = other
 

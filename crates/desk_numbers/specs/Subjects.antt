@@ -1,6 +1,7 @@
 -- Deadlines and motions that a row names without their numbers.
 use Rattle.std.specs.Prelude.{ℕ, ◌-◌, Bool, false, List, [], ◌∷◌, Option, Some, None, filter, length, map, slice_get}
 use Rattle.std.specs.Str.{bytes_eq}
+use Rattle.docket_rows.specs.declared.fact.Ending.{Ending}
 use Rattle.docket_rows.specs.declared.sheet.Sheet.{Sheet}
 use Rattle.docket_rows.specs.declared.sheet.SheetDeadline.{SheetDeadline}
 use Rattle.docket_rows.specs.declared.sheet.SheetMotion.{SheetMotion}
@@ -22,13 +23,13 @@ abbrev pub is_under : RulePeriod → Period → Bool
 is_under rule (Rule other) = bytes_eq (rule_code other) (rule_code rule)
 is_under rule (Entered period) = false
 
--- a deadline under that rule is pending
-abbrev pub pending_under : RulePeriod → Period → State → Bool
-pending_under rule period Pending = is_under rule period
-pending_under rule period other = false
+-- a deadline under that rule is pending, and wasn't ended
+abbrev pub pending_under : RulePeriod → Period → State → Option Ending → Bool
+pending_under rule period Pending None = is_under rule period
+pending_under rule period state ended = false
 
 abbrev pub is_pending_under : RulePeriod → SheetDeadline → Bool
-is_pending_under rule d = pending_under rule d.row.period d.state
+is_pending_under rule d = pending_under rule d.row.period d.state d.ended
 
 abbrev pub deadline_number : SheetDeadline → ℕ
 deadline_number d = d.number

@@ -1,5 +1,7 @@
 -- The words of clauses and definitions, for the crates above, from one place.
 pub use Rattle.desk_numbers.specs.Kept.{kept_of}
+pub use Rattle.desk_numbers.specs.Called.{CalledView, TextsView, TheLastTextCounts, calls, label_of, title_of}
+unfoldable pub use Rattle.desk_numbers.specs.Called.{with_called}
 pub use Rattle.desk_numbers.specs.Said.{AllGave, WhatIsSaidIsKept, extended, keeps, said_of, with_said}
 unfoldable pub use Rattle.desk_numbers.specs.Said.{kept_with, unsaid, with_all}
 pub use Rattle.desk_numbers.specs.Numbers.{NumbersView, new_number, no_numbers, number_for, own_or, passed, with_number}

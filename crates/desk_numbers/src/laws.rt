@@ -1,4 +1,5 @@
 //! Laws of the definitions, the contracts of functions that do nothing.
+ghost use Rattle.desk_numbers.specs.Called.{TheLastTextCounts};
 ghost use Rattle.desk_numbers.specs.Laws.{ANumberIsGivenOnce, APlaceApartTellsItsNumber, ARowKeepsItsNumber, NothingMovesAtFirst, NumberAndPlaceGoTogether, OthersAreAtTheirPlaces, WithNoneMovedNothingChanges};
 ghost use Rattle.desk_numbers.specs.Said.{WhatIsSaidIsKept};
 
@@ -45,4 +46,9 @@ pub fn what_is_said_is_kept()
 /// Where all is at its place, what rows ask for and what they are answered stays as it is.
 pub fn with_none_moved_nothing_changes()
     ensures { WithNoneMovedNothingChanges }
+{}
+
+/// What was said last is what something is called, and what anything else is called stays as it was.
+pub fn the_last_text_counts()
+    ensures { TheLastTextCounts }
 {}

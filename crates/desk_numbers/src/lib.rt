@@ -1,6 +1,7 @@
 //! Numbers of deadlines and motions: each stays with the row that gave it first, when others are struck.
 #![tactic(auto)]
 
+mod called;
 mod given;
 mod kept;
 mod laws;
@@ -14,12 +15,13 @@ mod strikes;
 mod subjects;
 mod tops;
 
+pub use called::{Called, CalledTexts};
 pub use given::{Given, given_by};
 pub use kept::{KeptNumbers, given_at};
 pub use laws::{
     a_number_is_given_once, a_place_apart_tells_its_number, a_row_keeps_its_number,
     nothing_moves_at_first, number_and_place_go_together, others_are_at_their_places,
-    what_is_said_is_kept, with_none_moved_nothing_changes,
+    the_last_text_counts, what_is_said_is_kept, with_none_moved_nothing_changes,
 };
 pub use moved::{Moved, MovedNumbers, is_apart, place_apart};
 pub use numbers::RowNumbers;

@@ -64,6 +64,9 @@ impl MovedNumbers {
             Refusal::HearingThatDay(case, place) => {
                 Refusal::HearingThatDay(case, self.number_at(case, Counted::Motion, place))
             }
+            Refusal::HearingAhead(case, place) => {
+                Refusal::HearingAhead(case, self.number_at(case, Counted::Motion, place))
+            }
             Refusal::NoticeLost(case, place) => {
                 Refusal::NoticeLost(case, self.number_at(case, Counted::Motion, place))
             }

@@ -14,6 +14,8 @@ impl MovedNumbers {
         let Sheet {
             case,
             filed,
+            closed,
+            assigned,
             deadlines,
             motions,
         } = sheet;
@@ -24,6 +26,8 @@ impl MovedNumbers {
         Sheet {
             case,
             filed,
+            closed,
+            assigned,
             deadlines: SheetDeadlines::from_vec(deadlines),
             motions: SheetMotions::from_vec(motions),
         }

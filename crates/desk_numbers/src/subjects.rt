@@ -35,12 +35,12 @@ fn is_under(rule: RulePeriod, period: Period) -> bool
     }
 }
 
-// Whether a deadline under that rule is pending.
+// Whether a deadline under that rule is pending, and wasn't ended.
 fn is_pending_under(rule: RulePeriod, deadline: &SheetDeadline) -> bool
     ensures { result ≡ is_pending_under rule deadline.now }
 {
-    match deadline.state {
-        State::Pending => is_under(rule, deadline.row.period()),
+    match (deadline.state, deadline.ended) {
+        (State::Pending, None) => is_under(rule, deadline.row.period()),
         _ => false,
     }
 }

@@ -1,5 +1,5 @@
 -- The entries that had come by a moment.
-use Rattle.std.proofs.Common.{◌≡◌, ◌∙◌, ◌+◌, ◌<◌, ◌≤◌, ◌⊎◌, inl, inr, add-one, ℕ, suc, zero, List, [], ◌∷◌, ◌++◌, drop, get_or, length, length-append, length-take, min, take, take_all, refl, sym, ap, subst, append_assoc, append-nil, arith}
+use Rattle.std.proofs.Common.{◌≡◌, ◌∙◌, ◌+◌, ◌<◌, ◌≤◌, ◌⊎◌, inl, inr, add-one, ℕ, suc, zero, List, [], ◌∷◌, ◌++◌, drop, get_or, length, length-append, length-take, min, take, take_all, refl, sym, ap, subst, append_assoc, arith}
 use Rattle.std.specs.Prelude.{All, Vec}
 use Rattle.std.specs.declared.alloc.Global.{Global}
 use Rattle.std.proofs.lemmas.Bool.{cases_lt}

@@ -2,7 +2,7 @@
 use Rattle.std.proofs.Common.{◌≤◌, ◌<◌, ◌^◌, ℕ, ℤ, Bool, true, false, List, Option, Some, None, arith}
 use Rattle.std.specs.Prelude.{IfSome, ⊤, if◌then◌else◌}
 use Rattle.std.specs.Str.{is_utf8}
-use Rattle.json.specs.Json.{Json, Members, max_depth, member, no_members, null, string}
+use Rattle.json.specs.Json.{Json, Members, member, no_members, null, string}
 use Rattle.json.specs.Tree.{HasNumbers, MembersHaveNumbers, depth, members_depth}
 use Rattle.json.proofs.Printed.Decimals.{IsNumber-decimal}
 use Rattle.json.proofs.Printed.Trees.{document-print}

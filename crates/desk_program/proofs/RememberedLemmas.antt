@@ -1,5 +1,5 @@
 -- A desk that is left and resumed.
-use Rattle.std.proofs.Common.{◌≡◌, ◌∙◌, ◌+◌, ◌-◌, ◌≤◌, ◌&&◌, ◌++◌, ◌∷◌, ℕ, suc, Bool, true, false, not, List, [], length, length-append, refl, sym, ap, subst, arith, le-leb}
+use Rattle.std.proofs.Common.{◌≡◌, ◌∙◌, ◌+◌, ◌-◌, ◌≤◌, ◌&&◌, ◌++◌, ◌∷◌, ℕ, suc, Bool, true, false, List, [], length, length-append, refl, sym, ap, subst, arith, le-leb}
 use Rattle.std.specs.Prelude.{nat_le}
 use Rattle.sqlite_disk.specs.declared.Disk as disk
 use Rattle.desk_journal.specs.Words.{Frame, HasResumeFault, IsKept, entries_of}

@@ -1,7 +1,7 @@
 -- A docket over a disk: what it keeps, and what a session on it promises.
 use Rattle.std.specs.Prelude.{◌≡◌, ◌≢◌, ℕ, List, Option, Err}
 use Rattle.sqlite_disk.specs.declared.Disk as disk
-use Rattle.court_days.specs.Words.{court_in}
+use Rattle.court_days.specs.Words.{desk_court_in}
 use Rattle.desk_journal.specs.Words.{HasOpenFault, IsKept, StampView, StandsFor, disk_of, stamp_of}
 use Rattle.desk_session.specs.Words.{IsPromised}
 use Rattle.desk_entries.specs.declared.docketed.Docketed.{Docketed}
@@ -78,6 +78,6 @@ pub record IsPromisedDocket (under : Standing) (held : HeldBack) (kept lines : L
 
 -- why a file isn't taken as a court's
 abbrev pub HasCourtFault : (file : List ℕ) → CourtFileFault → Type 0
-HasCourtFault file (court_file.Court cause) = court_in file ≡ Err cause
+HasCourtFault file (court_file.Court cause) = desk_court_in file ≡ Err cause
 HasCourtFault file (court_file.Divided line) = court_part file ≢ file
 HasCourtFault file court_file.OutOfMemory = Unit {0}

@@ -9,7 +9,7 @@ use Rattle.desk_register.specs.declared.cause.LineCause.{LineCause}
 use Rattle.desk_register.specs.declared.cause.LineCause.TheVariants as lines
 use Rattle.desk_entries.specs.Words.{too_many_words, unfound_words}
 use Rattle.row_forms.specs.declared.headings.columns.Column.{Column}
-use Rattle.row_forms.specs.declared.headings.columns.Column.TheVariants.{Case, Deadline, Motion, Date, Notice, SecondOrNone, Time, From, TimeOrNone, Start, To, Period, ServiceOrNone, Means, Grant, ByMotion, Cause, Neglect, Need, Judge, Judges, Slots, Holidays, SetTime, Act, Clerk, Command, Room}
+use Rattle.row_forms.specs.declared.headings.columns.Column.TheVariants.{Case, Deadline, Motion, Date, Notice, SecondOrNone, Time, From, TimeOrNone, Start, To, Period, ServiceOrNone, Means, Grant, ByMotion, Cause, Neglect, Need, Judge, Judges, Slots, Holidays, Act, Why, Closing, ResumeDay, Ruling, JudgeOrNone, Dated, Title, Counted, Number, Label, Clerk, Command, Room}
 use Rattle.desk_program.specs.declared.shown.LineEnds.TheVariants.{Escaped}
 use Rattle.desk_program.specs.Shown.{shown}
 use Rattle.row_forms.specs.Headings.Words.{column_at, columns_of, commands_listed, mark_of}
@@ -48,8 +48,17 @@ expected Judge = codes "a judge, or up to three joined by +"
 expected Judges = codes "a judge, or up to three joined by +"
 expected Slots = codes "half hours, as 2, or quarter hours, as 3q"
 expected Holidays = codes "federal or state"
-expected SetTime = codes "nothing, since an order sets a day as a whole"
 expected Act = codes "filing or service"
+expected Dated = codes "a date, as 2025-09-02"
+expected Why = codes "moot, vacated, stayed, suspended or withdrawn"
+expected Closing = codes "dismissed, judgment, settled, transferred, remanded or otherwise"
+expected ResumeDay = codes "nothing, since the deadline has its days as before"
+expected Ruling = codes "granted, denied, in part, moot, withdrawn or reserved"
+expected JudgeOrNone = codes "a judge, or nothing"
+expected Title = codes "a text of 1 to 200 bytes without control characters"
+expected Counted = codes "deadline or motion"
+expected Number = codes "a number, as 7"
+expected Label = codes "a text of 1 to 200 bytes without control characters"
 expected Clerk = codes "what FORMATS.md has under Rows"
 expected Command = codes "what FORMATS.md has under Rows"
 expected Room = codes "what FORMATS.md has under Rows"

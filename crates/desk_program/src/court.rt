@@ -32,7 +32,7 @@ pub fn court_of(alloc: Global, file: &[u8]) -> Result<Court, CourtFileFault>
     if before != file {
         return Err(CourtFileFault::Divided(next_line(before)));
     }
-    match Court::from_bytes(alloc, file) {
+    match Court::from_desk_bytes(alloc, file) {
         Ok(court) => Ok(court),
         Err(CourtFault::OutOfMemory) => Err(CourtFileFault::OutOfMemory),
         Err(fault) => Err(CourtFileFault::Court(fault)),

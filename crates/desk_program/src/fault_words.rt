@@ -51,7 +51,7 @@ fn expected(column: Column) -> &'static str
     match column {
         Column::Case => "a number, as 7, or the number of a case that was opened, as 1:25-cv-01234",
         Column::Deadline | Column::Motion => "a number, as 7",
-        Column::Date | Column::Notice => "a date, as 2025-09-02",
+        Column::Date | Column::Notice | Column::Dated => "a date, as 2025-09-02",
         Column::SecondOrNone => "a date, as 2025-09-02, or nothing",
         Column::Time | Column::From => "a time, as 09:30",
         Column::TimeOrNone => "a time, as 09:30, or nothing",
@@ -66,8 +66,15 @@ fn expected(column: Column) -> &'static str
         Column::Judge | Column::Judges => "a judge, or up to three joined by +",
         Column::Slots => "half hours, as 2, or quarter hours, as 3q",
         Column::Holidays => "federal or state",
-        Column::SetTime => "nothing, since an order sets a day as a whole",
         Column::Act => "filing or service",
+        Column::Why => "moot, vacated, stayed, suspended or withdrawn",
+        Column::Closing => "dismissed, judgment, settled, transferred, remanded or otherwise",
+        Column::ResumeDay => "nothing, since the deadline has its days as before",
+        Column::Ruling => "granted, denied, in part, moot, withdrawn or reserved",
+        Column::JudgeOrNone => "a judge, or nothing",
+        Column::Title | Column::Label => "a text of 1 to 200 bytes without control characters",
+        Column::Counted => "deadline or motion",
+        Column::Number => "a number, as 7",
         Column::Clerk | Column::Command | Column::Room => "what FORMATS.md has under Rows",
     }
 }

@@ -11,13 +11,24 @@ use court_days::Court;
 use csv::StringRecord;
 use desk_entries::{MOST_CLERKS, is_row};
 use docket_decisions::case_of_command;
-use docket_rows::{Command, Query};
+use docket_rows::{Closing, Command, Counted, Ending, Fact, Query, Ruling};
 use row_forms::{Line, Row, Work, read_line};
 use rule_periods::{Grant, Request};
 use std::alloc::{AllocError, Global};
 
 // Names the types inside a row, which the checker finds only where they have names.
-type RowTypes = Option<(Row, Work, Command, Query, Option<Day>, Grant, Request)>;
+type RowTypes = Option<
+    (
+        Row,
+        Work,
+        Command,
+        Query,
+        Option<Day>,
+        Grant,
+        Request,
+        (Fact, Ending, Closing, Ruling, Option<u8>, Counted),
+    ),
+>;
 
 // The case of which a question asks.
 fn case_asked(query: &Query) -> Option<u32>

@@ -6,12 +6,15 @@ use Rattle.std.proofs.lemmas.Slice.Eq.{bytes_eq-Decides}
 use Rattle.case_numbers.specs.Words.{CasesView, NameView}
 use Rattle.case_numbers.specs.declared.names.NamedCase.{NamedCase}
 use Rattle.court_days.specs.Words.{CourtView, DaysView}
-use Rattle.rule_periods.specs.Words.{shown_of}
+use Rattle.rule6.specs.declared.timeliness.Shown.{Shown}
+use Rattle.rule_periods.specs.Words.{is_order, shown_of}
 use Rattle.docket_rows.specs.declared.answer.Answer.TheVariants as answer
 use Rattle.docket_rows.specs.declared.command.Command.{Command as CommandOf}
-use Rattle.docket_rows.specs.declared.command.Command.TheVariants.{OpenCase, Start, FileAct, Extend, Motion, Book, MoveHearing, Cancel, Holiday, Inaccessible}
+use Rattle.docket_rows.specs.declared.command.Command.TheVariants.{OpenCase, Start, FileAct, Extend, Motion, Book, MoveHearing, Cancel, Holiday, Inaccessible, Fact}
 use Rattle.docket_rows.specs.declared.command.Counted.{Counted}
 use Rattle.docket_rows.specs.declared.command.Counted.TheVariants.{Deadline, Motion as CountedMotion}
+use Rattle.docket_rows.specs.declared.fact.Fact.{Fact as FactOf}
+use Rattle.docket_rows.specs.declared.fact.Fact.TheVariants.{Ended, Resumed, Closed, Reopened, Ruled, Assigned, Titled, Labelled}
 use Rattle.docket_rows.specs.declared.query.Query.TheVariants as query
 use Rattle.docket_rows.specs.declared.refusal.Refusal.{Refusal as RefusalOf}
 use Rattle.docket_rows.specs.declared.refusal.Refusal.TheVariants.{NoSuchCase}
@@ -19,7 +22,7 @@ use Rattle.docket_rows.specs.declared.hearing.Hearing.{Hearing}
 use Rattle.docket_rows.specs.declared.sheet.SheetDeadline.{SheetDeadline}
 use Rattle.docket_rows.specs.declared.sheet.SheetMotion.{SheetMotion}
 use Rattle.docket_rows.specs.declared.view.View.TheVariants as view
-use Rattle.docket_rows.specs.Words.{CaseRecordView, CourtSetup, NumberedDeadline, NumberedMotion, Parts, Rows, answer_if_made, answered, last_case, parts_of, query_refusal, refusal, rows_after, seen_by, setup_of, sheet_deadline, sheet_hearing, sheet_motion, sheet_of, step, view_of}
+use Rattle.docket_rows.specs.Words.{CaseRecordView, CourtSetup, NumberedDeadline, NumberedMotion, Parts, Rows, answer_if_made, answered, ended_answer, last_case, parts_of, query_refusal, refusal, rows_after, seen_by, setup_of, sheet_deadline, sheet_hearing, sheet_motion, sheet_of, step, view_of}
 use Rattle.row_forms.specs.declared.line.line.Line.{Line}
 use Rattle.row_forms.specs.declared.line.line.Line.TheVariants as line
 use Rattle.row_forms.specs.declared.row.Row.{Row}
@@ -60,40 +63,41 @@ names_before court docketed before moved cases name (Command (MoveHearing s)) = 
 names_before court docketed before moved cases name (Command (Cancel case motion)) = refl
 names_before court docketed before moved cases name (Command (Holiday day list)) = refl
 names_before court docketed before moved cases name (Command (Inaccessible day from to)) = refl
+names_before court docketed before moved cases name (Command (Fact case fact)) = refl
 
 -- what is shown as it was has no line
 alike : (named : List NamedCase) (case : ℕ) (counted : Counted) (number : ℕ) (text : List ℕ) → shift_line named case counted number text text ≡ []
 alike named case counted number text = rw ((bytes_eq-Decides text text).1 refl) refl
 
 -- where the days are those before, the deadlines of a case have no line
-unmoved : (court : CourtView) (parts : Parts) (named : List NamedCase) (case : ℕ) (numbers : ℕ → ℕ) (ds : List NumberedDeadline)
-    → flat_map (deadline_shift court parts.days named case) (map (λ (d : SheetDeadline). record d { number = numbers d.number }) (map (sheet_deadline (setup_of court) parts) ds)) ≡ []
-unmoved court parts named case numbers [] = refl
-unmoved court parts named case numbers (d ∷ ds) =
-    ap (λ (l : List ℕ). l ++ flat_map (deadline_shift court parts.days named case) (map (λ (s : SheetDeadline). record s { number = numbers s.number }) (map (sheet_deadline (setup_of court) parts) ds)))
+unmoved : (court : CourtView) (parts : Parts) (facts : List FactOf) (named : List NamedCase) (case : ℕ) (numbers : ℕ → ℕ) (ds : List NumberedDeadline)
+    → flat_map (deadline_shift court parts.days named case) (map (λ (d : SheetDeadline). record d { number = numbers d.number }) (map (sheet_deadline (setup_of court) parts facts) ds)) ≡ []
+unmoved court parts facts named case numbers [] = refl
+unmoved court parts facts named case numbers (d ∷ ds) =
+    ap (λ (l : List ℕ). l ++ flat_map (deadline_shift court parts.days named case) (map (λ (s : SheetDeadline). record s { number = numbers s.number }) (map (sheet_deadline (setup_of court) parts facts) ds)))
     (alike named case Deadline (numbers d.number) (shown_text court.clock (shown_of parts.days court.clock d.row)))
-    ∙ unmoved court parts named case numbers ds
+    ∙ unmoved court parts facts named case numbers ds
 
 -- nor have its hearings
 same_hearing : (court : CourtView) (days : DaysView) (named : List NamedCase) (case number : ℕ) (h : Option Hearing) → hearing_shift court days named case number (option_map (sheet_hearing days) h) ≡ []
 same_hearing court days named case number None = refl
 same_hearing court days named case number (Some h) = alike named case CountedMotion number (hearing_text court (sheet_hearing days h))
 
-same_hearings : (court : CourtView) (days : DaysView) (named : List NamedCase) (case : ℕ) (numbers : ℕ → ℕ) (ms : List NumberedMotion)
-    → flat_map (motion_shift court days named case) (map (λ (m : SheetMotion). record m { number = numbers m.number }) (map (sheet_motion days) ms)) ≡ []
-same_hearings court days named case numbers [] = refl
-same_hearings court days named case numbers (m ∷ ms) =
-    ap (λ (l : List ℕ). l ++ flat_map (motion_shift court days named case) (map (λ (s : SheetMotion). record s { number = numbers s.number }) (map (sheet_motion days) ms)))
+same_hearings : (court : CourtView) (days : DaysView) (facts : List FactOf) (named : List NamedCase) (case : ℕ) (numbers : ℕ → ℕ) (ms : List NumberedMotion)
+    → flat_map (motion_shift court days named case) (map (λ (m : SheetMotion). record m { number = numbers m.number }) (map (sheet_motion days facts) ms)) ≡ []
+same_hearings court days facts named case numbers [] = refl
+same_hearings court days facts named case numbers (m ∷ ms) =
+    ap (λ (l : List ℕ). l ++ flat_map (motion_shift court days named case) (map (λ (s : SheetMotion). record s { number = numbers s.number }) (map (sheet_motion days facts) ms)))
     (same_hearing court days named case (numbers m.number) m.hearing)
-    ∙ same_hearings court days named case numbers ms
+    ∙ same_hearings court days facts named case numbers ms
 
 -- nor has a sheet, nor all of them
 unmoved_sheet : (court : CourtView) (parts : Parts) (moved : List Moved) (named : List NamedCase) (case : ℕ) (c : CaseRecordView)
     → sheet_shifts court parts.days named (numbered_view moved (view.Sheet (sheet_of (setup_of court) parts case c))) ≡ []
 unmoved_sheet court parts moved named case c =
-    ap (λ (l : List ℕ). l ++ flat_map (motion_shift court parts.days named case) (map (λ (m : SheetMotion). record m { number = number_in moved case CountedMotion m.number }) (map (sheet_motion parts.days) c.motions)))
-    (unmoved court parts named case (number_in moved case Deadline) c.deadlines)
-    ∙ same_hearings court parts.days named case (number_in moved case CountedMotion) c.motions
+    ap (λ (l : List ℕ). l ++ flat_map (motion_shift court parts.days named case) (map (λ (m : SheetMotion). record m { number = number_in moved case CountedMotion m.number }) (map (sheet_motion parts.days c.facts) c.motions)))
+    (unmoved court parts c.facts named case (number_in moved case Deadline) c.deadlines)
+    ∙ same_hearings court parts.days c.facts named case (number_in moved case CountedMotion) c.motions
 
 unmoved_view : (court : CourtView) (parts : Parts) (moved : List Moved) (named : List NamedCase) (case : ℕ) (refused : Option RefusalOf) (there : Option CaseRecordView)
     → sheet_shifts court parts.days named (numbered_view moved (option_map_or view.Refused refused (option_map_or (λ c. view.Sheet (sheet_of (setup_of court) parts case c)) there (view.Refused NoSuchCase)))) ≡ []
@@ -114,18 +118,31 @@ same_days : (court : CourtView) (docketed : Rows) (moved : List Moved) (named : 
 unfolding shifts_from
 same_days court docketed moved named = unmoved_cases court docketed moved named (range_with_len 1 last_case)
 
+-- whichever way a time is extended, the row is taken
+ended_taken : (order : Bool) (end : Shown) → came_of (ended_answer order end) ≡ Taken
+ended_taken true end = refl
+ended_taken false end = refl
+
 -- a command that is refused leaves what is docketed
 made_taken : (setup : CourtSetup) (parts : Parts) (command : CommandOf) → came_of (answer_if_made setup parts command) ≡ Taken
 made_taken setup parts (OpenCase case filed) = refl
 made_taken setup parts (Start case period event second service) = refl
 made_taken setup parts (FileAct case deadline filing) = refl
-made_taken setup parts (Extend case deadline request) = refl
+made_taken setup parts (Extend case deadline request) = ended_taken (is_order request.grant) _
 made_taken setup parts (Motion case served need) = refl
 made_taken setup parts (Book s) = refl
 made_taken setup parts (MoveHearing s) = refl
 made_taken setup parts (Cancel case motion) = refl
 made_taken setup parts (Holiday day list) = refl
 made_taken setup parts (Inaccessible day from to) = refl
+made_taken setup parts (Fact case (Ended deadline why dated)) = refl
+made_taken setup parts (Fact case (Resumed deadline dated)) = refl
+made_taken setup parts (Fact case (Closed why dated)) = refl
+made_taken setup parts (Fact case (Reopened dated)) = refl
+made_taken setup parts (Fact case (Ruled motion how dated)) = refl
+made_taken setup parts (Fact case (Assigned judge referred dated)) = refl
+made_taken setup parts (Fact case Titled) = refl
+made_taken setup parts (Fact case (Labelled counted number)) = refl
 
 refused_leaves : (setup : CourtSetup) (docketed : Rows) (command : CommandOf) → came_of (step setup docketed command).1 ≡ Refused → (step setup docketed command).0 ≡ docketed
 unfolding step answered

@@ -1,7 +1,7 @@
 -- A journal's entries as a history: each row was answered under what stood at its time, and each correction could be made then and says
 -- what rows had given.
 use Rattle.std.specs.Prelude.{◌≡◌, ⊤, ℕ, true, List, [], ◌∷◌, ◌++◌, Option, Some, None, Ok}
-use Rattle.court_days.specs.Words.{CourtView, court_in, file_of}
+use Rattle.court_days.specs.Words.{CourtView, desk_court_in, file_of}
 use Rattle.desk_numbers.specs.Strikes.Words.{said_in}
 use Rattle.desk_register.specs.declared.standing.Standing.{Standing}
 use Rattle.desk_register.specs.Entries.{Note, can_restore, can_strike, court_file, kept_in, note_in, row_restored, row_struck, standing_file, struck_in}
@@ -10,7 +10,7 @@ use Rattle.desk_register.specs.Run.{unsaid_by}
 
 -- a file says this court
 abbrev pub SaysCourt : (file : List ℕ) → CourtView → Type 0
-SaysCourt file court = court_in file ≡ Ok (file_of court)
+SaysCourt file court = desk_court_in file ≡ Ok (file_of court)
 
 -- what stands after entries: the court of the file, the rows that are struck, and the numbers that rows keep
 pub record StandsAfter (kept : List (List ℕ)) (under : Standing) : Type 0 where

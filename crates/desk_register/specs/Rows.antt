@@ -150,12 +150,21 @@ came_of answer.Opened = Taken
 came_of (answer.Started number shown) = Taken
 came_of (answer.Filed timely) = Taken
 came_of (answer.Extended shown) = Taken
+came_of (answer.Reset shown) = Taken
 came_of (answer.MotionEntered number) = Taken
 came_of answer.Booked = Taken
 came_of answer.Moved = Taken
 came_of answer.Cancelled = Taken
 came_of answer.HolidayEntered = Taken
 came_of answer.OutageEntered = Taken
+came_of answer.Ended = Taken
+came_of answer.Closed = Taken
+came_of answer.Reopened = Taken
+came_of (answer.Ruled day) = Taken
+came_of answer.Assigned = Taken
+came_of answer.Titled = Taken
+came_of answer.Labelled = Taken
+came_of (answer.Resumed shown) = Taken
 came_of (answer.Refused refusal) = Refused
 
 -- a question changes nothing, whatever it is answered

@@ -25,7 +25,7 @@ use csv::StringRecord;
 use desk_numbers::{Corrections, RowNumbers, Said, given_by};
 use desk_session::{Outcome, Register};
 use docket_core::Docket;
-use docket_rows::{Command, Query};
+use docket_rows::{Closing, Command, Counted, Ending, Fact, Query, Ruling};
 use office_texts::{Reply, reply_to};
 use row_forms::{Line, Row, RowCause, Work};
 use rule_periods::{Grant, Request};
@@ -53,7 +53,18 @@ pub(crate) struct Done {
 
 /// The types inside a row. The checker finds them only where they have names, so a function that takes a row out of a line
 /// has a variable of this type.
-pub type RowTypes = Option<(Row, Work, Command, Query, Option<Day>, Grant, Request)>;
+pub type RowTypes = Option<
+    (
+        Row,
+        Work,
+        Command,
+        Query,
+        Option<Day>,
+        Grant,
+        Request,
+        (Fact, Ending, Closing, Ruling, Option<u8>, Counted),
+    ),
+>;
 
 /// A court's docket as the entries of a journal come to it, of which the first is the court's file.
 #[derive(Drop)]

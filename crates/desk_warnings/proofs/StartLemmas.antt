@@ -41,4 +41,4 @@ start_warned court parts today case period event second service setup days v row
     let none_here = subst (λ (d : DaysView). IfNone row (is_some (start_refusal d period event second service) ≡ true)) days_are none in
     ap (λ (d : DaysView). on_view court d today v row) days_are
     ∙ ap (λ w. on_view court parts.days today w row) seen_here
-    ∙ by_case court parts today case period event second service row (when-not-None _ _ n.0) _ refl (option_map-None _ _ n.1.0) some_here none_here
+    ∙ by_case court parts today case period event second service row (when-not-None _ _ n.0) _ refl (option_map-None _ _ n.1.1.0) some_here none_here

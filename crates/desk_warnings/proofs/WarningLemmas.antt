@@ -33,6 +33,7 @@ none_made court moved named parts today (command.Book s) start act request outag
 none_made court moved named parts today (command.MoveHearing s) start act request outage = refl
 none_made court moved named parts today (command.Cancel case motion) start act request outage = refl
 none_made court moved named parts today (command.Holiday day list) start act request outage = refl
+none_made court moved named parts today (command.Fact case fact) start act request outage = refl
 
 -- parts that hold the same draw the same warnings
 pub warned_on : (court : CourtView) (moved : List Moved) (named : List NamedCase) (p q : Parts) → ((part : PartId) → part_value p part ≡ part_value q part) → (today : Option ℤ) (work : Work) → warnings_on court moved named p today work ≡ warnings_on court moved named q today work

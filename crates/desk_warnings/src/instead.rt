@@ -11,14 +11,16 @@ use court_clock::{Day, Direction};
 use court_days::Days;
 use docket_core::Docket;
 use docket_decisions::{is_court_day, lacks_last_service, later, missed_service};
-use docket_rows::{Command, Hearing, Refusal, Setting, SheetHearing, SheetMotion};
+use docket_rows::{
+    Command, DatedRuling, Hearing, Refusal, Ruling, Setting, SheetHearing, SheetMotion,
+};
 use hearing_slots::{Need, Panel};
 use reason_refusals::motion_at;
 use reason_texts::{push_minute, push_note};
 use std::alloc::{AllocError, Global};
 
 /// The types that a motion is made of, which a function that hands one on has to name.
-type MotionTypes = Option<(Day, Need, Hearing, SheetHearing, Panel)>;
+type MotionTypes = Option<(Day, Need, Hearing, SheetHearing, Panel, DatedRuling, Ruling)>;
 
 /// Adds what would do instead of the hearing for which a refused command asks, if it asks for one.
 #[tactic(auto, unfolding(crate::specs::Instead::instead))]

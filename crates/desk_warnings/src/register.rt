@@ -13,7 +13,7 @@ use court_clock::Day;
 use csv::StringRecord;
 use desk_register::{DocketRegister, Standing};
 use desk_session::{Outcome, Register, after_mark};
-use docket_rows::{Command, Query};
+use docket_rows::{Closing, Command, Counted, Ending, Fact, Query, Ruling};
 use row_forms::{Line, Row, RowCause, Work};
 use rule_periods::{Grant, Request};
 use std::alloc::{AllocError, Global};
@@ -67,6 +67,7 @@ type RowTypes = Option<
         Grant,
         Request,
         RowCause,
+        (Fact, Ending, Closing, Ruling, Option<u8>, Counted),
     ),
 >;
 

@@ -65,9 +65,18 @@ pub fn try_rows<H: Threads + Wait + Sync, W: Write, E: Write>(
     let mut desk = copied_beside(rt, threads, folder)?;
     desk.hold_back(held_back);
     match rows_of(rt, errors, desk.court(), lines, held_back.are_marked()) {
-        Ok(None) => tried(rt.alloc(), lines_of(rt, lines)?, writer, desk),
         Ok(Some(rows)) => tried(rt.alloc(), rows.as_slice(), writer, desk),
-        Err(fault) => Err(fault),
+        Ok(None) => match lines_of(rt, lines) {
+            Ok(typed) => tried(rt.alloc(), typed, writer, desk),
+            Err(fault) => {
+                drop(desk);
+                Err(fault)
+            }
+        },
+        Err(fault) => {
+            drop(desk);
+            Err(fault)
+        }
     }
 }
 
@@ -120,9 +129,18 @@ pub fn ask<H: Threads + Wait + Sync, W: Write, E: Write>(
     let (docketed, entries) = docketed_beside(rt, threads, folder, as_of)?;
     drop(entries);
     match rows_of(rt, errors, &docketed.standing.court, lines, false) {
-        Ok(None) => answered(rt.alloc(), lines_of(rt, lines)?, writer, docketed),
         Ok(Some(rows)) => answered(rt.alloc(), rows.as_slice(), writer, docketed),
-        Err(fault) => Err(fault),
+        Ok(None) => match lines_of(rt, lines) {
+            Ok(typed) => answered(rt.alloc(), typed, writer, docketed),
+            Err(fault) => {
+                drop(docketed);
+                Err(fault)
+            }
+        },
+        Err(fault) => {
+            drop(docketed);
+            Err(fault)
+        }
     }
 }
 
@@ -139,8 +157,12 @@ pub fn plain<H: Threads + Wait + Sync, W: Write, E: Write>(
 {
     let (docketed, entries) = docketed_beside(rt, threads, folder, None)?;
     drop(entries);
-    let reading = reading_of(rt, errors, &docketed.standing.court, style, false)?;
-    Ok(put(writer, &reading.rows)?)
+    let reading = reading_of(rt, errors, &docketed.standing.court, style, false);
+    drop(docketed);
+    let reading = reading?;
+    let written = put(writer, &reading.rows);
+    drop(reading);
+    Ok(written?)
 }
 
 // Writes the cases of a docket that have names.
@@ -167,7 +189,9 @@ pub fn cases<H: Threads + Wait + Sync, W: Write>(
 {
     let (docketed, entries) = docketed_beside(rt, threads, folder, as_of)?;
     drop(entries);
-    Ok(put_cases(rt.alloc(), writer, &docketed)?)
+    let written = put_cases(rt.alloc(), writer, &docketed);
+    drop(docketed);
+    Ok(written?)
 }
 
 /// Writes the rows that are struck, as of then.
@@ -225,5 +249,8 @@ pub fn rows<H: Threads + Wait + Sync, W: Write>(
     requires { has_failed writer.old ≡ false }
 {
     let (docketed, entries) = docketed_beside(rt, threads, folder, as_of)?;
-    Ok(put_rows(rt.alloc(), writer, &docketed, &entries)?)
+    let written = put_rows(rt.alloc(), writer, &docketed, &entries);
+    drop(docketed);
+    drop(entries);
+    Ok(written?)
 }

@@ -1,7 +1,7 @@
 //! A court's file: checked, or written.
 ghost use Rattle.std.specs.Prelude.{◌≡◌, false, IfOk, OnOk, ℕ, List, option_map};
 ghost use Rattle.std.specs.Io.KnownBytes.{Appends};
-ghost use Rattle.court_days.specs.Words.{court_in};
+ghost use Rattle.court_days.specs.Words.{desk_court_in};
 ghost use Rattle.court_writing.specs.Words.{IsFileOf, court_said, zone_text};
 ghost use Rattle.docket.specs.Endings.{IsDayUsed, check_status};
 ghost use Rattle.program_streams.specs.Words.{has_failed, watched};
@@ -41,12 +41,12 @@ fn day_used(
     asked: Option<Day>,
     clock_time: Instant,
 ) -> Result<Option<Day>, AllocError>
-    ensures { IfOk result (IsDayUsed asked (court_in bytes.now) clock_time) }
+    ensures { IfOk result (IsDayUsed asked (desk_court_in bytes.now) clock_time) }
 {
     if asked.is_some() {
         return Ok(asked);
     }
-    match Court::from_bytes(alloc, bytes) {
+    match Court::from_desk_bytes(alloc, bytes) {
         Ok(court) => Ok(Some(today_by(court.clock(), clock_time))),
         Err(CourtFault::OutOfMemory) => Err(AllocError),
         Err(_) => Ok(None),
@@ -70,7 +70,7 @@ fn asked_on(
     asked: Asked,
     clock_time: Instant,
 ) -> Result<Asked, AllocError>
-    ensures day { IfOk result (λ used. IsDayUsed asked.today (court_in bytes.now) clock_time used.today) }
+    ensures day { IfOk result (λ used. IsDayUsed asked.today (desk_court_in bytes.now) clock_time used.today) }
     ensures place { IfOk result (λ used. (used.capital ≡ asked.capital) × (used.state ≡ option_map (λ court. court.state) (court_said bytes.now))) }
 {
     Ok(Asked {
@@ -160,6 +160,7 @@ pub fn write_file<W: Write, E: Write>(
     let own = CourtOwn {
         opens: writing.opens,
         closes: writing.closes,
+        efiling_until: writing.efiling_until,
         judges,
         rooms,
     };

@@ -44,7 +44,9 @@ fn named_case(alloc: Global, entries: &[Vec<u8>], name: &CaseName) -> Result<u32
     ensures { IfOk result (IsCase (batch_of entries.now) (CaseCalled.Name name.now)) }
 {
     let docketed = Docketed::of(alloc, entries)?;
-    match number_in(&docketed, name) {
+    let number = number_in(&docketed, name);
+    drop(docketed);
+    match number {
         Some(number) => Ok(number),
         None => Err(Fault::Missing(no_case(alloc, name)?)),
     }

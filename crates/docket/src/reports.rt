@@ -19,7 +19,7 @@ use desk_program::{DeskFault, OpenFault};
 use program_runs::{Finding, Report, run_report};
 use program_streams::Watched;
 use program_words::Source;
-use report_memo::{Asked as MemoAsked, memo_of};
+use report_memo::{Asked as MemoAsked, day_made, memo_of};
 use report_program::{Asked as ReportAsked, Past, report_of};
 use std::alloc::{AllocError, Global};
 use std::io::{IsTerminal, Read, Write};
@@ -116,6 +116,7 @@ fn report_on(
         court,
         register.cases(),
         moved,
+        &reported.called,
         &past,
         &reported.rows,
     )
@@ -135,7 +136,9 @@ fn report_found(
         return Err(Fault::Desk(DeskFault::Open(OpenFault::NoJournal)));
     }
     let docketed = Docketed::of(alloc, entries)?;
-    match report_on(alloc, &docketed, entries, asked) {
+    let found = report_on(alloc, &docketed, entries, asked);
+    drop(docketed);
+    match found {
         Ok(found) => Ok(found),
         Err(_) => Err(Fault::Desk(DeskFault::OutOfMemory)),
     }
@@ -176,12 +179,23 @@ fn memo_on(
     requires few { length entries.now ≤ most_entries }
     ensures { IsDocketed docketed.now (batch_of entries.now) → IfOk result (IsFinding (λ text. text.items) (IsMemo asked.now (batch_of entries.now)) (IsNoMemo asked.now (batch_of entries.now))) }
 {
-    let rows = standing_rows(alloc, &docketed.standing, entries)?.rows;
+    let reported = standing_rows(alloc, &docketed.standing, entries)?;
     let register = &docketed.register;
     let moved = register.numbers().moved();
     let court = &docketed.standing.court;
     let file = standing_file(entries);
-    memo_of(alloc, asked, file, court, register.cases(), moved, &rows)
+    let made = Some(day_made(court, asked));
+    memo_of(
+        alloc,
+        asked,
+        file,
+        made,
+        court,
+        register.cases(),
+        moved,
+        &reported.called,
+        &reported.rows,
+    )
 }
 
 // What the memo finds after entries.
@@ -198,7 +212,9 @@ fn memo_found(
         return Err(Fault::Desk(DeskFault::Open(OpenFault::NoJournal)));
     }
     let docketed = Docketed::of(alloc, entries)?;
-    match memo_on(alloc, &docketed, entries, asked) {
+    let found = memo_on(alloc, &docketed, entries, asked);
+    drop(docketed);
+    match found {
         Ok(found) => Ok(found),
         Err(_) => Err(Fault::Desk(DeskFault::OutOfMemory)),
     }

@@ -4,7 +4,8 @@ use Rattle.std.specs.List.{list_all}
 use Rattle.std.proofs.lemmas.Bool.{cases_Bool, false≢true}
 use Rattle.std.proofs.lemmas.Bool.Decides.{nat_tests}
 use Rattle.docket_rows.specs.declared.command.Command.{Command}
-use Rattle.docket_rows.specs.declared.command.Command.TheVariants.{OpenCase, Book, MoveHearing, Cancel}
+use Rattle.docket_rows.specs.declared.command.Command.TheVariants.{OpenCase, Book, MoveHearing, Cancel, Fact}
+use Rattle.docket_rows.specs.declared.fact.Fact.TheVariants.{Ruled}
 use Rattle.docket_rows.specs.declared.hearing.Hearing.{Hearing}
 use Rattle.docket_rows.specs.declared.hearing.Setting.{Setting}
 use Rattle.docket_rows.specs.declared.part.PartId.TheVariants.{Court, Judge, Room, Case}
@@ -57,9 +58,9 @@ pub record IsInCourt (d : DocketView) (s : Setting) : Type 0 where
 in_court : (d : DocketView) (s : Setting) (line : Option Refusal) (except : Option (ℕ × ℕ)) → length d.judges ≡ d.setup.judges → length d.rooms ≡ d.setup.rooms → first_of (hearing_checks d.setup (parts_held d) s line except) ≡ None → IsInCourt d s
 in_court d s line except judges rooms h =
     let n = none_of (hearing_checks d.setup (parts_held d) s line except) h in
-    let room : nat_lt s.room d.setup.rooms ≡ true = when-not-None _ _ n.1.1.1.0 in
+    let room : nat_lt s.room d.setup.rooms ≡ true = when-not-None _ _ n.1.1.1.1.0 in
     record {
-      judges = λ j beyond. not_sitting d.setup.judges j s.judges (when-not-None _ _ n.1.1.0) (rw judges at beyond);
+      judges = λ j beyond. not_sitting d.setup.judges j s.judges (when-not-None _ _ n.1.1.1.0) (rw judges at beyond);
       room = λ r beyond. grind (arith, nat_tests);
     }
 
@@ -74,12 +75,16 @@ stays_in_court d s before court = record {
   rooms = λ k beyond. nothing_to_take s.case s.motion _ (s.room == k) (booking_of (parts_held d) (first_judge s.judges) s) (court.room k beyond);
 }
 
--- nor does a cancellation
+-- nor does a cancellation, or a ruling
 pub stays_when_made : (d : DocketView) (command : Command) (r : Rebooking) → refusal d.setup (parts_held d) command ≡ None → length d.judges ≡ d.setup.judges → length d.rooms ≡ d.setup.rooms → Some r ≡ rebooking_of (parts_held d) command → StaysInCourt d r
 unfolding book_refusal move_refusal
 stays_when_made d (Book s) r made judges rooms is = same_rebooking (StaysInCourt d) r _ is (stays_in_court d s _ (in_court d s _ _ judges rooms made))
 stays_when_made d (MoveHearing s) r made judges rooms is = same_rebooking (StaysInCourt d) r _ is (stays_in_court d s _ (in_court d s _ _ judges rooms made))
 stays_when_made d (Cancel case motion) r made judges rooms is = same_rebooking (StaysInCourt d) r _ is (record {
+  judges = λ j beyond. nothing_taken case motion _;
+  rooms = λ k beyond. nothing_taken case motion _;
+})
+stays_when_made d (Fact case (Ruled motion how dated)) r made judges rooms is = same_rebooking (StaysInCourt d) r _ is (record {
   judges = λ j beyond. nothing_taken case motion _;
   rooms = λ k beyond. nothing_taken case motion _;
 })
@@ -94,7 +99,7 @@ abbrev pub CaseIsAfter : DocketView → Command → (case : ℕ) → Rebooking �
 CaseIsAfter d command case r =
     value.Case (get_or (rebooked_docket r command d).cases case None) ≡ unwrap_or (changed (parts_held d) command (Case case)) (part_value (parts_held d) (Case case))
 
--- a booking, a move and a cancellation change their calendars, and the case
+-- a booking, a move, a cancellation and a ruling change their calendars, and the case
 pub hearing_changed : (d : DocketView) (command : Command) (r : Rebooking) → refusal d.setup (parts_held d) command ≡ None → length d.judges ≡ d.setup.judges → length d.rooms ≡ d.setup.rooms → Some r ≡ rebooking_of (parts_held d) command → IsAfter d command (rebooked_docket r command d)
 hearing_changed d command r made judges rooms is (Judge j) =
     rw (sym is)
@@ -107,10 +112,13 @@ hearing_changed d command r made judges rooms is (Room k) =
 hearing_changed d (Book s) r made judges rooms is Court = refl
 hearing_changed d (MoveHearing s) r made judges rooms is Court = refl
 hearing_changed d (Cancel case motion) r made judges rooms is Court = refl
+hearing_changed d (Fact case (Ruled motion how dated)) r made judges rooms is Court = refl
 hearing_changed d (Book s) r made judges rooms is (Case i) =
     same_rebooking (CaseIsAfter d (Book s) i) r _ is (case_changed (Book s) d.cases s.case i (λ beyond. refl))
 hearing_changed d (MoveHearing s) r made judges rooms is (Case i) =
     same_rebooking (CaseIsAfter d (MoveHearing s) i) r _ is (case_changed (MoveHearing s) d.cases s.case i (λ beyond. refl))
 hearing_changed d (Cancel case motion) r made judges rooms is (Case i) =
     same_rebooking (CaseIsAfter d (Cancel case motion) i) r _ is (case_changed (Cancel case motion) d.cases case i (λ beyond. refl))
+hearing_changed d (Fact case (Ruled motion how dated)) r made judges rooms is (Case i) =
+    same_rebooking (CaseIsAfter d (Fact case (Ruled motion how dated)) i) r _ is (case_changed (Fact case (Ruled motion how dated)) d.cases case i (λ beyond. refl))
 hearing_changed d _ r made judges rooms is part = absurd cc

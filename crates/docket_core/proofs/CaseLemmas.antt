@@ -4,10 +4,10 @@ use Rattle.std.proofs.lemmas.Bool.{cases_Bool}
 use Rattle.std.proofs.lemmas.Bool.Decides.{nat_tests}
 use Rattle.std.proofs.lemmas.List.{get_or-set_other}
 use Rattle.docket_rows.specs.declared.command.Command.{Command}
-use Rattle.docket_rows.specs.declared.command.Command.TheVariants.{OpenCase, Start, Extend, Motion, Book, MoveHearing}
+use Rattle.docket_rows.specs.declared.command.Command.TheVariants.{OpenCase, Start, Extend, Motion, Book, MoveHearing, Fact}
 use Rattle.docket_rows.specs.declared.part.PartValue.TheVariants as value
 use Rattle.docket_rows.specs.Words.{CourtSetup, Parts, CaseRecordView, refusal, case_of, case_after}
-use Rattle.docket_laws.proofs.CallerLemmas.{can_start, can_start_in, can_enter_in, can_extend_in, can_book, can_move, count_of}
+use Rattle.docket_laws.proofs.CallerLemmas.{can_start, can_start_in, can_enter_in, can_record_in, can_extend_in, can_book, can_move, count_of}
 use Rattle.docket_decisions.specs.Words.{CanChangeRecord}
 use Rattle.docket_core.specs.Inside.Changes.{CanChangeCase}
 
@@ -21,6 +21,7 @@ can_change_record setup parts (Extend case deadline request) (Some c) made found
 can_change_record setup parts (Motion case served need) (Some c) made found = can_enter_in parts case served need c made found
 can_change_record setup parts (Book s) (Some c) made found = count_of s.first s.count (can_book setup parts s made).fits
 can_change_record setup parts (MoveHearing s) (Some c) made found = count_of s.first s.count (can_move setup parts s made).fits
+can_change_record setup parts (Fact case fact) (Some c) made found = can_record_in setup parts case fact c made found
 can_change_record setup parts _ (Some c) made found = tt
 
 pub can_change_case : (setup : CourtSetup) (parts : Parts) (command : Command) → refusal setup parts command ≡ None → CanChangeCase parts command

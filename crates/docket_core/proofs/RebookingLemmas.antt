@@ -1,10 +1,11 @@
--- What a booking, a move or a cancellation does to calendars.
+-- What a booking, a move, a cancellation or a ruling does to calendars.
 use Rattle.std.proofs.Common.{◌≡◌, ℕ, zero, suc, ◌+◌, ◌≤◌, Bool, true, false, ◌==◌, List, [], ◌∷◌, length, get_or, Option, Some, None, unwrap_or, if◌then◌else◌, refl, ap, sym, ◌∙◌, subst, arith}
 use Rattle.std.proofs.lemmas.Bool.Decides.{nat_tests}
 use Rattle.hearing_slots.specs.declared.booking.Booking.{Booking}
 use Rattle.hearing_slots.specs.Words.{IsWithinDay, IsFree}
 use Rattle.docket_rows.specs.declared.command.Command.{Command}
-use Rattle.docket_rows.specs.declared.command.Command.TheVariants.{Book, MoveHearing, Cancel}
+use Rattle.docket_rows.specs.declared.command.Command.TheVariants.{Book, MoveHearing, Cancel, Fact}
+use Rattle.docket_rows.specs.declared.fact.Fact.TheVariants.{Ended, Resumed, Closed, Reopened, Ruled, Assigned, Titled, Labelled}
 use Rattle.docket_rows.specs.declared.hearing.Hearing.{Hearing}
 use Rattle.docket_rows.specs.declared.hearing.Setting.{Setting}
 use Rattle.docket_rows.specs.declared.rebooking.CalendarChange.{CalendarChange}
@@ -18,6 +19,14 @@ use Rattle.docket_core.specs.Inside.Rebooking.{CanRebook, calendar_after, calend
 pub can_rebook : (setup : CourtSetup) (parts : Parts) (command : Command) → refusal setup parts command ≡ None → CanRebook parts command
 can_rebook setup parts (Book s) made = can_book setup parts s made
 can_rebook setup parts (MoveHearing s) made = can_move setup parts s made
+can_rebook setup parts (Fact case (Ended deadline why dated)) made = tt
+can_rebook setup parts (Fact case (Resumed deadline dated)) made = tt
+can_rebook setup parts (Fact case (Closed why dated)) made = tt
+can_rebook setup parts (Fact case (Reopened dated)) made = tt
+can_rebook setup parts (Fact case (Ruled motion how dated)) made = tt
+can_rebook setup parts (Fact case (Assigned judge referred dated)) made = tt
+can_rebook setup parts (Fact case Titled) made = tt
+can_rebook setup parts (Fact case (Labelled counted number)) made = tt
 can_rebook setup parts _ made = tt
 
 -- its booking lies within its day, and its slots are free in the calendar of its room
@@ -62,6 +71,7 @@ pub rebooked_case : (parts : Parts) (command : Command) (r : Rebooking) → Some
 rebooked_case parts (Book s) r is = same_rebooking (λ r. Some s.case ≡ Some r.case) r _ is refl
 rebooked_case parts (MoveHearing s) r is = same_rebooking (λ r. Some s.case ≡ Some r.case) r _ is refl
 rebooked_case parts (Cancel case motion) r is = same_rebooking (λ r. Some case ≡ Some r.case) r _ is refl
+rebooked_case parts (Fact case (Ruled motion how dated)) r is = same_rebooking (λ r. Some case ≡ Some r.case) r _ is refl
 rebooked_case parts _ r is = absurd cc
 
 -- so each calendar can be changed
@@ -73,6 +83,8 @@ judge_can_change parts (Book s) r judge can is = same_rebooking (JudgeCanChange 
 judge_can_change parts (MoveHearing s) r judge can is = same_rebooking (JudgeCanChange parts judge) r _ is (judge_can_put parts s _ judge can)
 judge_can_change parts (Cancel case motion) r judge can is =
     same_rebooking (JudgeCanChange parts judge) r _ is (can_take_out case motion _ (parts.judge judge))
+judge_can_change parts (Fact case (Ruled motion how dated)) r judge can is =
+    same_rebooking (JudgeCanChange parts judge) r _ is (can_take_out case motion _ (parts.judge judge))
 judge_can_change parts _ r judge can is = absurd cc
 
 abbrev pub RoomCanChange : Parts → (room : ℕ) → Rebooking → Type 0
@@ -82,6 +94,8 @@ pub room_can_change : (parts : Parts) (command : Command) (r : Rebooking) (room 
 room_can_change parts (Book s) r room can is = same_rebooking (RoomCanChange parts room) r _ is (room_can_put parts s _ room can)
 room_can_change parts (MoveHearing s) r room can is = same_rebooking (RoomCanChange parts room) r _ is (room_can_put parts s _ room can)
 room_can_change parts (Cancel case motion) r room can is =
+    same_rebooking (RoomCanChange parts room) r _ is (can_take_out case motion _ (parts.room room))
+room_can_change parts (Fact case (Ruled motion how dated)) r room can is =
     same_rebooking (RoomCanChange parts room) r _ is (can_take_out case motion _ (parts.room room))
 room_can_change parts _ r room can is = absurd cc
 

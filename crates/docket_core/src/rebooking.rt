@@ -1,11 +1,12 @@
-//! What a booking, a move or a cancellation does to the calendars of judges and rooms.
+//! What a booking, a move, a cancellation or a ruling does to the calendars of judges and rooms.
 
 ghost use Rattle.std.specs.Prelude.{◌≡◌, ◌≤◌};
-ghost use Rattle.docket_rows.specs.Words.{hearing_asked, booking_of, placement_of, rebooking_of, judge_change, room_change};
+ghost use Rattle.docket_rows.specs.Words.{hearing_asked, booking_of, placement_of, rebooking_of, taken_off, judge_change, room_change};
 ghost use Rattle.docket_core.specs.Inside.Rebooking.{CanRebook};
 
-use docket_decisions::{Sight, hearing_asked, hearing_in, later, motion_in, sits};
-use docket_rows::{CalendarChange, Command, Placement, Rebooking, Setting};
+use court_clock::Day;
+use docket_decisions::{Sight, hearing_asked, hearing_in, if_ahead, later, motion_in, sits};
+use docket_rows::{CalendarChange, Command, Hearing, Placement, Rebooking, Setting};
 use hearing_slots::{Booking, Need};
 
 /// What becomes of the calendar of the judge.
@@ -86,6 +87,16 @@ fn placed<S: Sight>(sight: &S, s: &Setting) -> Placement
     }
 }
 
+/// The hearing that is taken off, of the one that is set: it, or only where it is later than a day.
+fn taken_off(later_than: Option<Day>, set: Option<Hearing>) -> Option<Hearing>
+    ensures { result ≡ taken_off later_than set }
+{
+    match later_than {
+        Some(day) => if_ahead(day, set),
+        None => set,
+    }
+}
+
 /// What the command does to calendars; none where it is about no hearing.
 pub(crate) fn rebooking_of<S: Sight>(sight: &S, command: &Command) -> Option<Rebooking>
     requires { CanRebook (S.parts sight.now) command.now }
@@ -99,7 +110,10 @@ pub(crate) fn rebooking_of<S: Sight>(sight: &S, command: &Command) -> Option<Reb
     Some(Rebooking {
         case: order.case,
         motion: order.motion,
-        before: hearing_in(sight, order.case, order.motion),
+        before: taken_off(
+            order.later_than,
+            hearing_in(sight, order.case, order.motion),
+        ),
         after,
     })
 }

@@ -1,10 +1,11 @@
-//! What the start, the meeting and the extension of a deadline are answered, and the entry of a motion.
+//! What the start, the meeting and the extension of a deadline are answered, an order that sets another end, and the entry of a
+//! motion.
 
 ghost use Rattle.std.specs.Prelude.{◌≡◌, ◌<◌, None, length};
 ghost use Rattle.std.specs.Option.{option_map_or};
 ghost use Rattle.rule6.specs.Words.{is_in_time};
-ghost use Rattle.rule_periods.specs.Words.{kept_filing, with_grant};
-ghost use Rattle.docket_rows.specs.Words.{has_one, deadline_in, deadlines_in, motions_in, most_deadlines, most_motions, next_deadline, next_motion, shown_now, started, start_deadline_refusal, extend_refusal, motion_refusal};
+ghost use Rattle.rule_periods.specs.Words.{is_order, kept_filing, with_grant};
+ghost use Rattle.docket_rows.specs.Words.{has_one, deadline_in, deadlines_in, ended_answer, motions_in, most_deadlines, most_motions, next_deadline, next_motion, shown_now, started, start_deadline_refusal, extend_refusal, motion_refusal};
 ghost use Rattle.rule6.specs.declared.timeliness.Shown.TheVariants.{Beyond};
 ghost use Rattle.docket_rows.specs.declared.answer.Answer.TheVariants as answer;
 
@@ -65,8 +66,27 @@ pub(crate) fn is_act_timely<S: Sight>(
     }
 }
 
+/// What an extension of a deadline is answered, or an order that sets another end.
+pub(crate) fn answer_to_extension<S: Sight>(
+    rules: &DocketRules,
+    sight: &S,
+    case: u32,
+    deadline: u32,
+    request: &Request,
+) -> Answer
+    requires { extend_refusal rules.now (S.parts sight.now) case deadline request.now ≡ None }
+    ensures { result ≡ ended_answer (is_order request.now.grant) (option_map_or (λ row. shown_now rules.now (S.parts sight.now) (with_grant row request.now.grant)) (deadline_in (S.parts sight.now) case deadline) Beyond) }
+{
+    let end = shown_if_extended(rules, sight, case, deadline, request);
+    if request.grant.is_order() {
+        Answer::Reset(end)
+    } else {
+        Answer::Extended(end)
+    }
+}
+
 /// When the time of the deadline ends, once it is extended.
-pub(crate) fn shown_if_extended<S: Sight>(
+fn shown_if_extended<S: Sight>(
     rules: &DocketRules,
     sight: &S,
     case: u32,

@@ -6,15 +6,16 @@ ghost use Rattle.docket_rows.specs.Words.{answer_if_made, case_after, case_of, h
 ghost use Rattle.docket_decisions.specs.Changes.{CanChangeRecord};
 ghost use Rattle.docket_decisions.specs.Memory.{takes_memory};
 
-use crate::answers::{answer_to_motion, answer_to_start, is_act_timely, shown_if_extended};
+use crate::answers::{answer_to_extension, answer_to_motion, answer_to_start, is_act_timely};
 use crate::cases::open_case_refusal;
 use crate::deadlines::{extend_refusal, file_act_refusal, start_deadline_refusal};
+use crate::facts::{answer_to_fact, fact_refusal, record_fact};
 use crate::hearings::{book_refusal, cancel_refusal, hearing_asked, move_refusal};
 use crate::holidays::holiday_refusal;
 use crate::motions::motion_refusal;
 use crate::next::{
-    next_of_booking, next_of_cancel, next_of_case, next_of_deadline, next_of_holiday, next_of_move,
-    unread,
+    next_of_booking, next_of_cancel, next_of_case, next_of_deadline, next_of_fact, next_of_holiday,
+    next_of_move, unread,
 };
 use crate::outages::outage_refusal;
 use crate::rules::DocketRules;
@@ -38,6 +39,7 @@ pub fn case_of_command(command: &Command) -> Option<u32>
         Command::Cancel { case, .. } => Some(*case),
         Command::Holiday { .. } => None,
         Command::Inaccessible { .. } => None,
+        Command::Fact { case, .. } => Some(*case),
     }
 }
 
@@ -77,6 +79,7 @@ pub fn refusal<S: Sight>(
         Command::Cancel { case, motion } => Ok(cancel_refusal(sight, *case, *motion)),
         Command::Holiday { day, list } => holiday_refusal(alloc, rules, sight, *day, *list),
         Command::Inaccessible { day, from, to } => Ok(outage_refusal(sight, *day, *from, *to)),
+        Command::Fact { case, fact } => Ok(fact_refusal(rules, sight, *case, fact)),
     }
 }
 
@@ -110,13 +113,14 @@ pub fn answer_if_made<S: Sight>(
             case,
             deadline,
             request,
-        } => Answer::Extended(shown_if_extended(rules, sight, *case, *deadline, request)),
+        } => answer_to_extension(rules, sight, *case, *deadline, request),
         Command::Motion { case, served, need } => answer_to_motion(sight, *case, *served, *need),
         Command::Book(_) => Answer::Booked,
         Command::MoveHearing(_) => Answer::Moved,
         Command::Cancel { .. } => Answer::Cancelled,
         Command::Holiday { .. } => Answer::HolidayEntered,
         Command::Inaccessible { .. } => Answer::OutageEntered,
+        Command::Fact { case, fact } => answer_to_fact(rules, sight, *case, fact),
     }
 }
 
@@ -140,6 +144,7 @@ fn next_part(
         Command::Cancel { case, motion } => next_of_cancel(rules, reads, *case, *motion),
         Command::Holiday { .. } => next_of_holiday(rules, reads),
         Command::Inaccessible { .. } => unread(reads, PartId::Court),
+        Command::Fact { case, fact } => next_of_fact(rules, reads, *case, fact),
     }
 }
 
@@ -181,6 +186,7 @@ fn change_record(alloc: Global, case: &mut CaseRecord, command: &Command) -> Res
             ..
         } => case.add_grant(*deadline, request.grant),
         Command::Motion { served, need, .. } => case.add_motion(*served, *need),
+        Command::Fact { fact, .. } => record_fact(case, fact),
         _ => {
             change_hearing(case, command);
             Ok(())
@@ -189,7 +195,7 @@ fn change_record(alloc: Global, case: &mut CaseRecord, command: &Command) -> Res
 }
 
 /// Changes an open case as a command about a hearing of it says; another command leaves it as it was. It takes no memory.
-pub fn change_hearing(case: &mut CaseRecord, command: &Command)
+fn change_hearing(case: &mut CaseRecord, command: &Command)
     requires { CanChangeRecord command.now case.old }
     ensures { case.new ≡ hearing_after command.now case.old }
 {

@@ -5,7 +5,7 @@ ghost use Rattle.rule_periods.specs.Words.{suits, has_length, start_refusal, ext
 ghost use Rattle.docket_rows.specs.Words.{started, shown_now, deadline_in, refusal_of, start_deadline_refusal, file_act_refusal, extend_refusal};
 
 use crate::rules::DocketRules;
-use crate::seen::{deadline_in, deadlines_count, has_case, is_beyond, shown_now};
+use crate::seen::{deadline_in, deadlines_count, has_case, is_beyond, is_closed, shown_now};
 use crate::sight::Sight;
 use court_clock::{Clock, Day};
 use court_days::Days;
@@ -71,6 +71,9 @@ pub(crate) fn start_deadline_refusal<S: Sight>(
     if !has_case(sight, case) {
         return Some(Refusal::NoSuchCase);
     }
+    if is_closed(sight, case) {
+        return Some(Refusal::CaseIsClosed);
+    }
     if let Some(refusal) = start_refusal(sight.days(), period, event, *second, *service) {
         return Some(refusal);
     }
@@ -96,6 +99,9 @@ pub(crate) fn file_act_refusal<S: Sight>(
 {
     if !has_case(sight, case) {
         return Some(Refusal::NoSuchCase);
+    }
+    if is_closed(sight, case) {
+        return Some(Refusal::CaseIsClosed);
     }
     let Some(row) = deadline_in(sight, case, deadline) else {
         return Some(Refusal::NoSuchDeadline);
@@ -144,6 +150,9 @@ pub(crate) fn extend_refusal<S: Sight>(
 {
     if !has_case(sight, case) {
         return Some(Refusal::NoSuchCase);
+    }
+    if is_closed(sight, case) {
+        return Some(Refusal::CaseIsClosed);
     }
     let Some(row) = deadline_in(sight, case, deadline) else {
         return Some(Refusal::NoSuchDeadline);

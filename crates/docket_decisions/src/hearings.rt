@@ -9,7 +9,7 @@ ghost use Rattle.rule_periods.specs.Words.{first_of};
 ghost use Rattle.docket_rows.specs.Words.{hearing_asked, hearing_checks, book_refusal, move_refusal, cancel_refusal};
 
 use crate::rules::DocketRules;
-use crate::seen::{has_case, hearing_in, motion_in};
+use crate::seen::{has_case, hearing_in, is_closed, motion_in};
 use crate::sight::Sight;
 use clashes::{Span, judge_clash, room_clash};
 use docket_rows::{Hearing, Refusal, Setting};
@@ -48,6 +48,9 @@ fn hearing_refusal<S: Sight>(
 {
     if !has_case(sight, s.case) {
         return Some(Refusal::NoSuchCase);
+    }
+    if is_closed(sight, s.case) {
+        return Some(Refusal::CaseIsClosed);
     }
     let Some(motion) = motion_in(sight, s.case, s.motion) else {
         return Some(Refusal::NoSuchMotion);
@@ -130,6 +133,9 @@ pub(crate) fn cancel_refusal<S: Sight>(sight: &S, case: u32, motion: u32) -> Opt
 {
     if !has_case(sight, case) {
         return Some(Refusal::NoSuchCase);
+    }
+    if is_closed(sight, case) {
+        return Some(Refusal::CaseIsClosed);
     }
     let Some(entered) = motion_in(sight, case, motion) else {
         return Some(Refusal::NoSuchMotion);

@@ -3,7 +3,7 @@
 ghost use Rattle.std.specs.Prelude.{◌≡◌};
 ghost use Rattle.docket_rows.specs.Words.{is_notice_length, is_need, motion_refusal};
 
-use crate::seen::{has_case, motions_count};
+use crate::seen::{has_case, is_closed, motions_count};
 use crate::sight::Sight;
 use court_clock::Day;
 use docket_rows::{MOST_MOTIONS, Refusal};
@@ -38,6 +38,9 @@ pub(crate) fn motion_refusal<S: Sight>(
 {
     if !has_case(sight, case) {
         return Some(Refusal::NoSuchCase);
+    }
+    if is_closed(sight, case) {
+        return Some(Refusal::CaseIsClosed);
     }
     if !sight.days().covered(served) {
         return Some(Refusal::BadDay);

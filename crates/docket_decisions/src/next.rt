@@ -2,14 +2,14 @@
 
 ghost use Rattle.std.specs.Prelude.{◌≡◌, ◌≤◌, ◌+◌, ◌++◌, ◌∷◌, [], map};
 ghost use Rattle.std.specs.List.{range_with_len};
-ghost use Rattle.docket_rows.specs.Words.{is_read, about_case, calendars_of, calendars_now, parts_read};
+ghost use Rattle.docket_rows.specs.Words.{is_read, about_case, calendars_of, calendars_now, calendars_taken, parts_read};
 ghost use Rattle.docket_rows.specs.declared.part.PartId.TheVariants.{Court, Judge};
 ghost use Rattle.docket_decisions.specs.Inside.Next.{first_unread, judges_of, rooms_of};
 
 use crate::reads::{Seen, is_same_part};
 use crate::rules::DocketRules;
 use crate::seen::{hearing_in, is_case_number};
-use docket_rows::{PartId, PartValue, Setting};
+use docket_rows::{Fact, PartId, PartValue, Setting};
 use hearing_slots::Panel;
 
 /// Whether the part was read.
@@ -186,6 +186,46 @@ pub(crate) fn next_of_cancel(
         return Some(PartId::Case(case));
     }
     unread_now(rules, reads, case, motion)
+}
+
+/// The next part of a ruling.
+fn next_of_ruling(
+    rules: &DocketRules,
+    reads: &[(PartId, PartValue)],
+    case: u32,
+    motion: u32,
+) -> Option<PartId>
+    ensures { result ≡ first_unread reads.now (about_case case (Court ∷ calendars_now rules.now (parts_read rules.now reads.now) case motion)) }
+{
+    if !is_case_number(case) {
+        return None;
+    }
+    if !is_read(reads, PartId::Case(case)) {
+        return Some(PartId::Case(case));
+    }
+    if !is_read(reads, PartId::Court) {
+        return Some(PartId::Court);
+    }
+    unread_now(rules, reads, case, motion)
+}
+
+/// The next part of a fact of a case.
+pub(crate) fn next_of_fact(
+    rules: &DocketRules,
+    reads: &[(PartId, PartValue)],
+    case: u32,
+    fact: &Fact,
+) -> Option<PartId>
+    ensures { result ≡ first_unread reads.now (about_case case (Court ∷ calendars_taken rules.now (parts_read rules.now reads.now) case fact.now)) }
+{
+    match *fact {
+        Fact::Ended { .. } | Fact::Resumed { .. } => next_of_deadline(reads, case),
+        Fact::Closed { .. } | Fact::Reopened { .. } => next_of_deadline(reads, case),
+        Fact::Ruled { motion, .. } => next_of_ruling(rules, reads, case, motion),
+        Fact::Assigned { .. } => next_of_deadline(reads, case),
+        Fact::Titled => next_of_deadline(reads, case),
+        Fact::Labelled { .. } => next_of_deadline(reads, case),
+    }
 }
 
 /// The next part of a holiday.

@@ -2,11 +2,12 @@
 
 ghost use Rattle.std.specs.Prelude.{◌≡◌, length, option_copied, option_map};
 ghost use Rattle.rule_periods.specs.Words.{is_beyond};
-ghost use Rattle.docket_rows.specs.Words.{is_case_number, has_case, deadlines_in, deadline_in, motions_in, motion_in, hearing_in, shown_now};
+ghost use Rattle.docket_rows.specs.Words.{is_case_number, has_case, deadlines_in, deadline_in, motions_in, motion_in, hearing_in, if_ahead, is_closed, shown_now};
 
 use crate::rules::DocketRules;
 use crate::sight::Sight;
-use docket_rows::{Hearing, LAST_CASE, MotionRecord};
+use court_clock::Day;
+use docket_rows::{Hearing, LAST_CASE, MotionRecord, closing_in};
 use rule_periods::{DeadlineRow, DocketRow, shown};
 use rule6::Shown;
 
@@ -26,6 +27,17 @@ pub fn has_case<S: Sight>(sight: &S, case: u32) -> bool
     }
     match sight.case(case) {
         Some(_) => true,
+        None => false,
+    }
+}
+
+/// Whether the case is closed.
+#[tactic(auto, unfolding(docket_rows::specs::Words::closing_in))]
+pub(crate) fn is_closed<S: Sight>(sight: &S, case: u32) -> bool
+    ensures { result ≡ is_closed (S.parts sight.now) case }
+{
+    match sight.case(case) {
+        Some(record) => closing_in(record.facts()).is_some(),
         None => false,
     }
 }
@@ -76,6 +88,22 @@ pub fn hearing_in<S: Sight>(sight: &S, case: u32, motion: u32) -> Option<Hearing
 {
     match motion_in(sight, case, motion) {
         Some(motion) => motion.hearing,
+        None => None,
+    }
+}
+
+/// The hearing, if there is one and it is after the day.
+pub fn if_ahead(day: Day, hearing: Option<Hearing>) -> Option<Hearing>
+    ensures { result ≡ if_ahead day hearing }
+{
+    match hearing {
+        Some(hearing) => {
+            if day.number() < hearing.day.number() {
+                Some(hearing)
+            } else {
+                None
+            }
+        }
         None => None,
     }
 }

@@ -10,18 +10,20 @@ use Rattle.rule6.specs.declared.timeliness.Shown.TheVariants as shown
 use Rattle.rule6.specs.Words.{is_in_time}
 use Rattle.rule6.proofs.CallerLemmas.{and_then_alike, in_time_alike}
 use Rattle.rule_periods.specs.declared.grant.Request.{Request}
-use Rattle.rule_periods.specs.Words.{DeadlineRowView, extension_refusal, is_beyond, kept_filing, with_grant}
+use Rattle.rule_periods.specs.Words.{DeadlineRowView, extension_refusal, is_beyond, is_order, kept_filing, with_grant}
 use Rattle.rule_periods.proofs.CallerLemmas.{extension_alike, shown_alike}
 use Rattle.docket_rows.specs.declared.answer.Answer.{Answer}
 use Rattle.docket_rows.specs.declared.answer.Answer.TheVariants as answer
 use Rattle.docket_rows.specs.declared.command.Command.{Command}
-use Rattle.docket_rows.specs.declared.command.Command.TheVariants.{Start, FileAct, Extend, Book, MoveHearing, Holiday}
+use Rattle.docket_rows.specs.declared.command.Command.TheVariants.{Start, FileAct, Extend, Book, MoveHearing, Holiday, Fact}
+use Rattle.docket_rows.specs.declared.fact.Fact.{Fact as FactOf}
+use Rattle.docket_rows.specs.declared.fact.Fact.TheVariants.{Ended, Resumed, Closed, Reopened, Ruled, Assigned, Titled, Labelled}
 use Rattle.docket_rows.specs.declared.hearing.Setting.{Setting}
 use Rattle.docket_rows.specs.declared.query.Query.{Query}
 use Rattle.docket_rows.specs.declared.query.Query.TheVariants.{Sheet, JudgeDay, Compute}
 use Rattle.docket_rows.specs.declared.refusal.Refusal.TheVariants.{NoSuchCase}
 use Rattle.docket_rows.specs.declared.view.View.TheVariants as view
-use Rattle.docket_rows.specs.Words.{CourtSetup, CaseRecordView, NumberedDeadline, Parts, Rows, answer_if_made, answered, setup_of, book_refusal, deadline_in, extend_refusal, file_act_refusal, has_one, holiday_refusal, move_refusal, next_deadline, notice_lost, opening_rows, parts_of, query_refusal, refusal, refusal_of, rows_from, seen_by, sheet_deadline, sheet_of, shown_if_asked, shown_now, start_deadline_refusal, started, state_of, step, view_of}
+use Rattle.docket_rows.specs.Words.{CourtSetup, CaseRecordView, NumberedDeadline, Parts, Rows, answer_if_made, answered, assign_refusal, setup_of, book_refusal, deadline_in, ended_answer, extend_refusal, file_act_refusal, has_one, holiday_refusal, move_refusal, next_deadline, notice_lost, opening_rows, parts_of, query_refusal, refusal, refusal_of, resume_refusal, rows_from, seen_by, sheet_deadline, sheet_of, shown_if_asked, shown_now, start_deadline_refusal, started, state_of, step, view_of}
 use Rattle.docket_laws.specs.Clocks.{IsSameSetup}
 use Rattle.docket_laws.specs.Lawful.{docket_after}
 use Rattle.docket_laws.proofs.PartsLists.{map_agree}
@@ -49,6 +51,10 @@ module _ (a b : CourtSetup) (same : IsSameSetup a b) where
   granted_alike parts request None = refl
   granted_alike parts request (Some row) = end_alike parts (with_grant row request.grant)
 
+  resumed_alike : (parts : Parts) (row : Option DeadlineRowView) → option_map_or (λ row. shown_now a parts row) row shown.Beyond ≡ option_map_or (λ row. shown_now b parts row) row shown.Beyond
+  resumed_alike parts None = refl
+  resumed_alike parts (Some row) = end_alike parts row
+
   -- refusals
   start_alike : (parts : Parts) (case : ℕ) (period : _) (event : _) (second : Option ℤ) (service : _) → start_deadline_refusal a parts case period event second service ≡ start_deadline_refusal b parts case period event second service
   unfolding start_deadline_refusal
@@ -62,6 +68,14 @@ module _ (a b : CourtSetup) (same : IsSameSetup a b) where
   unfolding extend_refusal
   extend_alike parts case deadline request =
       rw (and_then_alike (λ row. option_map refusal_of (extension_refusal parts.days a.clock row request)) (λ row. option_map refusal_of (extension_refusal parts.days b.clock row request)) (deadline_in parts case deadline) (λ row. ap (option_map refusal_of) (extension_alike a.clock b.clock same.clock parts.days row request))) refl
+
+  resume_alike : (parts : Parts) (case deadline : ℕ) (dated : ℤ) → resume_refusal a parts case deadline dated ≡ resume_refusal b parts case deadline dated
+  unfolding resume_refusal
+  resume_alike parts case deadline dated = rw (beyond_alike parts (deadline_in parts case deadline)) refl
+
+  assign_alike : (parts : Parts) (case judge : ℕ) (referred : Option ℕ) (dated : ℤ) → assign_refusal a parts case judge referred dated ≡ assign_refusal b parts case judge referred dated
+  unfolding assign_refusal
+  assign_alike parts case judge referred dated = rw same.judges refl
 
   book_alike : (parts : Parts) (s : Setting) → book_refusal a parts s ≡ book_refusal b parts s
   unfolding book_refusal
@@ -86,13 +100,29 @@ module _ (a b : CourtSetup) (same : IsSameSetup a b) where
   refusal_alike parts (Book s) = book_alike parts s
   refusal_alike parts (MoveHearing s) = move_alike parts s
   refusal_alike parts (Holiday day list) = holiday_alike parts day list
+  refusal_alike parts (Fact case (Resumed deadline dated)) = resume_alike parts case deadline dated
+  refusal_alike parts (Fact case (Ended deadline why dated)) = refl
+  refusal_alike parts (Fact case (Closed why dated)) = refl
+  refusal_alike parts (Fact case (Reopened dated)) = refl
+  refusal_alike parts (Fact case (Ruled motion ruling dated)) = refl
+  refusal_alike parts (Fact case (Assigned judge referred dated)) = assign_alike parts case judge referred dated
+  refusal_alike parts (Fact case Titled) = refl
+  refusal_alike parts (Fact case (Labelled kind number)) = refl
   refusal_alike parts _ = refl
 
   -- answers
   made_alike : (parts : Parts) (command : Command) → answer_if_made a parts command ≡ answer_if_made b parts command
   made_alike parts (Start case period event second service) = ap (answer.Started (next_deadline parts case)) (end_alike parts (started period event second service))
   made_alike parts (FileAct case deadline filing) = ap answer.Filed (timely_alike parts filing (deadline_in parts case deadline))
-  made_alike parts (Extend case deadline request) = ap answer.Extended (granted_alike parts request (deadline_in parts case deadline))
+  made_alike parts (Extend case deadline request) = ap (ended_answer (is_order request.grant)) (granted_alike parts request (deadline_in parts case deadline))
+  made_alike parts (Fact case (Resumed deadline dated)) = ap answer.Resumed (resumed_alike parts (deadline_in parts case deadline))
+  made_alike parts (Fact case (Ended deadline why dated)) = refl
+  made_alike parts (Fact case (Closed why dated)) = refl
+  made_alike parts (Fact case (Reopened dated)) = refl
+  made_alike parts (Fact case (Ruled motion ruling dated)) = refl
+  made_alike parts (Fact case (Assigned judge referred dated)) = refl
+  made_alike parts (Fact case Titled) = refl
+  made_alike parts (Fact case (Labelled kind number)) = refl
   made_alike parts _ = refl
 
   pub answered_alike : (parts : Parts) (command : Command) → answered a parts command ≡ answered b parts command
@@ -110,18 +140,18 @@ module _ (a b : CourtSetup) (same : IsSameSetup a b) where
   rows_from_alike rows (c ∷ cs) = ap (λ (s : Rows × Answer). rows_from a s.0 cs) (step_alike rows c) ∙ rows_from_alike (step b rows c).0 cs
 
   pub docket_alike : (commands : List Command) → docket_after a commands ≡ docket_after b commands
-  docket_alike commands = ap (λ days. rows_from a (record { days = days; cases = []; deadlines = []; motions = []; hearings = [] }) commands) same.days ∙ rows_from_alike (opening_rows b) commands
+  docket_alike commands = ap (λ days. rows_from a (record { days = days; cases = []; deadlines = []; motions = []; hearings = []; facts = [] }) commands) same.days ∙ rows_from_alike (opening_rows b) commands
 
   -- queries
   state_alike : (end : Shown) (filed : Option Filing) → state_of a.clock end filed ≡ state_of b.clock end filed
   state_alike end None = refl
   state_alike end (Some filing) = rw (in_time_alike a.clock b.clock same.clock end filing) refl
 
-  deadline_alike : (parts : Parts) (d : NumberedDeadline) → sheet_deadline a parts d ≡ sheet_deadline b parts d
-  deadline_alike parts d = rw (end_alike parts d.row, state_alike (shown_now b parts d.row) d.row.filed) refl
+  deadline_alike : (parts : Parts) (facts : List FactOf) (d : NumberedDeadline) → sheet_deadline a parts facts d ≡ sheet_deadline b parts facts d
+  deadline_alike parts facts d = rw (end_alike parts d.row, state_alike (shown_now b parts d.row) d.row.filed) refl
 
   pub sheet_alike : (parts : Parts) (case : ℕ) (c : CaseRecordView) → sheet_of a parts case c ≡ sheet_of b parts case c
-  sheet_alike parts case c = rw (map_agree (sheet_deadline a parts) (sheet_deadline b parts) c.deadlines (λ k d within. deadline_alike parts _)) refl
+  sheet_alike parts case c = rw (map_agree (sheet_deadline a parts c.facts) (sheet_deadline b parts c.facts) c.deadlines (λ k d within. deadline_alike parts c.facts _)) refl
 
   sheet_if_open_alike : (parts : Parts) (case : ℕ) (c : Option CaseRecordView) → option_map_or (λ c. view.Sheet (sheet_of a parts case c)) c (view.Refused NoSuchCase) ≡ option_map_or (λ c. view.Sheet (sheet_of b parts case c)) c (view.Refused NoSuchCase)
   sheet_if_open_alike parts case None = refl

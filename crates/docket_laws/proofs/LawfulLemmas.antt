@@ -4,6 +4,7 @@ pub mod NumberLemmas
 pub mod SeenLemmas
 pub mod CaseLemmas
 pub mod DeadlineLemmas
+pub mod FactLemmas
 pub mod MotionLemmas
 pub mod NoticeLemmas
 pub mod CalendarLemmas

@@ -1,14 +1,17 @@
 pub mod AlikeLemmas
 pub mod CallerLemmas
+pub mod EndedLemmas
 pub mod LawfulLemmas
 pub mod MadeLemmas
 pub mod PartsAfter
 pub mod PartsCalendars
 pub mod PartsCases
 pub mod PartsDeadlines
+pub mod PartsFacts
 pub mod PartsHearings
 pub mod PartsLists
 pub mod PartsMotions
+pub mod PartsRulings
 pub mod PartsSame
 pub mod PartsSeen
 pub mod PartsStep
@@ -20,3 +23,4 @@ pub mod ReadsParts
 pub mod ReadsSame
 pub mod ReadsUnread
 pub mod ReadsWritten
+pub mod RulingLemmas

@@ -1,5 +1,5 @@
 -- What holds where a command isn't refused.
-use Rattle.std.proofs.Common.{◌≡◌, ℕ, ◌<◌, ◌≤◌, ◌+◌, ℤ, Bool, true, false, not, ◌==◌, is_none, is_some, nat_eq, List, [], ◌∷◌, length, map, find, Option, Some, None, IfSome, option_map, option_and_then, refl, ap, sym, ◌∙◌, arith, inl, inr}
+use Rattle.std.proofs.Common.{◌≡◌, ℕ, ◌<◌, ◌≤◌, ◌+◌, ℤ, Bool, true, false, cond, not, ◌==◌, is_none, is_some, nat_eq, List, [], ◌∷◌, length, map, find, Option, Some, None, IfSome, option_map, option_and_then, refl, ap, sym, ◌∙◌, arith, inl, inr}
 use Rattle.std.proofs.lemmas.Bool.{cases_Bool, false≢true}
 use Rattle.std.proofs.lemmas.Bool.Decides.{nat_tests}
 use Rattle.std.proofs.lemmas.List.Elements.{All-weaker}
@@ -7,17 +7,22 @@ use Rattle.court_clock.specs.Words.{ClockView}
 use Rattle.court_days.specs.Words.{DaysView}
 use Rattle.rule6.specs.declared.service.ServiceKind.{ServiceKind}
 use Rattle.rule_periods.specs.declared.period.Period.{Period}
+use Rattle.rule_periods.specs.declared.grant.Grant.{Grant}
+use Rattle.rule_periods.specs.declared.grant.Grant.TheVariants as grant
 use Rattle.rule_periods.specs.declared.grant.Request.{Request}
-use Rattle.rule_periods.specs.Words.{EventView, DeadlineRowView, when, first_of, suits, has_length, start_refusal, start_checks, extension_refusal, extension_checks, is_grant_length, grant_fits, is_in_hours}
+use Rattle.rule_periods.specs.Words.{EventView, DeadlineRowView, when, first_of, suits, has_length, start_refusal, start_checks, extension_refusal, extension_checks, request_refusal, reset_checks, reset_refusal, is_grant_length, is_order, grant_fits, is_in_hours}
 use Rattle.hearing_slots.specs.declared.booking.Booking.{Booking}
 use Rattle.hearing_slots.specs.declared.need.Need.{Need}
 use Rattle.hearing_slots.specs.Words.{first_conflict, conflicts, IsFree, IsConflict, shares_slot}
 use Rattle.hearing_slots.proofs.CallerLemmas.{find-None, test_from_SharesSlot}
+use Rattle.docket_rows.specs.declared.command.Command.TheVariants as command
+use Rattle.docket_rows.specs.declared.fact.Fact.{Fact}
+use Rattle.docket_rows.specs.declared.fact.Fact.TheVariants.{Ended, Resumed, Closed, Reopened, Ruled, Assigned, Titled, Labelled}
 use Rattle.docket_rows.specs.declared.hearing.Setting.{Setting}
 use Rattle.docket_rows.specs.declared.refusal.Refusal.{Refusal}
 use Rattle.docket_rows.specs.declared.refusal.Refusal.TheVariants.{NoSuchDeadline}
 use Rattle.docket_laws.specs.Inside.CanSet.{CanSet}
-use Rattle.docket_rows.specs.Words.{CourtSetup, Parts, CaseRecordView, NumberedDeadline, most_deadlines, most_motions, refusal_of, deadlines_in, deadline_in, motions_in, hearing_in, fits_day, sits, start_deadline_refusal, start_deadline_checks, extend_refusal, extend_checks, motion_refusal, motion_checks, hearing_checks, book_checks, book_refusal, move_refusal, outage_refusal, outage_checks}
+use Rattle.docket_rows.specs.Words.{CourtSetup, Parts, CaseRecordView, NumberedDeadline, most_deadlines, most_motions, most_facts, is_kept, refusal, refusal_of, deadlines_in, deadline_in, motions_in, hearing_in, facts_in, fits_day, sits, start_deadline_refusal, start_deadline_checks, extend_refusal, extend_checks, end_refusal, end_checks, resume_refusal, resume_checks, close_refusal, close_checks, reopen_refusal, reopen_checks, rule_refusal, rule_checks, assign_refusal, assign_checks, motion_refusal, motion_checks, hearing_checks, book_checks, book_refusal, move_refusal, outage_refusal, outage_checks}
 
 -- no line of the list applies
 abbrev pub NoneOf : {R : Type 0} → List (Option R) → Type 0
@@ -53,7 +58,7 @@ pub may_book : (setup : CourtSetup) (parts : Parts) (s : Setting) → book_refus
 unfolding book_refusal
 may_book setup parts s h =
     let n = none_of (book_checks setup parts s) h in
-    nothing_found _ (when-None _ _ n.1.1.1.1.1.1.1.0)
+    nothing_found _ (when-None _ _ n.1.1.1.1.1.1.1.1.0)
 
 -- a period that starts suits its service, and has a length
 pub start_made : (c : DaysView) (period : Period) (event : EventView) (second : Option ℤ) (service : Option ServiceKind) → start_refusal c period event second service ≡ None → (suits period second service ≡ true) × (has_length period ≡ true)
@@ -72,8 +77,8 @@ pub can_start : (setup : CourtSetup) (parts : Parts) (case : ℕ) (period : Peri
 unfolding start_deadline_refusal
 can_start setup parts case period event second service h =
     let n = none_of (start_deadline_checks setup parts case period event second service) h in
-    let made = start_made parts.days period event second service (option_map-None _ _ n.1.0) in
-    let full = when-None _ _ n.1.1.0 in
+    let made = start_made parts.days period event second service (option_map-None _ _ n.1.1.0) in
+    let full = when-None _ _ n.1.1.1.0 in
     record { suits = made.0; ranged = made.1; room = grind (arith, nat_tests) }
 
 -- there is room for a motion that is entered
@@ -81,8 +86,38 @@ pub can_enter : (parts : Parts) (case : ℕ) (served : ℤ) (need : Need) → mo
 unfolding motion_refusal
 can_enter parts case served need h =
     let n = none_of (motion_checks parts case served need) h in
+    let full = when-None _ _ n.1.1.1.1.0 in
+    grind (arith, nat_tests)
+
+-- there is room for a fact that is kept
+pub can_record : (setup : CourtSetup) (parts : Parts) (case : ℕ) (fact : Fact) → refusal setup parts (command.Fact case fact) ≡ None → is_kept fact ≡ true → length (facts_in parts case) < most_facts
+unfolding end_refusal resume_refusal close_refusal reopen_refusal rule_refusal assign_refusal
+can_record setup parts case (Ended deadline why dated) h kept =
+    let n = none_of (end_checks parts case deadline dated) h in
+    let full = when-None _ _ n.1.1.1.1.1.1.0 in
+    grind (arith, nat_tests)
+can_record setup parts case (Resumed deadline dated) h kept =
+    let n = none_of (resume_checks setup parts case deadline dated) h in
+    let full = when-None _ _ n.1.1.1.1.1.1.1.0 in
+    grind (arith, nat_tests)
+can_record setup parts case (Closed why dated) h kept =
+    let n = none_of (close_checks parts case dated) h in
+    let full = when-None _ _ n.1.1.1.1.0 in
+    grind (arith, nat_tests)
+can_record setup parts case (Reopened dated) h kept =
+    let n = none_of (reopen_checks parts case dated) h in
     let full = when-None _ _ n.1.1.1.0 in
     grind (arith, nat_tests)
+can_record setup parts case (Ruled motion how dated) h kept =
+    let n = none_of (rule_checks parts case motion dated) h in
+    let full = when-None _ _ n.1.1.1.1.0 in
+    grind (arith, nat_tests)
+can_record setup parts case (Assigned judge referred dated) h kept =
+    let n = none_of (assign_checks setup parts case judge referred dated) h in
+    let full = when-None _ _ n.1.1.1.1.1.0 in
+    grind (arith, nat_tests)
+can_record setup parts case Titled h kept = absurd (false≢true kept)
+can_record setup parts case (Labelled counted number) h kept = absurd (false≢true kept)
 
 -- in the case that the parts show, where it is open
 pub can_start_in : (setup : CourtSetup) (parts : Parts) (case : ℕ) (period : Period) (event : EventView) (second : Option ℤ) (service : Option ServiceKind) (c : CaseRecordView) → start_deadline_refusal setup parts case period event second service ≡ None → parts.case case ≡ Some c → length c.deadlines < most_deadlines
@@ -93,22 +128,47 @@ can_start_in setup parts case period event second service c h found =
 pub can_enter_in : (parts : Parts) (case : ℕ) (served : ℤ) (need : Need) (c : CaseRecordView) → motion_refusal parts case served need ≡ None → parts.case case ≡ Some c → length c.motions < most_motions
 can_enter_in parts case served need c h found = rw found at (can_enter parts case served need h)
 
+pub can_record_in : (setup : CourtSetup) (parts : Parts) (case : ℕ) (fact : Fact) (c : CaseRecordView) → refusal setup parts (command.Fact case fact) ≡ None → parts.case case ≡ Some c → is_kept fact ≡ true → length c.facts < most_facts
+can_record_in setup parts case fact c h found kept = rw found at (can_record setup parts case fact h kept)
+
 -- an extension that may be granted has a length, and is of the period's kind
 pub record CanExtend (row : DeadlineRowView) (request : Request) : Type 0 where
   pub ranged : is_grant_length request.grant ≡ true
   pub fits : grant_fits (is_in_hours row.period) request.grant ≡ true
 
-pub extension_made : (c : DaysView) (clock : ClockView) (row : DeadlineRowView) (request : Request) → extension_refusal c clock row request ≡ None → CanExtend row request
-unfolding extension_refusal
-extension_made c clock row request h =
+-- so has what an order sets
+order_ranged : (g : Grant) → is_order g ≡ true → is_grant_length g ≡ true
+order_ranged (grant.ByDays n) h = cc h
+order_ranged (grant.ByHours n) h = cc h
+order_ranged (grant.Until day) h = cc h
+order_ranged (grant.Reset day) h = refl
+order_ranged (grant.ResetAt at) h = refl
+
+reset_made : (c : DaysView) (clock : ClockView) (row : DeadlineRowView) (request : Request) → is_order request.grant ≡ true → reset_refusal c clock row request ≡ None → CanExtend row request
+unfolding reset_refusal
+reset_made c clock row request order h =
+    let n = none_of (reset_checks c clock row request) h in
+    record { ranged = order_ranged request.grant order; fits = when-not-None _ _ n.1.1.0 }
+
+request_made : (c : DaysView) (clock : ClockView) (row : DeadlineRowView) (request : Request) → request_refusal c clock row request ≡ None → CanExtend row request
+unfolding request_refusal
+request_made c clock row request h =
     let n = none_of (extension_checks c clock row request) h in
     record { ranged = when-not-None _ _ n.1.1.1.1.0; fits = when-not-None _ _ n.1.1.1.0 }
+
+pub extension_made : (c : DaysView) (clock : ClockView) (row : DeadlineRowView) (request : Request) → extension_refusal c clock row request ≡ None → CanExtend row request
+unfolding extension_refusal
+extension_made c clock row request h = by (is_order request.grant) refl h
+  where
+    by : (order : Bool) → is_order request.grant ≡ order → cond order (reset_refusal c clock row request) (request_refusal c clock row request) ≡ None → CanExtend row request
+    by true order none = reset_made c clock row request order none
+    by false order none = request_made c clock row request none
 
 pub can_extend : (setup : CourtSetup) (parts : Parts) (case deadline : ℕ) (request : Request) (row : DeadlineRowView) → extend_refusal setup parts case deadline request ≡ None → deadline_in parts case deadline ≡ Some row → CanExtend row request
 unfolding extend_refusal
 can_extend setup parts case deadline request row h found =
     let n = none_of (extend_checks setup parts case deadline request) h in
-    extension_made parts.days setup.clock row request (option_map-None _ _ (rw found at n.1.1.1.0))
+    extension_made parts.days setup.clock row request (option_map-None _ _ (rw found at n.1.1.1.1.0))
 
 -- where no booking conflicts with the span, it is free
 pub free_of : (bookings : List Booking) (day : ℤ) (first count : ℕ) (except : Option (ℕ × ℕ)) → first_conflict bookings day first count except ≡ None → IsFree bookings day first count except
@@ -140,9 +200,9 @@ none_of_judges found judge (j ∷ panel) h sitting =
 can_set : (setup : CourtSetup) (parts : Parts) (s : Setting) (set : Option Refusal) (except : Option (ℕ × ℕ)) → ((bookings : List Booking) → IsFree bookings s.day s.first s.count except → IsFree bookings s.day s.first s.count (Some (s.case, s.motion))) → first_of (hearing_checks setup parts s set except) ≡ None → CanSet parts s
 can_set setup parts s set except widen h =
     let n = none_of (hearing_checks setup parts s set except) h in
-    let m = n.1.1.1.1.1.1.1.1.1.1.1.1 in
+    let m = n.1.1.1.1.1.1.1.1.1.1.1.1.1 in
     record {
-      fits = when-not-None _ _ n.1.1.1.1.1.1.0;
+      fits = when-not-None _ _ n.1.1.1.1.1.1.1.0;
       judges = λ judge sitting. widen (parts.judge judge) (free_of (parts.judge judge) s.day s.first s.count except (none_of_judges (λ j. first_conflict (parts.judge j) s.day s.first s.count except) judge s.judges (option_map-None _ _ m.0) sitting));
       room = widen (parts.room s.room) (free_of (parts.room s.room) s.day s.first s.count except (option_map-None _ _ m.1.0));
     }
@@ -181,5 +241,5 @@ pub can_extend_in : (setup : CourtSetup) (parts : Parts) (case deadline : ℕ) (
 unfolding extend_refusal
 can_extend_in setup parts case deadline request c h found =
     let n = none_of (extend_checks setup parts case deadline request) h in
-    let all = extends parts.days setup.clock request (deadline_in parts case deadline) n.1.0 n.1.1.1.0 in
+    let all = extends parts.days setup.clock request (deadline_in parts case deadline) n.1.1.0 n.1.1.1.1.0 in
     (all.0, rw found at all.1)

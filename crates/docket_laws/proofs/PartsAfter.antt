@@ -1,23 +1,27 @@
 -- After a command the parts are those of the rows after it.
-use Rattle.std.proofs.Common.{◌≡◌, ℕ, ℤ, false, ◌==◌, not, List, [], ◌∷◌, ◌++◌, Option, Some, None, option_map, refl, ap, sym, ◌∙◌}
+use Rattle.std.proofs.Common.{◌≡◌, ℕ, ℤ, ◌==◌, not, List, [], ◌∷◌, ◌++◌, Option, Some, None, option_map, refl, ap, sym, ◌∙◌}
 use Rattle.std.specs.Option.{option_or, unwrap_or}
 use Rattle.std.proofs.lemmas.Bool.{not_from_false}
 use Rattle.hearing_slots.specs.declared.booking.Booking.{Booking}
 use Rattle.hearing_slots.specs.declared.need.Need.{Need}
 use Rattle.hearing_slots.proofs.CallerLemmas.{filter_all, find-None}
 use Rattle.docket_rows.specs.declared.command.Command.{Command}
-use Rattle.docket_rows.specs.declared.command.Command.TheVariants.{OpenCase, Start, FileAct, Extend, Motion, Book, MoveHearing, Cancel, Holiday, Inaccessible}
+use Rattle.docket_rows.specs.declared.command.Command.TheVariants.{OpenCase, Start, FileAct, Extend, Motion, Book, MoveHearing, Cancel, Holiday, Inaccessible, Fact}
+use Rattle.docket_rows.specs.declared.fact.Fact.TheVariants.{Ruled}
+use Rattle.docket_rows.specs.declared.fact.Ruling.{Ruling}
 use Rattle.docket_rows.specs.declared.hearing.Setting.{Setting}
 use Rattle.docket_rows.specs.declared.part.PartId.{PartId}
 use Rattle.docket_rows.specs.declared.part.PartId.TheVariants.{Court, Judge, Room, Case}
 use Rattle.docket_rows.specs.declared.part.PartValue.TheVariants as value
-use Rattle.docket_rows.specs.Words.{CourtSetup, Rows, Parts, DocketedHearing, CaseRecordView, AreSound, is_hearing, hearing_of, parts_of, part_value, sits, first_judge, hearing_asked, hearing_in, open_case_checks, open_case_refusal, book_refusal, refusal, rows_after, changed}
+use Rattle.docket_rows.specs.Words.{CourtSetup, Rows, Parts, DocketedHearing, CaseRecordView, AreSound, is_hearing, hearing_of, parts_of, part_value, sits, first_judge, hearing_asked, open_case_checks, open_case_refusal, book_refusal, refusal, rows_after, changed}
 use Rattle.docket_laws.proofs.MadeLemmas.{none_of, when-None, option_map-None, nothing_found, may_book}
 use Rattle.docket_laws.proofs.PartsCalendars.{calendar_cancelled, calendar_moved, booking_seen}
 use Rattle.docket_laws.proofs.PartsCases.{case_after_opening}
 use Rattle.docket_laws.proofs.PartsDeadlines.{case_after_start, case_after_act, case_after_grant}
+use Rattle.docket_laws.proofs.PartsFacts.{case_with_fact}
 use Rattle.docket_laws.proofs.PartsHearings.{case_after_cancel, case_after_move}
 use Rattle.docket_laws.proofs.PartsMotions.{case_after_motion, calendar_after_motion}
+use Rattle.docket_laws.proofs.PartsRulings.{case_after_ruling, calendar_ruled}
 use Rattle.docket_laws.proofs.PartsSeen.{hearing_seen}
 
 -- the part holds what the command writes, where it writes it, else what it held
@@ -87,6 +91,15 @@ module _ (setup : CourtSetup) (rows : Rows) (sound : AreSound setup rows) where
       calendar_value _ _ _ (rw (hearing_seen setup rows sound s.case s.motion, booking_seen setup rows sound (first_judge s.judges) s) (calendar_moved rows s (λ h. first_judge h.judges) (λ h. h.room == room) sound.hearing_once))
   after_move s (Case n) = case_value _ _ _ (case_after_move rows s n)
 
+  after_ruling : (case motion : ℕ) (how : Ruling) (dated : ℤ) (part : PartId) → IsAfter rows (Fact case (Ruled motion how dated)) part
+  unfolding parts_of
+  after_ruling case motion how dated Court = refl
+  after_ruling case motion how dated (Judge judge) =
+      calendar_value _ _ _ (rw (hearing_seen setup rows sound case motion) (calendar_ruled rows case motion (λ h. h.room) (λ h. sits judge h.judges) sound.hearing_once dated))
+  after_ruling case motion how dated (Room room) =
+      calendar_value _ _ _ (rw (hearing_seen setup rows sound case motion) (calendar_ruled rows case motion (λ h. first_judge h.judges) (λ h. h.room == room) sound.hearing_once dated))
+  after_ruling case motion how dated (Case n) = case_value _ _ _ (case_after_ruling setup rows sound case motion how dated n)
+
   after_booking : (s : Setting) → book_refusal setup (parts_of rows) s ≡ None → (part : PartId) → IsAfter rows (Book s) part
   after_booking s h part =
       let none = may_book setup (parts_of rows) s h in
@@ -120,3 +133,8 @@ parts_after setup rows (Inaccessible day from to) sound h Court = refl
 parts_after setup rows (Inaccessible day from to) sound h (Judge judge) = refl
 parts_after setup rows (Inaccessible day from to) sound h (Room room) = refl
 parts_after setup rows (Inaccessible day from to) sound h (Case n) = refl
+parts_after setup rows (Fact case (Ruled motion how dated)) sound h part = after_ruling setup rows sound case motion how dated part
+parts_after setup rows (Fact case fact) sound h Court = refl
+parts_after setup rows (Fact case fact) sound h (Judge judge) = refl
+parts_after setup rows (Fact case fact) sound h (Room room) = refl
+parts_after setup rows (Fact case fact) sound h (Case n) = case_value _ _ _ (case_with_fact rows case fact n)

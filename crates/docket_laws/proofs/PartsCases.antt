@@ -4,7 +4,7 @@ use Rattle.std.specs.Option.{option_or}
 use Rattle.std.proofs.lemmas.Bool.{cases_Bool, cases_eq, false≢true, eqb-true, eq-eqb, ne_eqb}
 use Rattle.hearing_slots.proofs.CallerLemmas.{filter_none, find_here, find-Some, find-None}
 use Rattle.docket_rows.specs.declared.command.Command.TheVariants.{OpenCase}
-use Rattle.docket_rows.specs.Words.{CourtSetup, Rows, DocketedCase, CaseRecordView, AreSound, is_case, is_deadline_in, is_motion_in, case_shown, parts_of, case_written, rows_after}
+use Rattle.docket_rows.specs.Words.{CourtSetup, Rows, DocketedCase, CaseRecordView, AreSound, is_case, is_deadline_in, is_motion_in, is_fact_in, case_shown, parts_of, case_written, rows_after}
 use Rattle.docket_laws.proofs.PartsLists.{find-push_other}
 
 -- what is written into one case, where the others stay
@@ -43,7 +43,7 @@ none_of_case case_of cases case rows open_cases none k d within = elim (cases_Bo
   | inr differ ↦ differ
 ]
 
--- a case that is opened has no deadlines and no motions
+-- a case that is opened has no deadlines and no motions, and nothing is recorded of it
 pub case_after_opening : (setup : CourtSetup) (rows : Rows) (case : ℕ) (filed : ℤ) → AreSound setup rows → find (is_case case) rows.cases ≡ None → (n : ℕ) → (parts_of (rows_after rows (OpenCase case filed))).case n ≡ option_or (case_written (parts_of rows) (OpenCase case filed) n) ((parts_of rows).case n)
 unfolding parts_of
 case_after_opening setup rows case filed sound none =
@@ -51,10 +51,11 @@ case_after_opening setup rows case filed sound none =
     let opened : find (is_case case) (rows.cases ++ new ∷ []) ≡ Some new = find_here (is_case case) rows.cases new [] (find-None (is_case case) rows.cases none) (eq-eqb case case refl) in
     let deadlines : filter (is_deadline_in case) rows.deadlines ≡ [] = filter_none (is_deadline_in case) rows.deadlines (none_of_case (λ d. d.case) rows.cases case rows.deadlines sound.deadlines_of_cases none) in
     let motions : filter (is_motion_in case) rows.motions ≡ [] = filter_none (is_motion_in case) rows.motions (none_of_case (λ m. m.case) rows.cases case rows.motions sound.motions_of_cases none) in
+    let facts : filter (is_fact_in case) rows.facts ≡ [] = filter_none (is_fact_in case) rows.facts (none_of_case (λ f. f.case) rows.cases case rows.facts sound.facts_of_cases none) in
     written_at
     (λ n. option_map (case_shown rows) (find (is_case n) (rows.cases ++ new ∷ [])))
     (λ n. option_map (case_shown rows) (find (is_case n) rows.cases))
-    (λ n. Some (record { filed = filed; deadlines = []; motions = [] }))
+    (λ n. Some (record { filed = filed; deadlines = []; motions = []; facts = [] }))
     case
-    (rw (opened, deadlines, motions) refl)
+    (rw (opened, deadlines, motions, facts) refl)
     (λ n differ. ap (option_map (case_shown rows)) (find-push_other (is_case n) rows.cases new (ne_eqb case n (λ e. differ (sym e)))))

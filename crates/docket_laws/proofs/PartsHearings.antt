@@ -7,7 +7,7 @@ use Rattle.hearing_slots.proofs.CallerLemmas.{find_absent, find_here, find-filte
 use Rattle.docket_rows.specs.declared.hearing.Hearing.{Hearing}
 use Rattle.docket_rows.specs.declared.hearing.Setting.{Setting}
 use Rattle.docket_rows.specs.declared.command.Command.TheVariants.{MoveHearing, Cancel}
-use Rattle.docket_rows.specs.Words.{Rows, DocketedMotion, DocketedHearing, NumberedMotion, is_case, is_motion_in, is_hearing, hearing_of, motion_shown, case_shown, parts_of, hearing_asked, set_hearing, case_written, rows_after}
+use Rattle.docket_rows.specs.Words.{Rows, DocketedMotion, DocketedHearing, NumberedMotion, is_case, is_motion_in, is_hearing, hearing_of, motion_shown, case_shown, parts_of, hearing_asked, set_hearing, case_written, without_hearing, rows_after}
 use Rattle.docket_laws.proofs.PartsLists.{map-map, map_agree-kept, find-push_other}
 use Rattle.docket_laws.proofs.PartsCases.{written_at, number_found, shown_same, shown_changed}
 
@@ -58,7 +58,7 @@ module _ (rows : Rows) (case motion : ℕ) where
   abbrev left : List DocketedHearing
   left = filter (λ (h : DocketedHearing). not (is_hearing case motion h)) rows.hearings
 
-  found_left : (n k : ℕ) → ((n ≡ case) × (k ≡ motion) → ⊥) → find (is_hearing n k) left ≡ find (is_hearing n k) rows.hearings
+  pub found_left : (n k : ℕ) → ((n ≡ case) × (k ≡ motion) → ⊥) → find (is_hearing n k) left ≡ find (is_hearing n k) rows.hearings
   found_left n k differ =
       find-filter (is_hearing n k) (λ (h : DocketedHearing). not (is_hearing case motion h)) (λ x it. not_from_false _ (false_from_ne_true _ (λ too.
       let one = and_parts (x.case == n) (x.motion == k) it in
@@ -68,9 +68,13 @@ module _ (rows : Rows) (case motion : ℕ) where
   none_left : All (λ (x : DocketedHearing). is_hearing case motion x ≡ false) left
   none_left k d within = not-true _ (filter_passes (λ (h : DocketedHearing). not (is_hearing case motion h)) rows.hearings k d within)
 
+  -- and none is found for the motion itself
+  pub none_set : hearing_of (without_hearing case motion rows) case motion ≡ None
+  none_set = ap (option_map (λ (x : DocketedHearing). x.hearing)) (find_absent (is_hearing case motion) left none_left)
+
   pub case_after_cancel : (n : ℕ) → (parts_of (rows_after rows (Cancel case motion))).case n ≡ option_or (case_written (parts_of rows) (Cancel case motion) n) ((parts_of rows).case n)
   case_after_cancel n =
-      case_with_hearing rows left case motion None (ap (option_map (λ (x : DocketedHearing). x.hearing)) (find_absent (is_hearing case motion) left none_left)) found_left n
+      case_with_hearing rows left case motion None none_set found_left n
 
 pub case_after_move : (rows : Rows) (s : Setting) (n : ℕ) → (parts_of (rows_after rows (MoveHearing s))).case n ≡ option_or (case_written (parts_of rows) (MoveHearing s) n) ((parts_of rows).case n)
 case_after_move rows s n =

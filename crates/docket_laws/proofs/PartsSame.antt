@@ -2,7 +2,7 @@
 use Rattle.std.proofs.Common.{◌≡◌, ℕ, refl, ap}
 use Rattle.court_days.specs.Words.{DaysView}
 use Rattle.docket_rows.specs.declared.command.Command.{Command}
-use Rattle.docket_rows.specs.declared.command.Command.TheVariants.{Book, MoveHearing, Cancel}
+use Rattle.docket_rows.specs.declared.command.Command.TheVariants.{Book, MoveHearing, Cancel, Fact}
 use Rattle.docket_rows.specs.declared.part.PartId.{PartId}
 use Rattle.docket_rows.specs.declared.part.PartId.TheVariants.{Court, Judge, Room, Case}
 use Rattle.docket_rows.specs.declared.query.Query.{Query}
@@ -60,6 +60,7 @@ same_writes p q command same part = changed_same p q command (case_asked command
   case_asked (Book s) = same_case p q s.case (same (Case s.case))
   case_asked (MoveHearing s) = same_case p q s.case (same (Case s.case))
   case_asked (Cancel case motion) = same_case p q case (same (Case case))
+  case_asked (Fact case fact) = same_case p q case (same (Case case))
   case_asked _ = tt
 
 pub same_parts : (setup : CourtSetup) (p q : Parts) (command : Command) → ((part : PartId) → part_value p part ≡ part_value q part) → (refusal setup p command ≡ refusal setup q command) × (answered setup p command ≡ answered setup q command) × ((part : PartId) → changed p command part ≡ changed q command part)

@@ -13,7 +13,8 @@ use Rattle.std.proofs.lemmas.Map.Made.{length-le_from_is_member}
 use Rattle.std.proofs.lemmas.Map.Views.{Contains-from_any}
 use Rattle.hearing_slots.proofs.CallerLemmas.{find-Some}
 use Rattle.docket_rows.specs.declared.command.Command.{Command}
-use Rattle.docket_rows.specs.declared.command.Command.TheVariants.{OpenCase, Start, FileAct, Extend, Motion, Book, MoveHearing, Cancel, Holiday, Inaccessible}
+use Rattle.docket_rows.specs.declared.command.Command.TheVariants.{OpenCase, Start, FileAct, Extend, Motion, Book, MoveHearing, Cancel, Holiday, Inaccessible, Fact}
+use Rattle.docket_rows.specs.declared.fact.Fact.TheVariants.{Ended, Resumed, Closed, Reopened, Ruled, Assigned, Titled, Labelled}
 use Rattle.docket_rows.specs.declared.hearing.Hearing.{Hearing}
 use Rattle.docket_rows.specs.declared.part.PartId.{PartId}
 use Rattle.docket_rows.specs.declared.part.PartId.TheVariants.{Court, Judge, Room, Case}
@@ -84,6 +85,18 @@ module _ (setup : CourtSetup) where
       longer (Cancel case motion) h = about_longer (same_part part) case _ _ (now_longer (same_part part) case motion reads x) h
       longer (Holiday day list) h = h
       longer (Inaccessible day from to) h = h
+      longer (Fact case (Ended deadline why dated)) h = h
+      longer (Fact case (Resumed deadline dated)) h = h
+      longer (Fact case (Closed why dated)) h = h
+      longer (Fact case (Reopened dated)) h = h
+      longer (Fact case (Ruled motion how dated)) h =
+          let now = calendars_now setup (parts_read setup reads) case motion in
+          let later = calendars_now setup (parts_read setup (reads ++ x ∷ [])) case motion in
+          about_longer (same_part part) case (Court ∷ now) (Court ∷ later)
+          (or_back (same_part part Court) (list_any (same_part part) now) (list_any (same_part part) later) (now_longer (same_part part) case motion reads x)) h
+      longer (Fact case (Assigned judge referred dated)) h = h
+      longer (Fact case Titled) h = h
+      longer (Fact case (Labelled counted number)) h = h
 
     wanted_longer_all : (reads more : List (PartId × PartValue)) (part : PartId) → is_wanted setup (parts_read setup reads) command part ≡ true → is_wanted setup (parts_read setup (reads ++ more)) command part ≡ true
     wanted_longer_all reads [] part h = rw (append-nil reads) h
@@ -161,6 +174,15 @@ module _ (setup : CourtSetup) where
   few_wanted parts (Cancel case motion) = inl (omega (arith, few_about case 4 (calendars_now setup parts case motion) (few_now parts case motion)))
   few_wanted parts (Holiday day list) = inr (omega (arith, length-map-range_with_len Judge 0 setup.judges))
   few_wanted parts (Inaccessible day from to) = inl (omega arith)
+  few_wanted parts (Fact case (Ended deadline why dated)) = inl (omega (arith, few_about case 1 (Court ∷ []) (omega arith)))
+  few_wanted parts (Fact case (Resumed deadline dated)) = inl (omega (arith, few_about case 1 (Court ∷ []) (omega arith)))
+  few_wanted parts (Fact case (Closed why dated)) = inl (omega (arith, few_about case 1 (Court ∷ []) (omega arith)))
+  few_wanted parts (Fact case (Reopened dated)) = inl (omega (arith, few_about case 1 (Court ∷ []) (omega arith)))
+  few_wanted parts (Fact case (Ruled motion how dated)) =
+      inl (omega (arith, few_about case 5 (Court ∷ calendars_now setup parts case motion) (omega (arith, few_now parts case motion))))
+  few_wanted parts (Fact case (Assigned judge referred dated)) = inl (omega (arith, few_about case 1 (Court ∷ []) (omega arith)))
+  few_wanted parts (Fact case Titled) = inl (omega (arith, few_about case 1 (Court ∷ []) (omega arith)))
+  few_wanted parts (Fact case (Labelled counted number)) = inl (omega (arith, few_about case 1 (Court ∷ []) (omega arith)))
 
   -- no part is read twice
   pub read_once : (command : Command) (reads : List (PartId × PartValue)) → WereRead setup command reads → IsDistinct same_part (parts_in reads)

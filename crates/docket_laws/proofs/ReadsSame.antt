@@ -19,13 +19,16 @@ use Rattle.rule_periods.specs.Words.{EventView, first_of}
 use Rattle.hearing_slots.specs.declared.need.Need.{Need}
 use Rattle.hearing_slots.specs.Words.{first_conflict}
 use Rattle.docket_rows.specs.declared.command.Command.{Command}
-use Rattle.docket_rows.specs.declared.command.Command.TheVariants.{OpenCase, Start, FileAct, Extend, Motion, Book, MoveHearing, Cancel, Holiday, Inaccessible}
+use Rattle.docket_rows.specs.declared.command.Command.TheVariants.{OpenCase, Start, FileAct, Extend, Motion, Book, MoveHearing, Cancel, Holiday, Inaccessible, Fact}
+use Rattle.docket_rows.specs.declared.command.Counted.{Counted}
+use Rattle.docket_rows.specs.declared.command.Counted.TheVariants as counted
+use Rattle.docket_rows.specs.declared.fact.Fact.TheVariants.{Ended, Resumed, Closed, Reopened, Ruled, Assigned, Titled, Labelled}
 use Rattle.docket_rows.specs.declared.hearing.Hearing.{Hearing}
 use Rattle.docket_rows.specs.declared.hearing.Setting.{Setting}
 use Rattle.docket_rows.specs.declared.part.PartId.{PartId}
 use Rattle.docket_rows.specs.declared.part.PartId.TheVariants.{Court, Judge, Room, Case}
 use Rattle.docket_rows.specs.declared.refusal.Refusal.{Refusal}
-use Rattle.docket_rows.specs.Words.{CourtSetup, Parts, part_value, days_in, calendar_in, case_in, same_part, is_case_number, has_judges, is_panel, hearing_asked, calendars_of, calendars_now, about_case, wanted, judge_clash, all_booked, hearing_checks, open_case_refusal, start_deadline_refusal, file_act_refusal, extend_refusal, motion_refusal, book_refusal, move_refusal, cancel_refusal, holiday_refusal, outage_refusal, notice_lost, refusal}
+use Rattle.docket_rows.specs.Words.{CourtSetup, Parts, part_value, days_in, calendar_in, case_in, same_part, is_case_number, has_judges, is_panel, hearing_asked, calendars_of, calendars_now, about_case, wanted, judge_clash, all_booked, hearing_checks, open_case_refusal, start_deadline_refusal, file_act_refusal, extend_refusal, end_refusal, resume_refusal, close_refusal, reopen_refusal, rule_refusal, assign_refusal, title_refusal, label_refusal, motion_refusal, book_refusal, move_refusal, cancel_refusal, holiday_refusal, outage_refusal, notice_lost, refusal}
 use Rattle.docket_laws.proofs.PartsLists.{map_agree}
 use Rattle.docket_laws.proofs.ReadsParts.{part_itself}
 
@@ -143,6 +146,66 @@ module _ (setup : CourtSetup) (p q : Parts) where
     | inr fails ↦ rw fails refl
   ]
 
+  end_rests : (case deadline : ℕ) (dated : ℤ) → AgreeOn (about_case case (Court ∷ [])) → end_refusal p case deadline dated ≡ end_refusal q case deadline dated
+  unfolding end_refusal
+  end_rests case deadline dated agree = elim (cases_Bool (is_case_number case)) [
+    | inl numbered ↦ rw (days_agree case [] numbered agree, case_agrees case (Court ∷ []) numbered agree) refl
+    | inr fails ↦ rw fails refl
+  ]
+
+  resume_rests : (case deadline : ℕ) (dated : ℤ) → AgreeOn (about_case case (Court ∷ [])) → resume_refusal setup p case deadline dated ≡ resume_refusal setup q case deadline dated
+  unfolding resume_refusal
+  resume_rests case deadline dated agree = elim (cases_Bool (is_case_number case)) [
+    | inl numbered ↦ rw (days_agree case [] numbered agree, case_agrees case (Court ∷ []) numbered agree) refl
+    | inr fails ↦ rw fails refl
+  ]
+
+  close_rests : (case : ℕ) (dated : ℤ) → AgreeOn (about_case case (Court ∷ [])) → close_refusal p case dated ≡ close_refusal q case dated
+  unfolding close_refusal
+  close_rests case dated agree = elim (cases_Bool (is_case_number case)) [
+    | inl numbered ↦ rw (days_agree case [] numbered agree, case_agrees case (Court ∷ []) numbered agree) refl
+    | inr fails ↦ rw fails refl
+  ]
+
+  reopen_rests : (case : ℕ) (dated : ℤ) → AgreeOn (about_case case (Court ∷ [])) → reopen_refusal p case dated ≡ reopen_refusal q case dated
+  unfolding reopen_refusal
+  reopen_rests case dated agree = elim (cases_Bool (is_case_number case)) [
+    | inl numbered ↦ rw (days_agree case [] numbered agree, case_agrees case (Court ∷ []) numbered agree) refl
+    | inr fails ↦ rw fails refl
+  ]
+
+  rule_rests : (case motion : ℕ) (dated : ℤ) (others : List PartId) → AgreeOn (about_case case (Court ∷ others)) → rule_refusal p case motion dated ≡ rule_refusal q case motion dated
+  unfolding rule_refusal
+  rule_rests case motion dated others agree = elim (cases_Bool (is_case_number case)) [
+    | inl numbered ↦ rw (days_agree case others numbered agree, case_agrees case (Court ∷ others) numbered agree) refl
+    | inr fails ↦ rw fails refl
+  ]
+
+  assign_rests : (case judge : ℕ) (referred : Option ℕ) (dated : ℤ) → AgreeOn (about_case case (Court ∷ [])) → assign_refusal setup p case judge referred dated ≡ assign_refusal setup q case judge referred dated
+  unfolding assign_refusal
+  assign_rests case judge referred dated agree = elim (cases_Bool (is_case_number case)) [
+    | inl numbered ↦ rw (days_agree case [] numbered agree, case_agrees case (Court ∷ []) numbered agree) refl
+    | inr fails ↦ rw fails refl
+  ]
+
+  title_rests : (case : ℕ) → AgreeOn (about_case case (Court ∷ [])) → title_refusal p case ≡ title_refusal q case
+  unfolding title_refusal
+  title_rests case agree = elim (cases_Bool (is_case_number case)) [
+    | inl numbered ↦ rw (case_agrees case (Court ∷ []) numbered agree) refl
+    | inr fails ↦ rw fails refl
+  ]
+
+  label_rests : (case : ℕ) (kind : Counted) (number : ℕ) → AgreeOn (about_case case (Court ∷ [])) → label_refusal p case kind number ≡ label_refusal q case kind number
+  unfolding label_refusal
+  label_rests case counted.Deadline number agree = elim (cases_Bool (is_case_number case)) [
+    | inl numbered ↦ rw (case_agrees case (Court ∷ []) numbered agree) refl
+    | inr fails ↦ rw fails refl
+  ]
+  label_rests case counted.Motion number agree = elim (cases_Bool (is_case_number case)) [
+    | inl numbered ↦ rw (case_agrees case (Court ∷ []) numbered agree) refl
+    | inr fails ↦ rw fails refl
+  ]
+
   cancel_rests : (case motion : ℕ) (others : List PartId) → AgreeOn (about_case case others) → cancel_refusal p case motion ≡ cancel_refusal q case motion
   unfolding cancel_refusal
   cancel_rests case motion others agree = elim (cases_Bool (is_case_number case)) [
@@ -212,3 +275,11 @@ module _ (setup : CourtSetup) (p q : Parts) where
   refusal_rests (Cancel case motion) from to agree = cancel_rests case motion (calendars_now setup q case motion) agree
   refusal_rests (Holiday day list) from to agree = holiday_rests day list agree
   refusal_rests (Inaccessible day begins ends) from to agree = outage_rests day begins ends agree
+  refusal_rests (Fact case (Ended deadline why dated)) from to agree = end_rests case deadline dated agree
+  refusal_rests (Fact case (Resumed deadline dated)) from to agree = resume_rests case deadline dated agree
+  refusal_rests (Fact case (Closed why dated)) from to agree = close_rests case dated agree
+  refusal_rests (Fact case (Reopened dated)) from to agree = reopen_rests case dated agree
+  refusal_rests (Fact case (Ruled motion how dated)) from to agree = rule_rests case motion dated (calendars_now setup q case motion) agree
+  refusal_rests (Fact case (Assigned judge referred dated)) from to agree = assign_rests case judge referred dated agree
+  refusal_rests (Fact case Titled) from to agree = title_rests case agree
+  refusal_rests (Fact case (Labelled kind number)) from to agree = label_rests case kind number agree

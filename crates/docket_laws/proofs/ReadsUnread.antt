@@ -1,5 +1,5 @@
 -- A command that isn't refused writes no part that it doesn't read.
-use Rattle.std.proofs.Common.{◌≡◌, ℕ, nat_lt, ◌==◌, Bool, true, false, ◌||◌, List, [], ◌∷◌, ◌++◌, map, filter, take, Option, Some, None, IfSome, option_map, refl, ap, sym, ◌∙◌}
+use Rattle.std.proofs.Common.{◌≡◌, ℕ, nat_lt, ◌==◌, ℤ, int_lt, Bool, true, false, ◌||◌, List, [], ◌∷◌, ◌++◌, map, filter, take, Option, Some, None, IfSome, option_map, if◌then◌else◌, refl, ap, sym, ◌∙◌}
 use Rattle.std.specs.List.{list_any}
 use Rattle.std.specs.Option.{option_map_or}
 use Rattle.std.proofs.lemmas.Bool.{true≢false, or_parts, lt-ltb}
@@ -7,14 +7,15 @@ use Rattle.std.proofs.lemmas.Cmp.{nat_eq_equiv}
 use Rattle.std.proofs.lemmas.List.Folds.{list_any-append}
 use Rattle.rule_periods.specs.Words.{first_of}
 use Rattle.docket_rows.specs.declared.command.Command.{Command}
-use Rattle.docket_rows.specs.declared.command.Command.TheVariants.{OpenCase, Start, FileAct, Extend, Motion, Book, MoveHearing, Cancel, Holiday, Inaccessible}
+use Rattle.docket_rows.specs.declared.command.Command.TheVariants.{OpenCase, Start, FileAct, Extend, Motion, Book, MoveHearing, Cancel, Holiday, Inaccessible, Fact}
+use Rattle.docket_rows.specs.declared.fact.Fact.TheVariants.{Ruled}
 use Rattle.docket_rows.specs.declared.hearing.Hearing.{Hearing}
 use Rattle.docket_rows.specs.declared.hearing.Setting.{Setting}
 use Rattle.docket_rows.specs.declared.part.PartId.{PartId}
 use Rattle.docket_rows.specs.declared.part.PartId.TheVariants.{Court, Judge, Room, Case}
 use Rattle.docket_rows.specs.declared.part.PartValue.TheVariants as value
 use Rattle.docket_rows.specs.declared.refusal.Refusal.{Refusal}
-use Rattle.docket_rows.specs.Words.{CourtSetup, Parts, IsSettable, same_part, sits, has_one, is_case_number, has_judges, is_panel, hearing_in, calendars_of, calendars_now, about_case, hearing_checks, book_refusal, move_refusal, refusal, days_written, case_written, judge_written, room_written, changed}
+use Rattle.docket_rows.specs.Words.{CourtSetup, Parts, IsSettable, same_part, sits, has_one, is_case_number, has_judges, is_panel, hearing_in, if_ahead, calendars_of, calendars_now, calendars_taken, about_case, hearing_checks, book_refusal, move_refusal, refusal, days_written, case_written, judge_written, room_written, changed}
 use Rattle.docket_laws.specs.Reads.{is_wanted}
 use Rattle.docket_laws.proofs.MadeLemmas.{none_of, when-not-None, may_book}
 use Rattle.docket_laws.proofs.ReadsNumbered.{IsNumbered, numbered}
@@ -37,6 +38,14 @@ others_none test case others numbered none = (or_parts _ _ (rw numbered at none)
 
 other_case : (n case : ℕ) (others : List PartId) → is_case_number case ≡ true → list_any (same_part (Case n)) (about_case case others) ≡ false → (n == case) ≡ false
 other_case n case others numbered none = (or_parts _ _ (rw numbered at none)).0
+
+-- a hearing that fails a test does so too where only a later one is looked at
+none_ahead : (test : Hearing → Bool) (day : ℤ) (found : Option Hearing) → has_one test found ≡ false → has_one test (if_ahead day found) ≡ false
+none_ahead test day None fails = refl
+none_ahead test day (Some h) fails = by (int_lt day h.day) where
+  by : (later : Bool) → has_one test (if later then Some h else None) ≡ false
+  by true = fails
+  by false = refl
 
 module _ (setup : CourtSetup) where
   -- the part isn't among the calendars of a panel and a room that the court has
@@ -67,7 +76,7 @@ module _ (setup : CourtSetup) where
   has_places : (p : Parts) (s : Setting) (set : Option Refusal) (except : Option (ℕ × ℕ)) → first_of (hearing_checks setup p s set except) ≡ None → HasPlaces s
   has_places p s set except h =
       let n = none_of (hearing_checks setup p s set except) h in
-      record { panel = when-not-None _ _ n.1.1.1.1.0; judges = when-not-None _ _ n.1.1.0; room = when-not-None _ _ n.1.1.1.0 }
+      record { panel = when-not-None _ _ n.1.1.1.1.1.0; judges = when-not-None _ _ n.1.1.1.0; room = when-not-None _ _ n.1.1.1.1.0 }
 
   book_places : (p : Parts) (s : Setting) → book_refusal setup p s ≡ None → HasPlaces s
   unfolding book_refusal
@@ -92,6 +101,7 @@ module _ (setup : CourtSetup) (p : Parts) (settable : (case motion : ℕ) → If
   case_unread (Book s) is n none = rw (other_case n s.case _ is none) refl
   case_unread (MoveHearing s) is n none = rw (other_case n s.case _ is none) refl
   case_unread (Cancel case motion) is n none = rw (other_case n case _ is none) refl
+  case_unread (Fact case fact) is n none = rw (other_case n case (Court ∷ calendars_taken setup p case fact) is none) refl
   case_unread _ is n none = refl
 
   judge_unread : (command : Command) → refusal setup p command ≡ None → (judge : ℕ) → is_wanted setup p command (Judge judge) ≡ false → judge_written p command judge ≡ None
@@ -113,6 +123,12 @@ module _ (setup : CourtSetup) (p : Parts) (settable : (case motion : ℕ) → If
       let others = others_none (same_part (Judge judge)) case (calendars_now setup p case motion) (numbered setup p (Cancel case motion) made) none in
       let before = not_before setup judge (hearing_in p case motion) (settable case motion) others in
       rw before refl
+  judge_unread (Fact case (Ruled motion how dated)) made judge none =
+      let now = calendars_now setup p case motion in
+      let others = others_none (same_part (Judge judge)) case (Court ∷ now) (numbered setup p (Fact case (Ruled motion how dated)) made) none in
+      let before = not_before setup judge (hearing_in p case motion) (settable case motion) others in
+      let later = none_ahead (λ (h : Hearing). sits judge h.judges) dated (hearing_in p case motion) before in
+      rw later refl
   judge_unread _ made judge none = refl
 
   room_unread : (command : Command) → refusal setup p command ≡ None → (room : ℕ) → is_wanted setup p command (Room room) ≡ false → room_written p command room ≡ None
@@ -132,6 +148,12 @@ module _ (setup : CourtSetup) (p : Parts) (settable : (case motion : ℕ) → If
       let others = others_none (same_part (Room room)) case (calendars_now setup p case motion) (numbered setup p (Cancel case motion) made) none in
       let before = not_in setup room (hearing_in p case motion) (settable case motion) others in
       rw before refl
+  room_unread (Fact case (Ruled motion how dated)) made room none =
+      let now = calendars_now setup p case motion in
+      let others = others_none (same_part (Room room)) case (Court ∷ now) (numbered setup p (Fact case (Ruled motion how dated)) made) none in
+      let before = not_in setup room (hearing_in p case motion) (settable case motion) others in
+      let later = none_ahead (λ (h : Hearing). h.room == room) dated (hearing_in p case motion) before in
+      rw later refl
   room_unread _ made room none = refl
 
   pub unread_unchanged : (command : Command) → refusal setup p command ≡ None → (part : PartId) → is_wanted setup p command part ≡ false → changed p command part ≡ None

@@ -8,7 +8,7 @@ use Rattle.docket_rows.specs.declared.query.Query.TheVariants as query
 use Rattle.docket_rows.specs.declared.sheet.Sheet.{Sheet}
 use Rattle.docket_rows.specs.declared.sheet.SheetDeadline.{SheetDeadline}
 use Rattle.docket_rows.specs.declared.view.View.TheVariants as view
-use Rattle.docket_rows.specs.Words.{CourtSetup, Rows, DocketedDeadline, DocketedHearing, Clash, IsNoticed, AreSound, AreLawful, opening_rows, is_deadline_in, is_motion, is_within_hours, state_of, rows_from, step, view_of}
+use Rattle.docket_rows.specs.Words.{CourtSetup, Rows, DocketedDeadline, DocketedHearing, Clash, IsNoticed, AreSound, AreLawful, ending_in, facts_of, opening_rows, is_deadline_in, is_motion, is_within_hours, state_of, rows_from, step, view_of}
 
 -- the rows of a docket after some commands, which begins with the days of the court's file
 abbrev pub docket_after : CourtSetup → List Command → Rows
@@ -28,13 +28,15 @@ AllAreOnCourtDays setup rows = All (λ (h : DocketedHearing). (is_permitted rows
 abbrev pub AllHaveNotice : Rows → Type 0
 AllHaveNotice rows = All (λ (h : DocketedHearing). IsSomeAnd (find (is_motion h.case h.motion) rows.motions) (λ m. IsNoticed rows.days h.hearing.day m.need m.served h.hearing.notice)) rows.hearings
 
--- a docketed deadline with the end of its time, and whether it was met, by the days as they are docketed now
+-- a docketed deadline with the end of its time, and whether it was met, by the days as they are docketed now, and why it is due
+-- no more, if it was ended and not resumed
 abbrev pub deadline_on_sheet : CourtSetup → Rows → DocketedDeadline → SheetDeadline
 deadline_on_sheet setup rows d = record {
   number = d.number;
   row = d.row;
   shown = shown_of rows.days setup.clock d.row;
   state = state_of setup.clock (shown_of rows.days setup.clock d.row) d.row.filed;
+  ended = ending_in (facts_of rows d.case) d.number;
 }
 
 -- a sheet has just the deadlines of its case, in their order

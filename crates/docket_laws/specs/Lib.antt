@@ -1,4 +1,5 @@
 pub mod Clocks
+pub mod Facts
 pub mod Lawful
 pub mod Parts
 pub mod Reads

@@ -2,6 +2,7 @@
 #![tactic(auto)]
 
 mod clocks;
+mod facts;
 mod lawful;
 mod opening;
 mod parts;
@@ -9,6 +10,10 @@ mod reads;
 mod sheets;
 
 pub use clocks::dockets_do_not_rest_on_how_a_zone_is_kept;
+pub use facts::{
+    closed_cases_end_their_deadlines, rulings_leave_no_later_hearing,
+    what_is_called_changes_nothing, without_facts_nothing_is_ended,
+};
 pub use lawful::{
     every_hearing_has_its_notice, every_hearing_lies_on_a_court_day_within_office_hours,
     no_judge_or_room_is_booked_twice, rows_stay_lawful, rows_stay_sound,

@@ -1,7 +1,8 @@
--- A case as the docket shows it: the day on which it was filed, its deadlines and its motions.
+-- A case as the docket shows it: the day on which it was filed, its deadlines, its motions, and what is recorded of it.
 use Rattle.std.specs.Prelude.{ℕ, ◌+◌, ℤ, List, [], ◌∷◌, Option}
 use Rattle.rule_periods.specs.Words.{DeadlineRowView}
 use Rattle.hearing_slots.specs.declared.need.Need.{Need}
+use Rattle.docket_rows.specs.declared.fact.Fact.{Fact}
 use Rattle.docket_rows.specs.declared.hearing.Hearing.{Hearing}
 use Rattle.docket_rows.specs.declared.motion.MotionRecord.{MotionRecord}
 
@@ -22,6 +23,7 @@ pub record CaseRecordView : Type 0 where
   pub filed : ℤ
   pub deadlines : List NumberedDeadline
   pub motions : List NumberedMotion
+  pub facts : List Fact
 
 -- the deadlines of a list, numbered in its order from `number` on
 abbrev pub numbered_deadlines : (number : ℕ) → List DeadlineRowView → List NumberedDeadline

@@ -10,7 +10,7 @@ use Rattle.docket_rows.specs.declared.hearing.Hearing.{Hearing}
 use Rattle.docket_rows.specs.CourtSetup.{CourtSetup}
 use Rattle.docket_rows.specs.Clash.{Clash}
 use Rattle.docket_rows.specs.Hearings.{has_judges, is_panel, fits_day, is_within_hours, is_need}
-use Rattle.docket_rows.specs.Rows.{Rows, DocketedCase, DocketedDeadline, DocketedMotion, DocketedHearing, is_case, is_deadline_in, is_motion_in, is_motion, is_hearing}
+use Rattle.docket_rows.specs.Rows.{Rows, DocketedCase, DocketedDeadline, DocketedMotion, DocketedHearing, DocketedFact, is_case, is_deadline_in, is_motion_in, is_motion, is_hearing}
 use Rattle.docket_rows.specs.Seen.{is_case_number}
 
 -- A motion that isn't heard ex parte, and the notice of its hearing, were served by the last day that gives the notice
@@ -40,8 +40,8 @@ pub record IsSettable (setup : CourtSetup) (h : Hearing) : Type 0 where
   pub slots : fits_day h.first h.count ≡ true
 
 -- How the rows fit together: each case is there once; deadlines and motions are those of open cases and are numbered
--- from 1 in their case; each motion has one hearing at most, and each hearing is that of a motion. No command changes
--- the span of the days.
+-- from 1 in their case; each motion has one hearing at most, and each hearing is that of a motion; facts are recorded of
+-- open cases. No command changes the span of the days.
 pub record AreSound (setup : CourtSetup) (rows : Rows) : Type 0 where
   pub first_day : rows.days.from ≡ setup.days.from
   pub last_day : rows.days.to ≡ setup.days.to
@@ -55,3 +55,4 @@ pub record AreSound (setup : CourtSetup) (rows : Rows) : Type 0 where
   pub hearings_of_motions : All (λ (h : DocketedHearing). IsSome (find (is_motion h.case h.motion) rows.motions)) rows.hearings
   pub hearing_once : AllPairs (λ (a b : DocketedHearing). is_hearing a.case a.motion b ≡ false) rows.hearings
   pub hearings_settable : All (λ (h : DocketedHearing). IsSettable setup h.hearing) rows.hearings
+  pub facts_of_cases : All (λ (f : DocketedFact). IsSome (find (is_case f.case) rows.cases)) rows.facts

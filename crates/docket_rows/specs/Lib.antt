@@ -1,6 +1,7 @@
 pub mod CourtSetup
 pub mod Cases
 pub mod Clash
+pub mod Facts
 pub mod Hearings
 pub mod Lawful
 pub mod Limits

@@ -16,6 +16,10 @@ most_deadlines = 64
 abbrev pub most_motions : ℕ
 most_motions = 64
 
+-- the facts that are recorded of a case
+abbrev pub most_facts : ℕ
+most_facts = 512
+
 -- the extensions of a deadline
 abbrev pub most_grants : ℕ
 most_grants = 32

@@ -9,6 +9,7 @@ use Rattle.hearing_slots.specs.declared.booking.Booking.{Booking}
 use Rattle.hearing_slots.specs.declared.need.Need.{Need}
 use Rattle.hearing_slots.specs.declared.need.Need.TheVariants.{ExParte}
 use Rattle.hearing_slots.specs.Words.{in_order}
+use Rattle.docket_rows.specs.declared.fact.Fact.{Fact}
 use Rattle.docket_rows.specs.declared.hearing.Hearing.{Hearing}
 use Rattle.docket_rows.specs.declared.part.PartId.{PartId}
 use Rattle.docket_rows.specs.declared.part.PartId.TheVariants.{Court, Judge, Room, Case}
@@ -16,7 +17,7 @@ use Rattle.docket_rows.specs.declared.part.PartValue.{PartValue}
 use Rattle.docket_rows.specs.declared.part.PartValue.TheVariants as value
 use Rattle.docket_rows.specs.CourtSetup.{CourtSetup}
 use Rattle.docket_rows.specs.Cases.{CaseRecordView, NumberedDeadline, NumberedMotion}
-use Rattle.docket_rows.specs.Rows.{Rows, DocketedCase, DocketedDeadline, DocketedMotion, DocketedHearing, is_case, is_deadline_in, is_motion_in, is_motion, is_hearing}
+use Rattle.docket_rows.specs.Rows.{Rows, DocketedCase, DocketedDeadline, DocketedMotion, DocketedHearing, DocketedFact, is_case, is_deadline_in, is_motion_in, is_motion, is_hearing, is_fact_in}
 
 -- the days of the court, each case that is open, and the calendar of each judge and each room
 pub record Parts : Type 0 where
@@ -38,12 +39,21 @@ deadline_shown d = record { number = d.number; row = d.row }
 abbrev pub motion_shown : Rows → DocketedMotion → NumberedMotion
 motion_shown rows m = record { number = m.number; served = m.served; need = m.need; hearing = hearing_of rows m.case m.number }
 
+-- a fact, which its case shows as it is recorded
+abbrev pub fact_shown : DocketedFact → Fact
+fact_shown f = f.fact
+
+-- what is recorded of the case
+abbrev pub facts_of : Rows → (case : ℕ) → List Fact
+facts_of rows case = map fact_shown (filter (is_fact_in case) rows.facts)
+
 -- a case with the rows of its number
 abbrev pub case_shown : Rows → DocketedCase → CaseRecordView
 case_shown rows c = record {
   filed = c.filed;
   deadlines = map deadline_shown (filter (is_deadline_in c.case) rows.deadlines);
   motions = map (motion_shown rows) (filter (is_motion_in c.case) rows.motions);
+  facts = facts_of rows c.case;
 }
 
 -- what notice a motion needs, and the later of the days on which it and the notice of its hearing were served

@@ -3,7 +3,9 @@ use Rattle.std.specs.Prelude.{ℕ, nat_lt, Bool, not, List, [], ◌∷◌, ◌++
 use Rattle.std.specs.List.{list_any, range_with_len}
 use Rattle.std.specs.Option.{option_map_or}
 use Rattle.docket_rows.specs.declared.command.Command.{Command}
-use Rattle.docket_rows.specs.declared.command.Command.TheVariants.{OpenCase, Start, FileAct, Extend, Motion, Book, MoveHearing, Cancel, Holiday, Inaccessible}
+use Rattle.docket_rows.specs.declared.command.Command.TheVariants.{OpenCase, Start, FileAct, Extend, Motion, Book, MoveHearing, Cancel, Holiday, Inaccessible, Fact}
+use Rattle.docket_rows.specs.declared.fact.Fact.{Fact as FactOf}
+use Rattle.docket_rows.specs.declared.fact.Fact.TheVariants.{Ended, Resumed, Closed, Reopened, Ruled, Assigned, Titled, Labelled}
 use Rattle.docket_rows.specs.declared.hearing.Hearing.{Hearing}
 use Rattle.docket_rows.specs.declared.part.PartId.{PartId}
 use Rattle.docket_rows.specs.declared.part.PartId.TheVariants.{Court, Judge, Room, Case}
@@ -22,6 +24,17 @@ abbrev pub calendars_now : CourtSetup → Parts → (case motion : ℕ) → List
 calendars_now setup parts case motion =
     option_map_or (λ (h : Hearing). calendars_of setup h.judges h.room) (hearing_in parts case motion) []
 
+-- the calendars that a fact of a case may change: a ruling those that have its motion's hearing
+abbrev pub calendars_taken : CourtSetup → Parts → (case : ℕ) → FactOf → List PartId
+calendars_taken setup parts case (Ended deadline why dated) = []
+calendars_taken setup parts case (Resumed deadline dated) = []
+calendars_taken setup parts case (Closed why dated) = []
+calendars_taken setup parts case (Reopened dated) = []
+calendars_taken setup parts case (Ruled motion how dated) = calendars_now setup parts case motion
+calendars_taken setup parts case (Assigned judge referred dated) = []
+calendars_taken setup parts case Titled = []
+calendars_taken setup parts case (Labelled counted number) = []
+
 -- the parts of a command about a case; none where there can be no such case
 abbrev pub about_case : (case : ℕ) → List PartId → List PartId
 about_case case others = if is_case_number case then Case case ∷ others else []
@@ -39,6 +52,7 @@ wanted setup parts (MoveHearing s) =
 wanted setup parts (Cancel case motion) = about_case case (calendars_now setup parts case motion)
 wanted setup parts (Holiday day list) = Court ∷ map Judge (range_with_len 0 setup.judges)
 wanted setup parts (Inaccessible day from to) = Court ∷ []
+wanted setup parts (Fact case fact) = about_case case (Court ∷ calendars_taken setup parts case fact)
 
 -- the part is among those read
 abbrev pub is_read : List (PartId × PartValue) → PartId → Bool

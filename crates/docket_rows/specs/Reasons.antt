@@ -3,7 +3,7 @@ use Rattle.std.specs.Prelude.{ℕ, List, codes}
 use Rattle.rule_periods.specs.declared.refusal.PeriodRefusal.{PeriodRefusal}
 use Rattle.rule_periods.specs.declared.refusal.PeriodRefusal.TheVariants as period
 use Rattle.docket_rows.specs.declared.refusal.Refusal.{Refusal}
-use Rattle.docket_rows.specs.declared.refusal.Refusal.TheVariants.{NoSuchCase, CaseIsOpen, NoSuchDeadline, NoSuchMotion, BadDay, BadLength, WrongService, Beyond, AlreadyMet, NotExtendable, NoGoodCause, LateWithoutMotion, LateWithoutNeglect, NotLonger, AlreadySet, NotSet, NotACourtDay, OutsideHours, ShortNotice, JudgeBusy, RoomBusy, AlreadyHoliday, HearingThatDay, NoticeLost, Full, NoSuchJudge, NoSuchRoom, WrongGrant, BadPanel}
+use Rattle.docket_rows.specs.declared.refusal.Refusal.TheVariants.{NoSuchCase, CaseIsOpen, NoSuchDeadline, NoSuchMotion, BadDay, BadLength, WrongService, Beyond, AlreadyMet, NotExtendable, NoGoodCause, LateWithoutMotion, LateWithoutNeglect, NotLonger, AlreadySet, NotSet, NotACourtDay, OutsideHours, ShortNotice, JudgeBusy, RoomBusy, AlreadyHoliday, HearingThatDay, NoticeLost, Full, NoSuchJudge, NoSuchRoom, WrongGrant, BadPanel, CaseIsClosed, NotClosed, HearingAhead, AlreadyEnded, NotEnded}
 
 abbrev pub refusal_number : Refusal → ℕ
 refusal_number NoSuchCase = 1
@@ -35,6 +35,11 @@ refusal_number NoSuchJudge = 26
 refusal_number NoSuchRoom = 27
 refusal_number WrongGrant = 28
 refusal_number BadPanel = 29
+refusal_number CaseIsClosed = 30
+refusal_number NotClosed = 31
+refusal_number (HearingAhead case motion) = 32
+refusal_number AlreadyEnded = 33
+refusal_number NotEnded = 34
 
 abbrev pub refusal_name : Refusal → List ℕ
 refusal_name NoSuchCase = codes "NoSuchCase"
@@ -66,6 +71,11 @@ refusal_name NoSuchJudge = codes "NoSuchJudge"
 refusal_name NoSuchRoom = codes "NoSuchRoom"
 refusal_name WrongGrant = codes "WrongGrant"
 refusal_name BadPanel = codes "BadPanel"
+refusal_name CaseIsClosed = codes "CaseIsClosed"
+refusal_name NotClosed = codes "NotClosed"
+refusal_name (HearingAhead case motion) = codes "HearingAhead"
+refusal_name AlreadyEnded = codes "AlreadyEnded"
+refusal_name NotEnded = codes "NotEnded"
 
 -- what the rules of periods refuse, the docket refuses
 abbrev pub refusal_of : PeriodRefusal → Refusal

@@ -1,5 +1,5 @@
--- What a booking, a move or a cancellation does to the calendars of judges and rooms.
-use Rattle.std.specs.Prelude.{ℕ, ◌==◌, Bool, true, false, List, Option, Some, None, option_map, if◌then◌else◌}
+-- What a booking, a move, a cancellation or a ruling does to the calendars of judges and rooms.
+use Rattle.std.specs.Prelude.{ℕ, ℤ, ◌==◌, Bool, true, false, List, Option, Some, None, option_map, if◌then◌else◌}
 use Rattle.std.specs.Option.{option_and_then, option_map_or}
 use Rattle.court_clock.specs.Words.{later_day}
 use Rattle.hearing_slots.specs.declared.booking.Booking.{Booking}
@@ -16,7 +16,7 @@ use Rattle.docket_rows.specs.declared.rebooking.Rebooking.{Rebooking}
 use Rattle.docket_rows.specs.Cases.{NumberedMotion}
 use Rattle.docket_rows.specs.Hearings.{hearing_asked}
 use Rattle.docket_rows.specs.Parts.{Parts, sits, first_judge}
-use Rattle.docket_rows.specs.Seen.{has_one, motion_in, hearing_in}
+use Rattle.docket_rows.specs.Seen.{has_one, motion_in, hearing_in, if_ahead}
 use Rattle.docket_rows.specs.Subject.{order_of}
 
 -- the booking of the hearing that is asked for: `other` is the number of its room in a judge's calendar, and of its first
@@ -41,12 +41,17 @@ placement_of parts s = record {
   with_judge = booking_of parts (first_judge s.judges) s;
 }
 
+-- the hearing that is taken off, of the one that is set: it, or only where it is later than a day
+abbrev pub taken_off : (later_than : Option ℤ) → (set : Option Hearing) → Option Hearing
+taken_off None set = set
+taken_off (Some day) set = if_ahead day set
+
 -- which hearing of its motion an order takes off the calendar, and which it puts on it
 abbrev pub rebooking_by : Parts → HearingOrder → Rebooking
 rebooking_by parts order = record {
   case = order.case;
   motion = order.motion;
-  before = hearing_in parts order.case order.motion;
+  before = taken_off order.later_than (hearing_in parts order.case order.motion);
   after = option_map (placement_of parts) order.setting;
 }
 

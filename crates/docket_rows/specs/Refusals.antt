@@ -1,7 +1,7 @@
 -- Why a command or a query is refused. For each there is a list of lines, each of which says when it applies and what
 -- is then refused, and the answer is the first line that applies.
-use Rattle.std.specs.Prelude.{ℕ, nat_lt, nat_le, ℤ, ◌&&◌, not, is_some, is_none, List, [], ◌∷◌, length, filter, Option, Some, None, option_map}
-use Rattle.std.specs.Option.{option_and_then}
+use Rattle.std.specs.Prelude.{ℕ, ◌==◌, nat_lt, nat_le, ℤ, Bool, true, ◌&&◌, not, is_some, is_none, List, [], ◌∷◌, length, filter, Option, Some, None, option_map}
+use Rattle.std.specs.Option.{option_and_then, option_map_or}
 use Rattle.court_days.specs.declared.holiday_list.HolidayList.{HolidayList}
 use Rattle.court_days.specs.declared.holiday_list.HolidayList.TheVariants.{Federal, State}
 use Rattle.court_clock.specs.Words.{later_day}
@@ -15,18 +15,22 @@ use Rattle.hearing_slots.specs.declared.booking.Booking.{Booking}
 use Rattle.hearing_slots.specs.declared.need.Need.{Need}
 use Rattle.hearing_slots.specs.Words.{is_on}
 use Rattle.docket_rows.specs.declared.command.Command.{Command}
-use Rattle.docket_rows.specs.declared.command.Command.TheVariants.{OpenCase, Start, FileAct, Extend, Motion, Book, MoveHearing, Cancel, Holiday, Inaccessible}
+use Rattle.docket_rows.specs.declared.command.Command.TheVariants.{OpenCase, Start, FileAct, Extend, Motion, Book, MoveHearing, Cancel, Holiday, Inaccessible, Fact}
+use Rattle.docket_rows.specs.declared.command.Counted.{Counted}
+use Rattle.docket_rows.specs.declared.command.Counted.TheVariants as counted
+use Rattle.docket_rows.specs.declared.fact.Fact.TheVariants.{Ended, Resumed, Closed, Reopened, Ruled, Assigned, Titled, Labelled}
 use Rattle.docket_rows.specs.declared.hearing.Setting.{Setting}
 use Rattle.docket_rows.specs.declared.query.Query.{Query}
 use Rattle.docket_rows.specs.declared.query.Query.TheVariants.{Sheet, JudgeDay, Compute}
 use Rattle.docket_rows.specs.declared.refusal.Refusal.{Refusal}
-use Rattle.docket_rows.specs.declared.refusal.Refusal.TheVariants.{NoSuchCase, CaseIsOpen, NoSuchDeadline, NoSuchMotion, BadDay, BadLength, Beyond, AlreadyMet, AlreadySet, NotSet, NotACourtDay, OutsideHours, ShortNotice, JudgeBusy, RoomBusy, AlreadyHoliday, HearingThatDay, NoticeLost, Full, NoSuchJudge, NoSuchRoom, BadPanel}
+use Rattle.docket_rows.specs.declared.refusal.Refusal.TheVariants.{NoSuchCase, CaseIsOpen, NoSuchDeadline, NoSuchMotion, BadDay, BadLength, Beyond, AlreadyMet, AlreadySet, NotSet, NotACourtDay, OutsideHours, ShortNotice, JudgeBusy, RoomBusy, AlreadyHoliday, HearingThatDay, NoticeLost, Full, NoSuchJudge, NoSuchRoom, BadPanel, CaseIsClosed, NotClosed, HearingAhead, AlreadyEnded, NotEnded}
 use Rattle.docket_rows.specs.CourtSetup.{CourtSetup}
+use Rattle.docket_rows.specs.Facts.{ending_in}
 use Rattle.docket_rows.specs.Hearings.{hearing_asked, has_judges, is_panel, fits_day, is_court_day, is_within_hours, is_need, lacks_last_service, missed_service, judge_clash, room_clash, all_booked, least, lacks_notice}
-use Rattle.docket_rows.specs.Limits.{most_deadlines, most_motions, most_grants, most_dates, most_outages}
+use Rattle.docket_rows.specs.Limits.{most_deadlines, most_motions, most_facts, most_grants, most_dates, most_outages}
 use Rattle.docket_rows.specs.Parts.{Parts}
 use Rattle.docket_rows.specs.Reasons.{refusal_of}
-use Rattle.docket_rows.specs.Seen.{has_one, is_case_number, has_case, deadlines_in, deadline_in, motions_in, motion_in, hearing_in, started, shown_now}
+use Rattle.docket_rows.specs.Seen.{has_one, is_case_number, has_case, deadlines_in, deadline_in, motions_in, motion_in, hearing_in, facts_in, is_closed, first_ahead, started, shown_now}
 
 -- Cases
 
@@ -39,10 +43,11 @@ open_case_checks parts case filed =
 
 -- Deadlines
 
--- the second line is the three by which a period is refused when it starts
+-- the third line is the three by which a period is refused when it starts
 abbrev pub start_deadline_checks : CourtSetup → Parts → (case : ℕ) → Period → EventView → (second : Option ℤ) → Option ServiceKind → List (Option Refusal)
 start_deadline_checks setup parts case period event second service =
     (when (not (has_case parts case)) NoSuchCase
+    ∷ when (is_closed parts case) CaseIsClosed
     ∷ option_map refusal_of (start_refusal parts.days period event second service)
     ∷ when (nat_le most_deadlines (length (deadlines_in parts case))) Full
     ∷ when (is_beyond (shown_now setup parts (started period event second service))) Beyond
@@ -52,21 +57,119 @@ abbrev pub file_act_checks : CourtSetup → Parts → (case deadline : ℕ) → 
 file_act_checks setup parts case deadline filing =
     let row = deadline_in parts case deadline in
     (when (not (has_case parts case)) NoSuchCase
+    ∷ when (is_closed parts case) CaseIsClosed
     ∷ when (is_none row) NoSuchDeadline
     ∷ when (not (is_covered parts.days filing.day)) BadDay
     ∷ when (has_one (λ row. is_some row.filed) row) AlreadyMet
     ∷ when (has_one (λ row. is_beyond (shown_now setup parts row)) row) Beyond
     ∷ [])
 
--- the fourth line is the ten by which an extension is refused
+-- the fifth line is the ten by which an extension is refused
 abbrev pub extend_checks : CourtSetup → Parts → (case deadline : ℕ) → Request → List (Option Refusal)
 extend_checks setup parts case deadline request =
     let row = deadline_in parts case deadline in
     (when (not (has_case parts case)) NoSuchCase
+    ∷ when (is_closed parts case) CaseIsClosed
     ∷ when (is_none row) NoSuchDeadline
     ∷ when (has_one (λ row. is_some row.filed) row) AlreadyMet
     ∷ option_and_then (λ row. option_map refusal_of (extension_refusal parts.days setup.clock row request)) row
     ∷ when (has_one (λ row. nat_le most_grants (length row.grants)) row) Full
+    ∷ [])
+
+-- no act is recorded for the deadline, and it isn't ended
+abbrev pub end_checks : Parts → (case deadline : ℕ) → (dated : ℤ) → List (Option Refusal)
+end_checks parts case deadline dated =
+    let row = deadline_in parts case deadline in
+    (when (not (has_case parts case)) NoSuchCase
+    ∷ when (is_closed parts case) CaseIsClosed
+    ∷ when (is_none row) NoSuchDeadline
+    ∷ when (not (is_covered parts.days dated)) BadDay
+    ∷ when (has_one (λ row. is_some row.filed) row) AlreadyMet
+    ∷ when (is_some (ending_in (facts_in parts case) deadline)) AlreadyEnded
+    ∷ when (nat_le most_facts (length (facts_in parts case))) Full
+    ∷ [])
+
+abbrev pub resume_checks : CourtSetup → Parts → (case deadline : ℕ) → (dated : ℤ) → List (Option Refusal)
+resume_checks setup parts case deadline dated =
+    let row = deadline_in parts case deadline in
+    (when (not (has_case parts case)) NoSuchCase
+    ∷ when (is_closed parts case) CaseIsClosed
+    ∷ when (is_none row) NoSuchDeadline
+    ∷ when (not (is_covered parts.days dated)) BadDay
+    ∷ when (has_one (λ row. is_some row.filed) row) AlreadyMet
+    ∷ when (is_none (ending_in (facts_in parts case) deadline)) NotEnded
+    ∷ when (has_one (λ row. is_beyond (shown_now setup parts row)) row) Beyond
+    ∷ when (nat_le most_facts (length (facts_in parts case))) Full
+    ∷ [])
+
+-- Closed cases: they take no command about them but the one that reopens them
+
+abbrev pub close_checks : Parts → (case : ℕ) → (dated : ℤ) → List (Option Refusal)
+close_checks parts case dated =
+    (when (not (has_case parts case)) NoSuchCase
+    ∷ when (is_closed parts case) CaseIsClosed
+    ∷ when (not (is_covered parts.days dated)) BadDay
+    ∷ option_map (HearingAhead case) (first_ahead dated (motions_in parts case))
+    ∷ when (nat_le most_facts (length (facts_in parts case))) Full
+    ∷ [])
+
+abbrev pub reopen_checks : Parts → (case : ℕ) → (dated : ℤ) → List (Option Refusal)
+reopen_checks parts case dated =
+    (when (not (has_case parts case)) NoSuchCase
+    ∷ when (not (is_closed parts case)) NotClosed
+    ∷ when (not (is_covered parts.days dated)) BadDay
+    ∷ when (nat_le most_facts (length (facts_in parts case))) Full
+    ∷ [])
+
+-- Rulings: a motion may be ruled on again, and a hearing that is set is no reason to refuse
+
+abbrev pub rule_checks : Parts → (case motion : ℕ) → (dated : ℤ) → List (Option Refusal)
+rule_checks parts case motion dated =
+    (when (not (has_case parts case)) NoSuchCase
+    ∷ when (is_closed parts case) CaseIsClosed
+    ∷ when (is_none (motion_in parts case motion)) NoSuchMotion
+    ∷ when (not (is_covered parts.days dated)) BadDay
+    ∷ when (nat_le most_facts (length (facts_in parts case))) Full
+    ∷ [])
+
+-- Assignments
+
+-- the judge who has a case, and the one to whom it is referred, if it is, are judges of the court
+abbrev pub are_judges : CourtSetup → (judge : ℕ) → (referred : Option ℕ) → Bool
+are_judges setup judge referred = nat_lt judge setup.judges && option_map_or (λ other. nat_lt other setup.judges) referred true
+
+-- the case is referred to the judge who has it
+abbrev pub is_named_twice : (judge : ℕ) → (referred : Option ℕ) → Bool
+is_named_twice judge referred = has_one (λ other. other == judge) referred
+
+abbrev pub assign_checks : CourtSetup → Parts → (case judge : ℕ) → (referred : Option ℕ) → (dated : ℤ) → List (Option Refusal)
+assign_checks setup parts case judge referred dated =
+    (when (not (has_case parts case)) NoSuchCase
+    ∷ when (is_closed parts case) CaseIsClosed
+    ∷ when (not (are_judges setup judge referred)) NoSuchJudge
+    ∷ when (is_named_twice judge referred) BadPanel
+    ∷ when (not (is_covered parts.days dated)) BadDay
+    ∷ when (nat_le most_facts (length (facts_in parts case))) Full
+    ∷ [])
+
+-- What cases, deadlines and motions are called: a text takes no room in the docket
+
+abbrev pub title_checks : Parts → (case : ℕ) → List (Option Refusal)
+title_checks parts case =
+    (when (not (has_case parts case)) NoSuchCase
+    ∷ when (is_closed parts case) CaseIsClosed
+    ∷ [])
+
+-- the case has no deadline, or no motion, of that number
+abbrev pub not_counted : Parts → (case : ℕ) → Counted → (number : ℕ) → Option Refusal
+not_counted parts case counted.Deadline number = when (is_none (deadline_in parts case number)) NoSuchDeadline
+not_counted parts case counted.Motion number = when (is_none (motion_in parts case number)) NoSuchMotion
+
+abbrev pub label_checks : Parts → (case : ℕ) → Counted → (number : ℕ) → List (Option Refusal)
+label_checks parts case kind number =
+    (when (not (has_case parts case)) NoSuchCase
+    ∷ when (is_closed parts case) CaseIsClosed
+    ∷ not_counted parts case kind number
     ∷ [])
 
 -- Motions
@@ -74,6 +177,7 @@ extend_checks setup parts case deadline request =
 abbrev pub motion_checks : Parts → (case : ℕ) → (served : ℤ) → Need → List (Option Refusal)
 motion_checks parts case served need =
     (when (not (has_case parts case)) NoSuchCase
+    ∷ when (is_closed parts case) CaseIsClosed
     ∷ when (not (is_covered parts.days served)) BadDay
     ∷ when (not (is_need need)) BadLength
     ∷ when (nat_le most_motions (length (motions_in parts case))) Full
@@ -87,6 +191,7 @@ abbrev pub hearing_checks : CourtSetup → Parts → Setting → (set : Option R
 hearing_checks setup parts s set except =
     let motion = motion_in parts s.case s.motion in
     (when (not (has_case parts s.case)) NoSuchCase
+    ∷ when (is_closed parts s.case) CaseIsClosed
     ∷ when (is_none motion) NoSuchMotion
     ∷ when (not (has_judges setup s.judges)) NoSuchJudge
     ∷ when (not (nat_lt s.room setup.rooms)) NoSuchRoom
@@ -111,6 +216,7 @@ move_checks setup parts s = hearing_checks setup parts s (when (is_none (hearing
 abbrev pub cancel_checks : Parts → (case motion : ℕ) → List (Option Refusal)
 cancel_checks parts case motion =
     (when (not (has_case parts case)) NoSuchCase
+    ∷ when (is_closed parts case) CaseIsClosed
     ∷ when (is_none (motion_in parts case motion)) NoSuchMotion
     ∷ when (is_none (hearing_in parts case motion)) NotSet
     ∷ [])
@@ -157,6 +263,30 @@ file_act_refusal setup parts case deadline filing = first_of (file_act_checks se
 unfoldable pub extend_refusal : CourtSetup → Parts → (case deadline : ℕ) → Request → Option Refusal
 extend_refusal setup parts case deadline request = first_of (extend_checks setup parts case deadline request)
 
+unfoldable pub end_refusal : Parts → (case deadline : ℕ) → (dated : ℤ) → Option Refusal
+end_refusal parts case deadline dated = first_of (end_checks parts case deadline dated)
+
+unfoldable pub resume_refusal : CourtSetup → Parts → (case deadline : ℕ) → (dated : ℤ) → Option Refusal
+resume_refusal setup parts case deadline dated = first_of (resume_checks setup parts case deadline dated)
+
+unfoldable pub close_refusal : Parts → (case : ℕ) → (dated : ℤ) → Option Refusal
+close_refusal parts case dated = first_of (close_checks parts case dated)
+
+unfoldable pub reopen_refusal : Parts → (case : ℕ) → (dated : ℤ) → Option Refusal
+reopen_refusal parts case dated = first_of (reopen_checks parts case dated)
+
+unfoldable pub rule_refusal : Parts → (case motion : ℕ) → (dated : ℤ) → Option Refusal
+rule_refusal parts case motion dated = first_of (rule_checks parts case motion dated)
+
+unfoldable pub assign_refusal : CourtSetup → Parts → (case judge : ℕ) → (referred : Option ℕ) → (dated : ℤ) → Option Refusal
+assign_refusal setup parts case judge referred dated = first_of (assign_checks setup parts case judge referred dated)
+
+unfoldable pub title_refusal : Parts → (case : ℕ) → Option Refusal
+title_refusal parts case = first_of (title_checks parts case)
+
+unfoldable pub label_refusal : Parts → (case : ℕ) → Counted → (number : ℕ) → Option Refusal
+label_refusal parts case kind number = first_of (label_checks parts case kind number)
+
 unfoldable pub motion_refusal : Parts → (case : ℕ) → (served : ℤ) → Need → Option Refusal
 motion_refusal parts case served need = first_of (motion_checks parts case served need)
 
@@ -186,6 +316,14 @@ refusal setup parts (MoveHearing s) = move_refusal setup parts s
 refusal setup parts (Cancel case motion) = cancel_refusal parts case motion
 refusal setup parts (Holiday day list) = holiday_refusal setup parts day list
 refusal setup parts (Inaccessible day from to) = outage_refusal parts day from to
+refusal setup parts (Fact case (Ended deadline why dated)) = end_refusal parts case deadline dated
+refusal setup parts (Fact case (Resumed deadline dated)) = resume_refusal setup parts case deadline dated
+refusal setup parts (Fact case (Closed why dated)) = close_refusal parts case dated
+refusal setup parts (Fact case (Reopened dated)) = reopen_refusal parts case dated
+refusal setup parts (Fact case (Ruled motion how dated)) = rule_refusal parts case motion dated
+refusal setup parts (Fact case (Assigned judge referred dated)) = assign_refusal setup parts case judge referred dated
+refusal setup parts (Fact case Titled) = title_refusal parts case
+refusal setup parts (Fact case (Labelled kind number)) = label_refusal parts case kind number
 
 -- Queries
 

@@ -1,12 +1,14 @@
 -- Which parts a command writes, and what it writes into them.
-use Rattle.std.specs.Prelude.{ℕ, ◌+◌, ◌==◌, is_none, List, [], ◌∷◌, ◌++◌, length, map, Option, Some, None, option_map, unwrap_or, if◌then◌else◌}
+use Rattle.std.specs.Prelude.{ℕ, ℤ, ◌+◌, ◌==◌, is_none, is_some, List, [], ◌∷◌, ◌++◌, find, length, map, Option, Some, None, option_map, unwrap_or, if◌then◌else◌}
 use Rattle.std.specs.List.{filter_map}
 use Rattle.std.specs.Option.{option_and_then}
 use Rattle.court_days.specs.Words.{DaysView, add_holiday, add_outage}
 use Rattle.rule_periods.specs.Words.{DeadlineRowView, with_grant, with_filing}
 use Rattle.hearing_slots.specs.declared.booking.Booking.{Booking}
 use Rattle.docket_rows.specs.declared.command.Command.{Command}
-use Rattle.docket_rows.specs.declared.command.Command.TheVariants.{OpenCase, Start, FileAct, Extend, Motion, Book, MoveHearing, Cancel, Holiday, Inaccessible}
+use Rattle.docket_rows.specs.declared.command.Command.TheVariants.{OpenCase, Start, FileAct, Extend, Motion, Book, MoveHearing, Cancel, Holiday, Inaccessible, Fact}
+use Rattle.docket_rows.specs.declared.fact.Fact.{Fact as FactOf}
+use Rattle.docket_rows.specs.declared.fact.Fact.TheVariants.{Ended, Resumed, Closed, Reopened, Ruled, Assigned, Titled, Labelled}
 use Rattle.docket_rows.specs.declared.hearing.Hearing.{Hearing}
 use Rattle.docket_rows.specs.declared.part.PartId.{PartId}
 use Rattle.docket_rows.specs.declared.part.PartId.TheVariants.{Court, Judge, Room, Case}
@@ -15,11 +17,12 @@ use Rattle.docket_rows.specs.declared.part.PartValue.TheVariants as value
 use Rattle.docket_rows.specs.declared.rebooking.Rebooking.{Rebooking}
 use Rattle.docket_rows.specs.CourtSetup.{CourtSetup}
 use Rattle.docket_rows.specs.Cases.{CaseRecordView, NumberedDeadline, NumberedMotion}
+use Rattle.docket_rows.specs.Facts.{add_fact}
 use Rattle.docket_rows.specs.Hearings.{hearing_asked}
 use Rattle.docket_rows.specs.Parts.{Parts, parts_read, part_value}
 use Rattle.docket_rows.specs.Rebooking.{rebooking_of, changed_by, judge_change, room_change}
 use Rattle.docket_rows.specs.Refusals.{refusal}
-use Rattle.docket_rows.specs.Seen.{started}
+use Rattle.docket_rows.specs.Seen.{if_ahead, started}
 
 -- the case with one more deadline, with a change of a deadline, with one more motion, and with a motion's hearing set
 -- or taken out
@@ -36,6 +39,26 @@ add_motion m c = record c { motions = c.motions ++ m ∷ [] }
 abbrev pub set_hearing : (motion : ℕ) → Option Hearing → CaseRecordView → CaseRecordView
 set_hearing motion h c =
     record c { motions = map (λ (m : NumberedMotion). if m.number == motion then record m { hearing = h } else m) c.motions }
+
+-- the hearing that is set for a motion of the case
+abbrev pub hearing_set : (motion : ℕ) → CaseRecordView → Option Hearing
+hearing_set motion c =
+    option_and_then (λ (m : NumberedMotion). m.hearing) (find (λ (m : NumberedMotion). m.number == motion) c.motions)
+
+-- the case without the hearing of a motion, where that is after the day
+abbrev pub without_ahead : (motion : ℕ) → (day : ℤ) → CaseRecordView → CaseRecordView
+without_ahead motion day c = if is_some (if_ahead day (hearing_set motion c)) then set_hearing motion None c else c
+
+-- what a fact changes of its case beside the list of facts: a ruling takes a later hearing of its motion out
+abbrev pub changed_by_fact : FactOf → CaseRecordView → CaseRecordView
+changed_by_fact (Ended deadline why dated) c = c
+changed_by_fact (Resumed deadline dated) c = c
+changed_by_fact (Closed why dated) c = c
+changed_by_fact (Reopened dated) c = c
+changed_by_fact (Ruled motion how dated) c = without_ahead motion dated c
+changed_by_fact (Assigned judge referred dated) c = c
+changed_by_fact Titled c = c
+changed_by_fact (Labelled counted number) c = c
 
 -- the days, where the command changes them
 abbrev pub days_written : DaysView → Command → Option DaysView
@@ -55,6 +78,7 @@ case_of (MoveHearing s) = Some s.case
 case_of (Cancel case motion) = Some case
 case_of (Holiday day list) = None
 case_of (Inaccessible day from to) = None
+case_of (Fact case fact) = Some case
 
 -- an open case after a command about the hearing of a motion in it; another command leaves it as it was
 abbrev pub hearing_after : Command → CaseRecordView → CaseRecordView
@@ -70,11 +94,12 @@ record_after (FileAct case deadline filing) c = change_deadline deadline (λ row
 record_after (Extend case deadline request) c = change_deadline deadline (λ row. with_grant row request.grant) c
 record_after (Motion case served need) c =
     add_motion (record { number = length c.motions + 1; served = served; need = need; hearing = None }) c
+record_after (Fact case fact) c = changed_by_fact fact (add_fact fact c)
 record_after command c = hearing_after command c
 
 -- a case, open or not, after a command about it
 abbrev pub case_after : Command → Option CaseRecordView → Option CaseRecordView
-case_after (OpenCase case filed) c = Some (record { filed = filed; deadlines = []; motions = [] })
+case_after (OpenCase case filed) c = Some (record { filed = filed; deadlines = []; motions = []; facts = [] })
 case_after command c = option_map (record_after command) c
 
 -- the case, where the command changes it

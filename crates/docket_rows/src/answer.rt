@@ -3,6 +3,7 @@
 ghost use Rattle.std.specs.Prelude.{◌≡◌, IfOk};
 
 use crate::refusal::Refusal;
+use court_clock::Day;
 use rule6::Shown;
 use std::alloc::AllocError;
 
@@ -17,6 +18,8 @@ pub enum Answer {
     Filed(bool),
     /// The time is extended; when it ends now.
     Extended(Shown),
+    /// An order set another end; when the time ends now.
+    Reset(Shown),
     /// The motion was given this number in its case.
     MotionEntered(u32),
     /// The hearing is booked.
@@ -29,6 +32,22 @@ pub enum Answer {
     HolidayEntered,
     /// The outage of the clerk's office is entered.
     OutageEntered,
+    /// The deadline is ended.
+    Ended,
+    /// The deadline is resumed; when its time ends.
+    Resumed(Shown),
+    /// The case is closed.
+    Closed,
+    /// The case is open again.
+    Reopened,
+    /// The motion is ruled on; the day of its hearing, where that was later than the ruling and is off the calendar.
+    Ruled(Option<Day>),
+    /// The case is assigned.
+    Assigned,
+    /// The case has that title.
+    Titled,
+    /// The deadline or the motion has that label.
+    Labelled,
     /// The command is refused, and changes nothing.
     Refused(Refusal),
 }

@@ -4,8 +4,9 @@ mod changes;
 ghost use Rattle.std.specs.Prelude.{◌≡◌, ◌≤◌, ◌==◌, [], length, find, slice_get, IfOk, option_map, option_copied};
 ghost use Rattle.std.specs.Arc.{arc_value};
 ghost use Rattle.docket_rows.specs.Cases.{NumberedDeadline, NumberedMotion, numbered_deadlines, numbered_motions};
-ghost use Rattle.docket_rows.specs.Limits.{most_deadlines, most_motions};
+ghost use Rattle.docket_rows.specs.Limits.{most_deadlines, most_facts, most_motions};
 
+use crate::fact::Fact;
 use crate::motion::MotionRecord;
 use court_clock::Day;
 use rule_periods::DocketRow;
@@ -13,35 +14,38 @@ use std::alloc::{AllocError, Global};
 use std::marker::Model;
 use std::sync::Arc;
 
-/// A case: the day on which it was filed, and its deadlines and motions, each numbered from 1 in its list.
+/// A case: the day on which it was filed, its deadlines and motions, each numbered from 1 in its list, and the facts that are
+/// recorded of it.
 #[derive(Debug, Drop)]
 pub struct CaseRecord {
     filed: Day,
     deadlines: Vec<DocketRow>,
     motions: Vec<MotionRecord>,
+    facts: Vec<Fact>,
 }
 
 impl Model for CaseRecord {
     ghost use Rattle.std.specs.Prelude.{◌≤◌, length};
     ghost use Rattle.docket_rows.specs.Cases.{CaseRecordView, numbered_deadlines, numbered_motions};
-    ghost use Rattle.docket_rows.specs.Limits.{most_deadlines, most_motions};
+    ghost use Rattle.docket_rows.specs.Limits.{most_deadlines, most_facts, most_motions};
 
     ghost Value = { CaseRecordView };
 
-    ghost view = { λ c. record { filed = c.filed; deadlines = numbered_deadlines 1 c.deadlines.items; motions = numbered_motions 1 c.motions.items } };
+    ghost view = { λ c. record { filed = c.filed; deadlines = numbered_deadlines 1 c.deadlines.items; motions = numbered_motions 1 c.motions.items; facts = c.facts.items } };
 
-    ghost invariant = { λ c. (length c.deadlines.items ≤ most_deadlines) × (length c.motions.items ≤ most_motions) };
+    ghost invariant = { λ c. (length c.deadlines.items ≤ most_deadlines) × (length c.motions.items ≤ most_motions) × (length c.facts.items ≤ most_facts) };
 }
 
 impl CaseRecord {
-    /// The case that was filed on that day, with no deadlines and no motions.
+    /// The case that was filed on that day, with no deadlines, no motions and no facts.
     pub fn new(alloc: Global, filed: Day) -> CaseRecord
-        ensures { result ≡ record { filed = filed; deadlines = []; motions = [] } }
+        ensures { result ≡ record { filed = filed; deadlines = []; motions = []; facts = [] } }
     {
         CaseRecord {
             filed,
             deadlines: Vec::new(alloc),
             motions: Vec::new(alloc),
+            facts: Vec::new(alloc),
         }
     }
 
@@ -68,6 +72,14 @@ impl CaseRecord {
         ensures few { length result.now ≤ most_motions }
     {
         &self.motions
+    }
+
+    /// The facts that are recorded of it, from the first on.
+    pub fn facts(&self) -> &[Fact]
+        ensures value { result.now ≡ self.now.facts }
+        ensures few { length result.now ≤ most_facts }
+    {
+        &self.facts
     }
 
     /// The deadline of that number, if there is one.

@@ -1,8 +1,10 @@
 //! What a clerk can ask of a docket.
 
 ghost use Rattle.std.specs.Prelude.{◌≡◌, IfOk};
-ghost use Rattle.docket_rows.specs.Subject.{are_alike, naming, order_of, subject_of};
+ghost use Rattle.docket_rows.specs.Facts.{fact_subject};
+ghost use Rattle.docket_rows.specs.Subject.{are_alike, fact_order, naming, order_of, subject_of};
 
+use crate::fact::Fact;
 use crate::hearing::Setting;
 use court_clock::Day;
 use court_days::HolidayList;
@@ -43,13 +45,13 @@ pub enum Command {
         /// The act. A minute of 1,440 or more is kept as 1,439, the last of the day.
         filing: Filing,
     },
-    /// Extends the time of a deadline (Fed. R. Civ. P. 6(b)).
+    /// Extends the time of a deadline (Fed. R. Civ. P. 6(b)), or sets another end by an order.
     Extend {
         /// The number of the case.
         case: u32,
         /// The number of the deadline in its case.
         deadline: u32,
-        /// The extension that is asked, and what the court found.
+        /// The extension that is asked, and what the court found, or what an order sets.
         request: Request,
     },
     /// Enters a motion in a case.
@@ -87,6 +89,13 @@ pub enum Command {
         from: u16,
         /// The first minute after it, 1,440 at the most.
         to: u16,
+    },
+    /// Records a fact of a case.
+    Fact {
+        /// The number of the case.
+        case: u32,
+        /// What is recorded.
+        fact: Fact,
     },
 }
 
@@ -137,6 +146,8 @@ pub struct HearingOrder {
     pub motion: u32,
     /// The hearing that is asked for. None: the hearing is taken off the calendar.
     pub setting: Option<Setting>,
+    /// The day after which a hearing must be to be taken off. None: it is taken off whatever its day.
+    pub later_than: Option<Day>,
 }
 
 impl Command {
@@ -150,12 +161,15 @@ impl Command {
                 case: s.case,
                 motion: s.motion,
                 setting: Some(*s),
+                later_than: None,
             }),
             Command::Cancel { case, motion } => Some(HearingOrder {
                 case: *case,
                 motion: *motion,
                 setting: None,
+                later_than: None,
             }),
+            Command::Fact { case, fact } => fact_order(*case, *fact),
             _ => None,
         }
     }
@@ -180,6 +194,7 @@ impl Command {
                 (setting.case, Counted::Motion, setting.motion)
             }
             Command::Cancel { case, motion } => (case, Counted::Motion, motion),
+            Command::Fact { case, fact } => return fact_subject(case, fact),
             _ => return None,
         };
         Some(Subject {
@@ -211,7 +226,56 @@ impl Command {
                 case,
                 motion: number,
             },
+            Command::Fact { case, fact } => Command::Fact {
+                case,
+                fact: fact.naming(number),
+            },
             _ => *self,
         }
+    }
+}
+
+/// The deadline or the motion that a fact of a case is about, if it is about one.
+fn fact_subject(case: u32, fact: Fact) -> Option<Subject>
+    ensures { result ≡ fact_subject case fact }
+{
+    match fact {
+        Fact::Ended { deadline, .. } | Fact::Resumed { deadline, .. } => Some(Subject {
+            case,
+            counted: Counted::Deadline,
+            number: deadline,
+        }),
+        Fact::Closed { .. } | Fact::Reopened { .. } => None,
+        Fact::Ruled { motion, .. } => Some(Subject {
+            case,
+            counted: Counted::Motion,
+            number: motion,
+        }),
+        Fact::Assigned { .. } => None,
+        Fact::Titled => None,
+        Fact::Labelled { counted, number } => Some(Subject {
+            case,
+            counted,
+            number,
+        }),
+    }
+}
+
+/// What a fact of a case does to the hearing of a motion: a ruling takes one that is later than it off the calendar.
+fn fact_order(case: u32, fact: Fact) -> Option<HearingOrder>
+    ensures { result ≡ fact_order case fact }
+{
+    match fact {
+        Fact::Ended { .. } | Fact::Resumed { .. } => None,
+        Fact::Closed { .. } | Fact::Reopened { .. } => None,
+        Fact::Ruled { motion, dated, .. } => Some(HearingOrder {
+            case,
+            motion,
+            setting: None,
+            later_than: Some(dated),
+        }),
+        Fact::Assigned { .. } => None,
+        Fact::Titled => None,
+        Fact::Labelled { .. } => None,
     }
 }

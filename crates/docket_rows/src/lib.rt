@@ -5,6 +5,7 @@ mod answer;
 mod cases;
 mod command;
 mod decision;
+mod fact;
 mod hearing;
 mod limits;
 mod motion;
@@ -19,8 +20,14 @@ pub use answer::Answer;
 pub use cases::{CaseRecord, SharedCase};
 pub use command::{Command, Counted, HearingOrder, Subject};
 pub use decision::{Decision, Writes};
+pub use fact::{
+    Assignment, Closing, Closure, DatedRuling, Ending, Fact, Ruling, assigned_in, closing_in,
+    ending_in, ruling_in,
+};
 pub use hearing::{Hearing, Setting};
-pub use limits::{LAST_CASE, MOST_DATES, MOST_DEADLINES, MOST_GRANTS, MOST_MOTIONS, MOST_OUTAGES};
+pub use limits::{
+    LAST_CASE, MOST_DATES, MOST_DEADLINES, MOST_FACTS, MOST_GRANTS, MOST_MOTIONS, MOST_OUTAGES,
+};
 pub use motion::MotionRecord;
 pub use part::{PartId, PartValue};
 pub use query::Query;

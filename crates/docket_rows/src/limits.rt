@@ -9,6 +9,9 @@ pub const MOST_DEADLINES: usize = 64;
 /// The most motions of a case.
 pub const MOST_MOTIONS: usize = 64;
 
+/// The most facts of a case.
+pub const MOST_FACTS: usize = 512;
+
 /// The most extensions of a deadline.
 pub const MOST_GRANTS: usize = 32;
 

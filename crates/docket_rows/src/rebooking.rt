@@ -1,4 +1,4 @@
-//! What a booking, a move or a cancellation does to the calendars of judges and rooms.
+//! What a booking, a move, a cancellation or a ruling does to the calendars of judges and rooms.
 
 use crate::hearing::Hearing;
 use hearing_slots::Booking;
@@ -25,7 +25,7 @@ pub struct Placement {
     pub with_judge: Booking,
 }
 
-/// What a booking, a move or a cancellation does to calendars.
+/// What a booking, a move, a cancellation or a ruling does to calendars.
 #[derive(Clone, Copy)]
 pub struct Rebooking {
     /// The number of the case.

@@ -67,8 +67,18 @@ pub enum Refusal {
     NoSuchRoom,
     /// An extension by days or to a date of a period in hours, or by hours of one in days.
     WrongGrant,
-    /// A judge is named twice in the panel.
+    /// A judge is named twice in the panel, or the case is referred to the judge who has it.
     BadPanel,
+    /// The case is closed.
+    CaseIsClosed,
+    /// The case isn't closed.
+    NotClosed,
+    /// A hearing of the case is set for a later day: that of the first motion, by case and motion.
+    HearingAhead(u32, u32),
+    /// The deadline is ended already.
+    AlreadyEnded,
+    /// The deadline isn't ended.
+    NotEnded,
 }
 
 impl Refusal {
@@ -106,6 +116,11 @@ impl Refusal {
             Refusal::NoSuchRoom => 27,
             Refusal::WrongGrant => 28,
             Refusal::BadPanel => 29,
+            Refusal::CaseIsClosed => 30,
+            Refusal::NotClosed => 31,
+            Refusal::HearingAhead(_, _) => 32,
+            Refusal::AlreadyEnded => 33,
+            Refusal::NotEnded => 34,
         }
     }
 
@@ -143,6 +158,11 @@ impl Refusal {
             Refusal::NoSuchRoom => "NoSuchRoom",
             Refusal::WrongGrant => "WrongGrant",
             Refusal::BadPanel => "BadPanel",
+            Refusal::CaseIsClosed => "CaseIsClosed",
+            Refusal::NotClosed => "NotClosed",
+            Refusal::HearingAhead(_, _) => "HearingAhead",
+            Refusal::AlreadyEnded => "AlreadyEnded",
+            Refusal::NotEnded => "NotEnded",
         }
     }
 }

@@ -2,6 +2,7 @@
 
 ghost use Rattle.std.specs.Prelude.{◌≡◌, List};
 
+use crate::fact::{Assignment, Closure, DatedRuling, Ending};
 use crate::hearing::Hearing;
 use court_clock::Day;
 use hearing_slots::Need;
@@ -33,6 +34,8 @@ pub struct SheetDeadline {
     pub shown: Shown,
     /// Whether it was met.
     pub state: State,
+    /// Why it is due no more, if it was ended and not resumed.
+    pub ended: Option<Ending>,
 }
 
 /// A hearing on a sheet.
@@ -55,6 +58,8 @@ pub struct SheetMotion {
     pub need: Need,
     /// Its hearing.
     pub hearing: Option<SheetHearing>,
+    /// How it was ruled on last, if it was.
+    pub ruling: Option<DatedRuling>,
 }
 
 /// The deadlines of a sheet, by number.
@@ -142,6 +147,10 @@ pub struct Sheet {
     pub case: u32,
     /// The day on which it was filed.
     pub filed: Day,
+    /// How it was closed, if it was and wasn't reopened.
+    pub closed: Option<Closure>,
+    /// Who has it, if it was assigned.
+    pub assigned: Option<Assignment>,
     /// Its deadlines.
     pub deadlines: SheetDeadlines,
     /// Its motions.

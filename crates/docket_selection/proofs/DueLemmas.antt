@@ -1,7 +1,16 @@
 -- Lists that are made item by item.
-use Rattle.std.proofs.Common.{◌≡◌, ◌+◌, ◌<◌, ◌≤◌, ◌-◌, ◌∙◌, ℕ, suc, List, [], ◌∷◌, ◌++◌, length, get_or, drop, map, filter_map, option_to_list, Option, Some, None, append_assoc, refl, sym, ap, arith}
+use Rattle.std.proofs.Common.{◌≡◌, ◌+◌, ◌<◌, ◌≤◌, ◌-◌, ◌∙◌, ℕ, suc, Bool, true, false, ◌&&◌, ◌||◌, not, if◌then◌else◌, List, [], ◌∷◌, ◌++◌, length, get_or, drop, map, filter_map, option_map, option_to_list, Option, Some, None, append_assoc, refl, sym, ap, arith}
 use Rattle.std.specs.List.{cons_option, flat_map, range_with_len}
 use Rattle.std.proofs.lemmas.List.{append-nil, at_drop_more}
+use Rattle.rule6.specs.declared.timeliness.Shown.{Shown}
+use Rattle.court_clock.specs.Words.{ClockView}
+use Rattle.docket_selection.specs.declared.choice.Choice.{Choice}
+use Rattle.docket_selection.specs.declared.item.DueItem.{DueItem}
+use Rattle.docket_selection.specs.declared.item.Matter.{Matter}
+use Rattle.docket_selection.specs.declared.item.Matter.TheVariants.{Deadline, Hearing}
+use Rattle.docket_selection.specs.Choice.{is_case_chosen}
+use Rattle.docket_selection.specs.Due.{due_by_either, is_due_any_day, is_matter_chosen}
+use Rattle.docket_selection.specs.Items.{is_ended, is_met, matter_with_other, with_other}
 
 -- nothing more
 pub nothing_more : {X : Type 0} (xs : List X) → xs ++ [] ≡ xs
@@ -53,3 +62,22 @@ one_item_more f xs i x y old new whole within is gives added all =
     ∙ ap (λ z. old ++ (f z ∷ map f (drop (i + 1) xs))) is
     ∙ ap (λ ys. old ++ ys) (sym (at_drop_more (map f) xs i x within))
     ∙ all
+
+-- the end by another reading changes nothing of whether an item is chosen whatever its day
+chosen_apart : (choice : Choice) (before : Bool) (case : ℕ) (other : Option Shown) (m : Matter) → (is_case_chosen choice case && (choice.met || not (is_met (matter_with_other other m) || is_ended (matter_with_other other m))) && is_matter_chosen choice before (matter_with_other other m)) ≡ (is_case_chosen choice case && (choice.met || not (is_met m || is_ended m)) && is_matter_chosen choice before m)
+chosen_apart choice before case other (Deadline d) = refl
+chosen_apart choice before case other (Hearing h) = refl
+
+-- what fails last fails
+fails_last : (a b : Bool) → b ≡ false → (a && b) ≡ false
+fails_last false b fails = refl
+fails_last true b fails = fails
+
+-- an item that isn't due is left out
+none_if : (due : Bool) (item : DueItem) → due ≡ false → None ≡ (if due then Some item else None)
+none_if due item fails = rw fails refl
+
+-- an item that isn't chosen whatever its day isn't due by another reading either
+pub not_due_by_either : (clock : ClockView) (choice : Choice) (before : Bool) (other : Option Shown) (found : Option DueItem) (item : DueItem) → found ≡ Some item → is_due_any_day choice before item ≡ false → None ≡ due_by_either clock choice before (option_map (with_other other) found)
+not_due_by_either clock choice before other found item is fails =
+    rw is (none_if _ _ (fails_last _ _ (chosen_apart choice before item.case other item.matter ∙ fails)))

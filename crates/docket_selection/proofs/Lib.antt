@@ -1,5 +1,6 @@
 pub mod CalendarLemmas
 pub mod CallerLemmas
+pub mod ClosedLemmas
 pub mod DueLemmas
 pub mod OrderLemmas
 pub mod ExplainedLemmas

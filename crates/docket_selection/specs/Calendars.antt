@@ -1,12 +1,12 @@
 -- The chosen judges, with the chosen ones of their bookings.
-use Rattle.std.specs.Prelude.{ℕ, nat_lt, Bool, ◌&&◌, List, [], ◌∷◌, Option, Some, None, filter, if◌then◌else◌}
+use Rattle.std.specs.Prelude.{ℕ, nat_lt, Bool, ◌&&◌, ◌||◌, List, [], ◌∷◌, Option, Some, None, filter, if◌then◌else◌}
 use Rattle.std.specs.List.{flat_map, range_with_len}
 use Rattle.hearing_slots.specs.declared.booking.Booking.{Booking}
 use Rattle.docket_rows.specs.declared.sheet.Sheet.{Sheet}
 use Rattle.docket_rows.specs.Words.{CourtSetup, Rows, judge_calendar}
 use Rattle.docket_selection.specs.declared.calendars.JudgeCalendar.{JudgeCalendar}
 use Rattle.docket_selection.specs.declared.choice.Choice.{Choice}
-use Rattle.docket_selection.specs.Choice.{is_before, is_case_chosen, is_day_chosen}
+use Rattle.docket_selection.specs.Choice.{has_hearing, is_before, is_case_chosen, is_day_chosen}
 use Rattle.docket_selection.specs.Sheets.{open_sheets}
 
 -- its day and its case are chosen
@@ -39,9 +39,10 @@ calendars_by setup docketed choice None = calendars_from setup docketed choice 0
 abbrev pub chosen_calendars : CourtSetup → Rows → Choice → List JudgeCalendar
 chosen_calendars setup docketed choice = calendars_by setup docketed choice choice.judge
 
--- its case is chosen, and has a hearing before the chosen judge
+-- its case is chosen, and is before the chosen judge or has a hearing before that judge
 abbrev pub is_sheet_chosen : Choice → Sheet → Bool
-is_sheet_chosen choice sheet = is_case_chosen choice sheet.case && is_before choice sheet.motions
+is_sheet_chosen choice sheet =
+    is_case_chosen choice sheet.case && (is_before choice sheet.assigned sheet.motions || has_hearing choice sheet.motions)
 
 -- the sheets of the chosen cases, by their numbers
 abbrev pub chosen_sheets : CourtSetup → Rows → Choice → List Sheet

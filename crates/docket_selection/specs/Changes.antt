@@ -1,3 +1,4 @@
+pub mod Assigned
 pub mod Change
 pub mod History
 pub mod Laws

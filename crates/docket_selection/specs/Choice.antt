@@ -1,8 +1,9 @@
 -- Which judge, which case and which days are chosen.
-use Rattle.std.specs.Prelude.{ℕ, ◌==◌, ℤ, int_le, Bool, true, false, ◌&&◌, List, Option}
+use Rattle.std.specs.Prelude.{ℕ, ◌==◌, ℤ, int_le, Bool, true, false, ◌&&◌, ◌||◌, not, List, Option, Some, None, if◌then◌else◌}
 use Rattle.std.specs.List.{list_any}
 use Rattle.std.specs.Option.{option_and_then, option_map_or}
 use Rattle.court_clock.specs.Words.{ClockView}
+use Rattle.docket_rows.specs.declared.fact.Assignment.{Assignment}
 use Rattle.docket_rows.specs.declared.sheet.SheetHearing.{SheetHearing}
 use Rattle.docket_rows.specs.declared.sheet.SheetMotion.{SheetMotion}
 use Rattle.docket_rows.specs.Words.{has_one, sits}
@@ -34,6 +35,20 @@ sits_in judge hearing = has_one (λ (h : SheetHearing). sits judge h.hearing.jud
 abbrev pub sits_in_any : (judge : ℕ) → List SheetMotion → Bool
 sits_in_any judge motions = list_any (λ (m : SheetMotion). sits_in judge m.hearing) motions
 
+-- the judge has the case, or it is referred to the judge
+abbrev pub has_assigned : (judge : ℕ) → Assignment → Bool
+has_assigned judge a = (a.judge == judge) || has_one (λ other. other == judge) a.referred
+
+-- A case is before the judges to whom it is assigned and referred; one that isn't assigned, before those of its hearings.
+abbrev pub is_case_before : (judge : ℕ) → Option Assignment → List SheetMotion → Bool
+is_case_before judge (Some a) motions = has_assigned judge a
+is_case_before judge None motions = sits_in_any judge motions
+
+-- the cases before that judge, or those that aren't where these are chosen in their place, or any case
+abbrev pub is_before : Choice → Option Assignment → List SheetMotion → Bool
+is_before choice assigned motions =
+    option_map_or (λ judge. if choice.elsewhere then not (is_case_before judge assigned motions) else is_case_before judge assigned motions) choice.judge true
+
 -- the cases that have a hearing before that judge, or any case
-abbrev pub is_before : Choice → List SheetMotion → Bool
-is_before choice motions = option_map_or (λ judge. sits_in_any judge motions) choice.judge true
+abbrev pub has_hearing : Choice → List SheetMotion → Bool
+has_hearing choice motions = option_map_or (λ judge. sits_in_any judge motions) choice.judge true

@@ -1,5 +1,5 @@
--- What is due: the deadlines that end within the chosen days, as they are shown or by another reading, those with no timely act or
--- all, and the hearings within them.
+-- What is due: the deadlines that end within the chosen days, as they are shown or by another reading, those with no timely act that
+-- weren't ended or all, and the hearings within them.
 use Rattle.std.specs.Prelude.{◌≡◌, ℕ, ℤ, ◌<◌, ◌≤◌, ◌≤ℤ◌, Bool, false, ◌&&◌, ◌||◌, not, List, ◌++◌, length, filter, slice_index_or, option_map, Option, Some, None, if◌then◌else◌}
 use Rattle.std.specs.List.{filter_map, flat_map}
 use Rattle.std.specs.List.Sorted.{IsPermutation}
@@ -16,26 +16,28 @@ use Rattle.docket_selection.specs.declared.item.DueItem.{DueItem}
 use Rattle.docket_selection.specs.declared.item.Matter.{Matter}
 use Rattle.docket_selection.specs.declared.item.Matter.TheVariants.{Deadline, Hearing}
 use Rattle.docket_selection.specs.Choice.{is_before, is_case_chosen, is_day_chosen, is_end_chosen, is_panel_chosen}
-use Rattle.docket_selection.specs.Items.{deadline_item, hearing_item, is_met, time_of, with_other}
+use Rattle.docket_selection.specs.Items.{deadline_item, hearing_item, is_ended, is_met, is_pending, time_of, with_other}
 use Rattle.docket_selection.specs.Sheets.{open_sheets}
 
--- a hearing is chosen by its panel, and a deadline by whether its case has a hearing before the chosen judge
+-- A hearing is chosen by its panel, and a deadline by whether its case is before the chosen judge. Overdue is no hearing, and no deadline
+-- of which an act is recorded.
 abbrev pub is_matter_chosen : Choice → (before : Bool) → Matter → Bool
-is_matter_chosen choice before (Deadline d) = before
-is_matter_chosen choice before (Hearing h) = is_panel_chosen choice h.hearing.judges
+is_matter_chosen choice before (Deadline d) = before && (not choice.overdue || is_pending d.state)
+is_matter_chosen choice before (Hearing h) = not choice.overdue && is_panel_chosen choice h.hearing.judges
 
--- the item is chosen whatever its day, and no timely act is recorded unless such deadlines are chosen too
+-- the item is chosen whatever its day; no timely act is recorded, and it wasn't ended, unless such deadlines are chosen too
 abbrev pub is_due_any_day : Choice → (before : Bool) → DueItem → Bool
 is_due_any_day choice before item =
-    is_case_chosen choice item.case && (choice.met || not (is_met item.matter)) && is_matter_chosen choice before item.matter
+    is_case_chosen choice item.case && (choice.met || not (is_met item.matter || is_ended item.matter)) && is_matter_chosen choice before item.matter
 
 -- and its day is chosen
 abbrev pub is_due : Choice → (before : Bool) → DueItem → Bool
 is_due choice before item = is_day_chosen choice item.day && is_due_any_day choice before item
 
--- the day is chosen on which the time of a deadline ends by another reading; a hearing has no other day
+-- the day is chosen on which the time of a deadline ends by another reading; a hearing has no other day, and nothing is overdue by
+-- another reading alone
 abbrev pub is_other_chosen : ClockView → Choice → Matter → Bool
-is_other_chosen clock choice (Deadline d) = is_end_chosen clock choice d.other
+is_other_chosen clock choice (Deadline d) = not choice.overdue && is_end_chosen clock choice d.other
 is_other_chosen clock choice (Hearing h) = false
 
 -- its day is chosen, or that by another reading
@@ -61,7 +63,7 @@ due_hearing case choice before m = due_only choice before (hearing_item case m)
 -- what is due of the case of a sheet: its deadlines, and then its hearings, each by number
 unfoldable pub due_in : DaysByReadingView → ClockView → Choice → Sheet → List DueItem
 due_in days clock choice sheet =
-    let before = is_before choice sheet.motions in
+    let before = is_before choice sheet.assigned sheet.motions in
     filter_map (due_deadline days clock sheet.case choice before) sheet.deadlines ++ filter_map (due_hearing sheet.case choice before) sheet.motions
 
 -- what is due of all open cases, by their numbers

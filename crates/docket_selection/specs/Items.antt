@@ -1,5 +1,5 @@
 -- What is due: the end of a deadline's time, or a hearing.
-use Rattle.std.specs.Prelude.{ℕ, ◌*◌, ℤ, Bool, true, false, Option, Some, None, option_map}
+use Rattle.std.specs.Prelude.{ℕ, ◌*◌, ℤ, Bool, true, false, is_some, Option, Some, None, option_map}
 use Rattle.court_clock.specs.Words.{CivilTime, ClockView, civil_of, second_of}
 use Rattle.rule6.specs.declared.timeliness.Shown.{Shown}
 use Rattle.rule6.specs.declared.timeliness.Shown.TheVariants as shown
@@ -26,7 +26,7 @@ deadline_item clock case d = option_map (λ (at : CivilTime). record {
   second = at.second;
   case = case;
   number = d.number;
-  matter = Deadline (record { period = d.row.period; shown = d.shown; state = d.state; other = None });
+  matter = Deadline (record { period = d.row.period; shown = d.shown; state = d.state; ended = d.ended; other = None });
 }) (end_of clock d.shown)
 
 -- the item of a deadline with the end by another reading
@@ -58,9 +58,21 @@ is_timely Pending = false
 is_timely Late = false
 is_timely Undecided = false
 
+-- no act is recorded
+abbrev pub is_pending : State → Bool
+is_pending Pending = true
+is_pending Timely = false
+is_pending Late = false
+is_pending Undecided = false
+
 abbrev pub is_met : Matter → Bool
 is_met (Deadline d) = is_timely d.state
 is_met (Hearing h) = false
+
+-- it was ended and not resumed, so it is due no more
+abbrev pub is_ended : Matter → Bool
+is_ended (Deadline d) = is_some d.ended
+is_ended (Hearing h) = false
 
 -- the time of an item, in seconds on the court's clock
 abbrev pub time_of : DueItem → ℤ

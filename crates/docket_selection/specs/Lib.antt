@@ -2,6 +2,8 @@ pub mod Bookings
 pub mod Calendars
 pub mod Choice
 pub mod Due
+pub mod Closed
+pub mod LeftOut
 pub mod Items
 pub mod Sheets
 pub mod Words

@@ -1,6 +1,7 @@
-//! What rows changed of what calendars show: what became of the hearing of each motion, as one judge saw it or as all did, and
-//! which row changed a case last. The docket keeps each hearing and each deadline only as it is now.
+//! What rows changed of what calendars show: what became of the hearing of each motion, as one judge saw it or as all did, which
+//! cases were assigned to that judge, and which row changed a case last. The docket keeps each hearing and each deadline only as it is now.
 
+mod assigned;
 mod change;
 mod histories;
 mod history;

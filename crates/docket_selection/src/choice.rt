@@ -2,10 +2,10 @@
 
 ghost use Rattle.std.specs.Prelude.{◌≡◌};
 ghost use Rattle.docket_rows.specs.Words.{sits};
-ghost use Rattle.docket_selection.specs.Choice.{is_before, is_case_chosen, is_day_chosen, is_end_chosen, is_panel_chosen, sits_in, sits_in_any};
+ghost use Rattle.docket_selection.specs.Choice.{has_assigned, has_hearing, is_before, is_case_before, is_case_chosen, is_day_chosen, is_end_chosen, is_panel_chosen, sits_in, sits_in_any};
 
 use court_clock::{Clock, Day};
-use docket_rows::{SheetHearing, SheetMotion};
+use docket_rows::{Assignment, SheetHearing, SheetMotion};
 use hearing_slots::Panel;
 use reason_notes::end_day;
 use rule6::Shown;
@@ -13,17 +13,22 @@ use rule6::Shown;
 /// What is chosen of a docket. Each part narrows what the others leave.
 #[derive(Clone, Copy, Debug, PartialEq, Eq)]
 pub struct Choice {
-    /// The number of a judge in the court's file: hearings before that judge, and the deadlines of the cases in which one
-    /// is set. None: any judge.
+    /// The number of a judge in the court's file: hearings before that judge, and the deadlines of the cases before that judge. A
+    /// case is before the judges to whom it is assigned and referred; one that isn't assigned, before those of its hearings. None:
+    /// any judge.
     pub judge: Option<u8>,
+    /// Whether the deadlines are those of the cases that aren't before the judge, in place of those that are.
+    pub elsewhere: bool,
     /// The number of a case. None: any case.
     pub case: Option<u32>,
     /// The first day.
     pub from: Day,
     /// The last day.
     pub to: Day,
-    /// Whether deadlines with a timely act are chosen too.
+    /// Whether deadlines with a timely act, and those that were ended, are chosen too.
     pub met: bool,
+    /// Whether only what is overdue is chosen, where the days are past: deadlines of which no act is recorded, and no hearing.
+    pub overdue: bool,
 }
 
 /// Whether the case is chosen.
@@ -66,9 +71,47 @@ pub(crate) fn is_panel_chosen(choice: &Choice, panel: &Panel) -> bool
     }
 }
 
+/// Whether a case that is assigned so and has these motions is before the chosen judge, or isn't where such cases are chosen.
+pub(crate) fn is_before(
+    choice: &Choice,
+    assigned: &Option<Assignment>,
+    motions: &[SheetMotion],
+) -> bool
+    ensures { result ≡ is_before choice.now assigned.now motions.now }
+{
+    let Some(judge) = choice.judge else {
+        return true;
+    };
+    let before = is_case_before(judge, assigned, motions);
+    if choice.elsewhere { !before } else { before }
+}
+
+/// Whether a case that is assigned so and has these motions is before the judge.
+fn is_case_before(judge: u8, assigned: &Option<Assignment>, motions: &[SheetMotion]) -> bool
+    ensures { result ≡ is_case_before judge assigned.now motions.now }
+{
+    match assigned {
+        Some(assignment) => has_assigned(judge, assignment),
+        None => sits_in_any(judge, motions),
+    }
+}
+
+/// Whether the judge has the case, or it is referred to the judge.
+fn has_assigned(judge: u8, assignment: &Assignment) -> bool
+    ensures { result ≡ has_assigned judge assignment.now }
+{
+    if assignment.judge == judge {
+        return true;
+    }
+    match assignment.referred {
+        Some(other) => other == judge,
+        None => false,
+    }
+}
+
 /// Whether a hearing of these motions is before the chosen judge.
-pub(crate) fn is_before(choice: &Choice, motions: &[SheetMotion]) -> bool
-    ensures { result ≡ is_before choice.now motions.now }
+pub(crate) fn has_hearing(choice: &Choice, motions: &[SheetMotion]) -> bool
+    ensures { result ≡ has_hearing choice.now motions.now }
 {
     match choice.judge {
         Some(judge) => sits_in_any(judge, motions),

@@ -11,7 +11,8 @@ use crate::choice::{
     Choice, is_before, is_case_chosen, is_day_chosen, is_end_chosen, is_panel_chosen,
 };
 use crate::item::{
-    DueItem, DueTypes, Matter, deadline_item, hearing_item, is_met, time_of, with_other,
+    DueItem, DueTypes, Matter, deadline_item, hearing_item, is_ended, is_met, is_pending, time_of,
+    with_other,
 };
 use crate::lists::push_if;
 use crate::sheets::sheets_of;
@@ -22,9 +23,9 @@ use docket_rows::{Sheet, SheetDeadline, SheetMotion};
 use reason_notes::{DaysByReading, other_end};
 use std::alloc::{AllocError, Global};
 
-/// The deadlines that end within the chosen days, those with no timely act or all, and the hearings within them, by time. Each
-/// deadline has its end by another reading, where these days are doubtful. One whose other end alone is within the chosen days is
-/// there too, in the place of the end that is shown. `Err` says that memory ran out.
+/// The deadlines that end within the chosen days, those with no timely act that weren't ended or all, and the hearings within them, by
+/// time. Each deadline has its end by another reading, where these days are doubtful. One whose other end alone is within the chosen
+/// days is there too, in the place of the end that is shown. `Err` says that memory ran out.
 pub fn due_of(
     alloc: Global,
     court: &Court,
@@ -82,7 +83,7 @@ fn push_due_in(
     ensures { OnOk result (list.new.items ≡ list.old.items ++ due_in days.now clock.now choice.now sheet.now) }
 {
     let _types: DueTypes = None;
-    let before = is_before(choice, sheet.motions.as_slice());
+    let before = is_before(choice, &sheet.assigned, sheet.motions.as_slice());
     push_deadlines(
         alloc,
         list,
@@ -174,7 +175,7 @@ fn due_only(choice: &Choice, before: bool, item: Option<DueItem>) -> Option<DueI
     }
 }
 
-/// Whether an item is chosen and due on its own day. `before` says whether its case has a hearing before the chosen judge.
+/// Whether an item is chosen and due on its own day. `before` says whether its case is before the chosen judge.
 pub fn is_due(choice: &Choice, before: bool, item: &DueItem) -> bool
     ensures { result ≡ is_due choice.now before item.now }
 {
@@ -194,7 +195,7 @@ fn is_due_any_day(choice: &Choice, before: bool, item: &DueItem) -> bool
     ensures { result ≡ is_due_any_day choice.now before item.now }
 {
     is_case_chosen(choice, item.case)
-        && (choice.met || !is_met(&item.matter))
+        && (choice.met || !(is_met(&item.matter) || is_ended(&item.matter)))
         && is_matter_chosen(choice, before, &item.matter)
 }
 
@@ -203,17 +204,20 @@ fn is_other_chosen(clock: &Clock, choice: &Choice, matter: &Matter) -> bool
     ensures { result ≡ is_other_chosen clock.now choice.now matter.now }
 {
     match matter {
-        Matter::Deadline(deadline) => is_end_chosen(clock, choice, deadline.other),
+        Matter::Deadline(deadline) => {
+            !choice.overdue && is_end_chosen(clock, choice, deadline.other)
+        }
         Matter::Hearing(_) => false,
     }
 }
 
-/// Whether a hearing is before the chosen judge, or a deadline in a case that has one.
-fn is_matter_chosen(choice: &Choice, before: bool, matter: &Matter) -> bool
+/// Whether a hearing is before the chosen judge, or a deadline in a case that is. Where only what is overdue is chosen, no hearing is,
+/// and no deadline of which an act is recorded.
+pub(crate) fn is_matter_chosen(choice: &Choice, before: bool, matter: &Matter) -> bool
     ensures { result ≡ is_matter_chosen choice.now before matter.now }
 {
     match matter {
-        Matter::Deadline(_) => before,
-        Matter::Hearing(set) => is_panel_chosen(choice, &set.hearing.judges),
+        Matter::Deadline(deadline) => before && (!choice.overdue || is_pending(deadline.state)),
+        Matter::Hearing(set) => !choice.overdue && is_panel_chosen(choice, &set.hearing.judges),
     }
 }

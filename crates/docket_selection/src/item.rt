@@ -2,10 +2,10 @@
 
 ghost use Rattle.std.specs.Prelude.{◌≡◌, option_map};
 ghost use Rattle.court_clock.specs.Words.{CivilTime, second_of};
-ghost use Rattle.docket_selection.specs.Items.{deadline_item, end_of, hearing_item, is_met, matter_with_other, set_item, time_of, with_other};
+ghost use Rattle.docket_selection.specs.Items.{deadline_item, end_of, hearing_item, is_ended, is_met, is_pending, matter_with_other, set_item, time_of, with_other};
 
 use court_clock::{Clock, Day};
-use docket_rows::{SheetDeadline, SheetHearing, SheetMotion, State};
+use docket_rows::{Ending, SheetDeadline, SheetHearing, SheetMotion, State};
 use rule_periods::Period;
 use rule6::Shown;
 
@@ -18,6 +18,8 @@ pub struct DueDeadline {
     pub shown: Shown,
     /// Whether it was met.
     pub state: State,
+    /// Why it is due no more, if it was ended and not resumed.
+    pub ended: Option<Ending>,
     /// The earliest of the ends that other readings of the Rules give in place of that one, if one does.
     pub other: Option<Shown>,
 }
@@ -57,6 +59,7 @@ pub type DueTypes = Option<
         Option<Shown>,
         Shown,
         State,
+        Option<Ending>,
         SheetHearing,
     ),
 >;
@@ -75,6 +78,7 @@ pub(crate) fn deadline_item(clock: &Clock, case: u32, deadline: &SheetDeadline) 
             period: deadline.row.period(),
             shown: deadline.shown,
             state: deadline.state,
+            ended: deadline.ended,
             other: None,
         }),
     })
@@ -150,6 +154,23 @@ pub(crate) fn is_met(matter: &Matter) -> bool
 {
     match matter {
         Matter::Deadline(deadline) => deadline.state == State::Timely,
+        Matter::Hearing(_) => false,
+    }
+}
+
+/// Whether no act is recorded.
+pub(crate) fn is_pending(state: State) -> bool
+    ensures { result ≡ is_pending state }
+{
+    state == State::Pending
+}
+
+/// Whether a deadline was ended and not resumed, so that it is due no more.
+pub fn is_ended(matter: &Matter) -> bool
+    ensures { result ≡ is_ended matter.now }
+{
+    match matter {
+        Matter::Deadline(deadline) => deadline.ended.is_some(),
         Matter::Hearing(_) => false,
     }
 }

@@ -6,9 +6,11 @@ mod bookings;
 mod calendars;
 mod changes;
 mod choice;
+mod closed;
 mod due;
 mod explained;
 mod item;
+mod left_out;
 mod lists;
 mod sheets;
 
@@ -19,7 +21,9 @@ pub use changes::{
     histories_end_in_the_docket, revisions_rise_with_events,
 };
 pub use choice::Choice;
+pub use closed::closed_cases_are_not_due;
 pub use due::{due_of, is_due};
 pub use explained::{ExplainedDeadline, ExplainedSheet, explained_sheets};
-pub use item::{DueDeadline, DueItem, DueTypes, Matter};
+pub use item::{DueDeadline, DueItem, DueTypes, Matter, is_ended};
+pub use left_out::deadlines_left_out;
 pub use sheets::{sheets_chosen, sheets_of};

@@ -6,7 +6,7 @@ ghost use Rattle.docket_core.specs.Words.{StandsFor};
 ghost use Rattle.docket_selection.specs.Calendars.{chosen_sheets, is_sheet_chosen};
 ghost use Rattle.docket_selection.specs.Sheets.{open_sheets, sheet_seen, sheets_from};
 
-use crate::choice::{Choice, is_before, is_case_chosen};
+use crate::choice::{Choice, has_hearing, is_before, is_case_chosen};
 use docket_core::Docket;
 use docket_rows::{LAST_CASE, Query, Sheet, View};
 use std::alloc::{AllocError, Global};
@@ -41,11 +41,13 @@ fn only_chosen(sheets: Vec<Sheet>, choice: &Choice) -> Vec<Sheet>
     chosen
 }
 
-/// Whether the case of a sheet is chosen, and has a hearing before the chosen judge.
+/// Whether the case of a sheet is chosen, and is before the chosen judge or has a hearing before that judge.
 fn is_sheet_chosen(choice: &Choice, sheet: &Sheet) -> bool
     ensures { result ≡ is_sheet_chosen choice.now sheet.now }
 {
-    is_case_chosen(choice, sheet.case) && is_before(choice, sheet.motions.as_slice())
+    let motions = sheet.motions.as_slice();
+    is_case_chosen(choice, sheet.case)
+        && (is_before(choice, &sheet.assigned, motions) || has_hearing(choice, motions))
 }
 
 /// Adds the sheets of those of `count` cases that are open, from the first number on.

@@ -1,5 +1,5 @@
--- What differs between two dockets: each case that is open in one alone, each deadline that ends otherwise, and each hearing that
--- is another.
+-- What differs between two dockets: each case that is open or closed in one alone or is assigned otherwise, each deadline that ends
+-- otherwise or is ended in one alone, and each motion that is heard or ruled on otherwise.
 use Rattle.std.specs.Prelude.{ℕ, List, [], ◌++◌, codes, if◌then◌else◌}
 use Rattle.std.specs.List.{flat_map, list_any, range_with_len}
 use Rattle.case_numbers.specs.declared.names.NamedCase.{NamedCase}
@@ -8,6 +8,8 @@ use Rattle.docket_rows.specs.declared.command.Counted.{Counted}
 use Rattle.docket_rows.specs.declared.command.Counted.TheVariants.{Deadline, Motion}
 use Rattle.docket_rows.specs.declared.view.View.{View}
 use Rattle.docket_rows.specs.Words.{last_case}
+use Rattle.docket_shifts.specs.Assignments.{assignment_shift}
+use Rattle.docket_shifts.specs.Closings.{closing_shift}
 use Rattle.docket_shifts.specs.Compared.{ShownRows, sheet_in}
 use Rattle.docket_shifts.specs.Filed.{filed_line}
 use Rattle.docket_shifts.specs.Line.{shift_line}
@@ -26,11 +28,12 @@ new_line named case counted was is = if list_any (has_number is.number) was then
 abbrev pub lines_of : (had has : List NamedCase) → (case : ℕ) → Counted → (was is : List NumberedTextView) → List ℕ
 lines_of had has case counted was is = flat_map (kept_line had case counted is) was ++ flat_map (new_line has case counted was) is
 
--- what differs between two sheets of a case, shown by the court before and by the one after: whether it is open, the ends of its
--- deadlines, and then its hearings
+-- what differs between two sheets of a case, shown by the court before and by the one after: whether it is open, whether it is
+-- closed, who has it, the ends of its deadlines, and then the hearings and the rulings of its motions
 abbrev pub sheet_shifts : (before after : CourtView) → (had has : List NamedCase) → (case : ℕ) → (was is : View) → List ℕ
 sheet_shifts before after had has case was is =
-    filed_line had has case (filed_in was) (filed_in is) ++ lines_of had has case Deadline (ends_in before was) (ends_in after is) ++ lines_of had has case Motion (hearings_in before was) (hearings_in after is)
+    filed_line had has case (filed_in was) (filed_in is) ++ closing_shift has case was is ++ assignment_shift before after has case was is
+    ++ lines_of had has case Deadline (ends_in before was) (ends_in after is) ++ lines_of had has case Motion (hearings_in before was) (hearings_in after is)
 
 -- the lines of a case
 abbrev pub case_shifts : (before after : ShownRows) → (case : ℕ) → List ℕ
@@ -40,7 +43,7 @@ case_shifts before after case = sheet_shifts before.court after.court before.nam
 unfoldable pub shifts_from : (before after : ShownRows) → (first count : ℕ) → List ℕ
 shifts_from before after first count = flat_map (case_shifts before after) (range_with_len first count)
 
--- A line for each case that is open in one docket alone, for each deadline that ends otherwise after than before, and for each
--- hearing that is another, by the numbers of the cases.
+-- A line for each case that is open in one docket alone or is closed or assigned otherwise, for each deadline that ends otherwise after
+-- than before, and for each motion that is heard or ruled on otherwise, by the numbers of the cases.
 abbrev pub shifts : (before after : ShownRows) → List ℕ
 shifts before after = shifts_from before after 1 last_case

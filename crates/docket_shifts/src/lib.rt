@@ -1,7 +1,10 @@
-//! What differs between two dockets of the same cases, as one stands now and as it would stand otherwise: which cases are open, the
-//! ends of deadlines and the hearings of motions, by their numbers, with a line for each.
+//! What differs between two dockets of the same cases, as one stands now and as it would stand otherwise: which cases are open and
+//! which are closed, who has them, the ends of deadlines, the hearings of motions and how they were ruled on, by their numbers, with a
+//! line for each.
 #![tactic(auto)]
 
+mod assignments;
+mod closings;
 mod compared;
 mod filed;
 mod line;

@@ -1,13 +1,14 @@
-//! What of sheets is compared: the day on which a case was filed, the ends of its deadlines, and the hearings of its motions.
+//! What of sheets is compared: the day on which a case was filed, the ends of its deadlines and which of them were ended, and the
+//! hearings of its motions and how they were ruled on.
 ghost use Rattle.std.specs.Prelude.{◌≡◌, ◌++◌, map, IfOk, OnOk};
 ghost use Rattle.std.specs.List.{flat_map};
-ghost use Rattle.docket_shifts.specs.Sheets.{end_of, ends_in, filed_in, hearing_of, hearings_in};
+ghost use Rattle.docket_shifts.specs.Sheets.{end_of, ends_in, filed_in, hearing_of, hearings_in, ruling_under};
 
 use crate::texts::NumberedText;
 use court_clock::Day;
 use court_days::Court;
-use docket_rows::{SheetDeadline, SheetMotion, View};
-use office_texts::{push_hearing, push_shown};
+use docket_rows::{DatedRuling, SheetDeadline, SheetMotion, View};
+use office_texts::{push_and_ended, push_and_ruled, push_hearing, push_ruled, push_shown};
 use std::alloc::{AllocError, Global};
 
 // The day on which the case of a sheet was filed, where the view is one.
@@ -20,7 +21,7 @@ pub(crate) fn filed_in(view: &View) -> Option<Day>
     }
 }
 
-// The end of a deadline, as answers show it.
+// The end of a deadline, as answers show it, and why it is due no more, if it was ended.
 fn end_of(
     alloc: Global,
     court: &Court,
@@ -30,6 +31,7 @@ fn end_of(
 {
     let mut text = String::new(alloc);
     push_shown(&mut text, court.clock(), &deadline.shown)?;
+    push_and_ended(&mut text, deadline.ended)?;
     Ok(NumberedText {
         number: deadline.number,
         text,
@@ -65,7 +67,25 @@ pub(crate) fn ends_in(
     }
 }
 
-// Adds the hearing of a motion, as sheets show it, if it has one.
+// Adds how the motion of that number was ruled on, as sheets show it, if it was.
+fn push_ruling_under(
+    alloc: Global,
+    number: u32,
+    ruled: Option<DatedRuling>,
+    hearings: &mut Vec<NumberedText>,
+) -> Result<(), AllocError>
+    ensures { OnOk result (hearings.new.items ≡ hearings.old.items ++ ruling_under number ruled) }
+{
+    let Some(ruled) = ruled else {
+        return Ok(());
+    };
+    let mut text = String::new(alloc);
+    push_ruled(&mut text, ruled)?;
+    hearings.push(NumberedText { number, text })?;
+    Ok(())
+}
+
+// Adds the hearing of a motion, as sheets show it, if it has one, and how it was ruled on, if it was.
 fn push_hearing_of(
     alloc: Global,
     court: &Court,
@@ -75,10 +95,11 @@ fn push_hearing_of(
     ensures { OnOk result (hearings.new.items ≡ hearings.old.items ++ hearing_of court.now motion.now) }
 {
     let Some(hearing) = motion.hearing else {
-        return Ok(());
+        return push_ruling_under(alloc, motion.number, motion.ruling, hearings);
     };
     let mut text = String::new(alloc);
     push_hearing(&mut text, court, &hearing)?;
+    push_and_ruled(&mut text, motion.ruling)?;
     hearings.push(NumberedText {
         number: motion.number,
         text,
@@ -86,7 +107,7 @@ fn push_hearing_of(
     Ok(())
 }
 
-// The hearings of motions.
+// The hearings of motions, and how they were ruled on.
 fn hearings_of(
     alloc: Global,
     court: &Court,
@@ -101,7 +122,7 @@ fn hearings_of(
     Ok(hearings)
 }
 
-// The hearings of the motions of a sheet, where the view is one.
+// Those of a sheet, where the view is one.
 pub(crate) fn hearings_in(
     alloc: Global,
     court: &Court,

@@ -9,6 +9,8 @@ ghost use Rattle.docket_shifts.specs.Compared.{rows_shown};
 ghost use Rattle.docket_shifts.specs.Sheets.{ends_in, hearings_in};
 ghost use Rattle.docket_shifts.specs.Shifts.{case_shifts, kept_line, lines_of, new_line, sheet_shifts, shifts, shifts_from};
 
+use crate::assignments::push_assignment;
+use crate::closings::push_closing;
 use crate::compared::Compared;
 use crate::filed::push_filed;
 use crate::line::push_shift;
@@ -133,7 +135,7 @@ fn push_ends(
     push_lines(text, before, after, case, Counted::Deadline, &was, &is)
 }
 
-// Adds the lines of the hearings that are others on the second of two sheets of a case.
+// Adds the lines of the motions that are heard or ruled on otherwise on the second of two sheets of a case.
 fn push_hearings(
     alloc: Global,
     text: &mut String,
@@ -169,6 +171,17 @@ fn push_sheets(
         case,
         filed_in(was),
         filed_in(is),
+    )?;
+    push_closing(alloc, text, after.cases, case, was, is)?;
+    push_assignment(
+        alloc,
+        text,
+        before.court,
+        after.court,
+        after.cases,
+        case,
+        was,
+        is,
     )?;
     push_ends(alloc, text, before, after, case, was, is)?;
     push_hearings(alloc, text, before, after, case, was, is)
@@ -217,9 +230,9 @@ fn push_cases(
     Ok(())
 }
 
-/// Adds a line for each case that is open before or after alone, for each deadline that ends otherwise after than before and for each
-/// hearing that is another, with both: by the cases, and in each first what there was before, in its order, then what is new. `Err`
-/// says that memory ran out.
+/// Adds a line for each case that is open before or after alone, or is closed or assigned otherwise, for each deadline that ends otherwise
+/// after than before and for each motion that is heard or ruled on otherwise, with both: by the cases, and in each first what there was
+/// before, in its order, then what is new. `Err` says that memory ran out.
 pub fn push_shifts(
     alloc: Global,
     text: &mut String,

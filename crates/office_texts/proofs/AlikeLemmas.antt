@@ -8,7 +8,8 @@ use Rattle.rule6.specs.declared.timeliness.Shown.{Shown}
 use Rattle.rule6.specs.declared.timeliness.Shown.TheVariants as shown
 use Rattle.hearing_slots.specs.declared.booking.Booking.{Booking}
 use Rattle.docket_rows.specs.declared.answer.Answer.{Answer}
-use Rattle.docket_rows.specs.declared.answer.Answer.TheVariants.{Started, Filed, Extended}
+use Rattle.docket_rows.specs.declared.answer.Answer.TheVariants.{Started, Filed, Extended, Resumed, Reset}
+use Rattle.docket_rows.specs.declared.fact.Assignment.{Assignment}
 use Rattle.docket_rows.specs.declared.sheet.Sheet.{Sheet}
 use Rattle.docket_rows.specs.declared.sheet.SheetDeadline.{SheetDeadline}
 use Rattle.docket_rows.specs.declared.sheet.SheetHearing.{SheetHearing}
@@ -18,7 +19,7 @@ use Rattle.docket_rows.specs.declared.view.View.TheVariants as view
 use Rattle.office_texts.specs.Answers.{answer_text}
 use Rattle.office_texts.specs.Calendars.{booking_line, booking_lines, calendar_lines}
 use Rattle.office_texts.specs.Periods.{period_text}
-use Rattle.office_texts.specs.Sheets.{deadline_line, hearing_line_if_set, hearing_text, motion_lines, need_text, sheet_lines, state_text}
+use Rattle.office_texts.specs.Sheets.{and_ruled_text, assigned_line, deadline_line, hearing_line_if_set, hearing_text, motion_lines, need_text, sheet_lines, state_text}
 use Rattle.office_texts.specs.Shown.{end_text, shown_text}
 use Rattle.office_texts.specs.Views.{view_lines}
 
@@ -34,13 +35,15 @@ module _ (a b : ClockView) (same : IsSameCourtClock a b) where
   unfolding answer_text
   answer_text_alike (Started number end) = ap (λ t. codes "deadline " ++ decimal number ++ codes " " ++ t) (shown_text_alike end)
   answer_text_alike (Extended end) = ap (λ t. codes "extended " ++ t) (shown_text_alike end)
+  answer_text_alike (Reset end) = ap (λ t. codes "reset " ++ t) (shown_text_alike end)
+  answer_text_alike (Resumed end) = ap (λ t. codes "resumed " ++ t) (shown_text_alike end)
   answer_text_alike (Filed true) = refl
   answer_text_alike other = refl
 
   deadline_line_alike : (d : SheetDeadline) → deadline_line a d ≡ deadline_line b d
   unfolding deadline_line
   deadline_line_alike d =
-      ap (λ t. codes "deadline " ++ decimal d.number ++ codes " " ++ period_text d.row.period ++ codes " " ++ t ++ codes " " ++ state_text d.state d.row.filed ++ 10 ∷ []) (shown_text_alike d.shown)
+      ap (λ t. codes "deadline " ++ decimal d.number ++ codes " " ++ period_text d.row.period ++ codes " " ++ t ++ codes " " ++ state_text d.state d.row.filed d.ended ++ 10 ∷ []) (shown_text_alike d.shown)
 
   deadline_lines_alike : (ds : List SheetDeadline) → flat_map (deadline_line a) ds ≡ flat_map (deadline_line b) ds
   deadline_lines_alike [] = refl
@@ -71,15 +74,18 @@ module _ (a b : CourtView) (same : IsSameCourt a b) where
   motion_alike : (m : SheetMotion) → motion_lines a m ≡ motion_lines b m
   unfolding motion_lines
   motion_alike m =
-      ap (λ t. codes "motion " ++ decimal m.number ++ codes " served " ++ day_text m.served ++ codes " need " ++ need_text m.need ++ 10 ∷ t) (hearing_if_set_alike m.hearing)
+      ap (λ t. codes "motion " ++ decimal m.number ++ codes " served " ++ day_text m.served ++ codes " need " ++ need_text m.need ++ and_ruled_text m.ruling ++ 10 ∷ t) (hearing_if_set_alike m.hearing)
 
   motions_alike : (ms : List SheetMotion) → flat_map (motion_lines a) ms ≡ flat_map (motion_lines b) ms
   motions_alike [] = refl
   motions_alike (m ∷ ms) = rw (motion_alike m, motions_alike ms) refl
 
+  assigned_alike : (assigned : Option Assignment) → assigned_line a.judges assigned ≡ assigned_line b.judges assigned
+  assigned_alike assigned = ap (λ (names : List (List ℕ)). assigned_line names assigned) same.judges
+
   pub sheet_lines_alike : (s : Sheet) → sheet_lines a s ≡ sheet_lines b s
   unfolding sheet_lines
-  sheet_lines_alike s = rw (deadline_lines_alike a.clock b.clock same.clock s.deadlines, motions_alike s.motions) refl
+  sheet_lines_alike s = rw (assigned_alike s.assigned, deadline_lines_alike a.clock b.clock same.clock s.deadlines, motions_alike s.motions) refl
 
   pub view_lines_alike : (v : View) → view_lines a v ≡ view_lines b v
   unfolding view_lines

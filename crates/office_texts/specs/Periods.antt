@@ -7,7 +7,7 @@ use Rattle.rule6.specs.declared.timeliness.Act.{Act}
 use Rattle.rule6.specs.declared.timeliness.Act.TheVariants.{Filing, Service}
 use Rattle.rule_periods.specs.declared.period.Entered.{Entered}
 use Rattle.rule_periods.specs.declared.period.Length.{Length}
-use Rattle.rule_periods.specs.declared.period.Length.TheVariants.{Days, Hours, ToDay}
+use Rattle.rule_periods.specs.declared.period.Length.TheVariants.{Days, Hours, ToDay, ToTime}
 use Rattle.rule_periods.specs.declared.period.Period.{Period}
 use Rattle.rule_periods.specs.declared.period.Period.TheVariants as period
 use Rattle.rule_periods.specs.Words.{is_set_length, mark_code, rule_code}
@@ -16,6 +16,7 @@ abbrev pub length_text : Length → List ℕ
 length_text (Days n) = decimal n ++ codes "d"
 length_text (Hours n) = decimal n ++ codes "h"
 length_text ToDay = codes "set"
+length_text ToTime = codes "set"
 
 abbrev pub direction_text : Direction → List ℕ
 direction_text After = codes "after"
@@ -42,7 +43,7 @@ set_text e = length_text e.length ++ codes "/" ++ act_text e.act
 abbrev pub entered_text : Entered → List ℕ
 entered_text e = if is_set_length e.length then set_text e else measured_text e
 
--- the code of a period that the Rules set, the five words of one that a court enters, or the two of a day that an order sets
+-- the code of a period that the Rules set, the five words of one that a court enters, or the two of an end that an order sets
 unfoldable pub period_text : Period → List ℕ
 period_text (period.Rule rule) = rule_code rule
 period_text (period.Entered e) = entered_text e

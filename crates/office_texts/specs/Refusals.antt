@@ -3,7 +3,7 @@ use Rattle.std.specs.Prelude.{ℕ, List, [], ◌++◌, codes}
 use Rattle.std.specs.Fmt.{decimal}
 use Rattle.court_clock.specs.Words.{day_text}
 use Rattle.docket_rows.specs.declared.refusal.Refusal.{Refusal}
-use Rattle.docket_rows.specs.declared.refusal.Refusal.TheVariants.{ShortNotice, JudgeBusy, RoomBusy, HearingThatDay, NoticeLost}
+use Rattle.docket_rows.specs.declared.refusal.Refusal.TheVariants.{ShortNotice, JudgeBusy, RoomBusy, HearingThatDay, NoticeLost, HearingAhead}
 use Rattle.docket_rows.specs.Words.{refusal_number, refusal_name}
 
 -- a case and one of its motions
@@ -17,6 +17,7 @@ refusal_detail (JudgeBusy case motion) = motion_named case motion
 refusal_detail (RoomBusy case motion) = motion_named case motion
 refusal_detail (HearingThatDay case motion) = motion_named case motion
 refusal_detail (NoticeLost case motion) = motion_named case motion
+refusal_detail (HearingAhead case motion) = motion_named case motion
 refusal_detail _ = []
 
 -- `19 ShortNotice 2025-08-29`

@@ -9,12 +9,17 @@ use Rattle.rule6.specs.declared.timeliness.Means.{Means}
 use Rattle.rule6.specs.declared.timeliness.Means.TheVariants.{Electronic, Paper}
 use Rattle.hearing_slots.specs.declared.need.Need.{Need}
 use Rattle.hearing_slots.specs.declared.need.Need.TheVariants as need
+use Rattle.docket_rows.specs.declared.fact.Assignment.{Assignment}
+use Rattle.docket_rows.specs.declared.fact.Closure.{Closure}
+use Rattle.docket_rows.specs.declared.fact.DatedRuling.{DatedRuling}
+use Rattle.docket_rows.specs.declared.fact.Ending.{Ending}
 use Rattle.docket_rows.specs.declared.sheet.Sheet.{Sheet}
 use Rattle.docket_rows.specs.declared.sheet.SheetDeadline.{SheetDeadline}
 use Rattle.docket_rows.specs.declared.sheet.SheetHearing.{SheetHearing}
 use Rattle.docket_rows.specs.declared.sheet.SheetMotion.{SheetMotion}
 use Rattle.docket_rows.specs.declared.sheet.State.{State}
 use Rattle.docket_rows.specs.declared.sheet.State.TheVariants.{Pending, Timely, Late, Undecided}
+use Rattle.docket_rows.specs.Words.{closing_word, ending_word, ruling_word}
 use Rattle.office_texts.specs.Calendars.{name_of, span_text}
 use Rattle.office_texts.specs.Periods.{period_text}
 use Rattle.office_texts.specs.Shown.{shown_text}
@@ -34,14 +39,23 @@ abbrev pub act_done_text : Option Filing → List ℕ
 act_done_text None = []
 act_done_text (Some f) = codes " " ++ day_text f.day ++ codes " " ++ minute_text f.minute ++ codes " " ++ means_text f.means
 
--- whether the deadline was met, and by which act
-abbrev pub state_text : State → Option Filing → List ℕ
-state_text state filed = state_word state ++ act_done_text filed
+-- why a deadline is due no more, where it was ended and not resumed
+abbrev pub ended_text : Ending → List ℕ
+ended_text why = codes "ended " ++ ending_word why
 
--- `deadline 1 12a1Ai last 2025-03-24 timely 2025-03-24 23:59 electronic`
+abbrev pub and_ended_text : Option Ending → List ℕ
+and_ended_text None = []
+and_ended_text (Some why) = codes ", " ++ ended_text why
+
+-- whether the deadline was met, and by which act, and why it is due no more; of one that was ended no act is pending
+abbrev pub state_text : State → Option Filing → Option Ending → List ℕ
+state_text Pending filed (Some why) = ended_text why
+state_text state filed ended = state_word state ++ act_done_text filed ++ and_ended_text ended
+
+-- `deadline 1 12a1Ai last 2025-03-24 timely 2025-03-24 23:59 electronic`, `deadline 2 59e last 2025-09-02 ended moot`
 unfoldable pub deadline_line : ClockView → SheetDeadline → List ℕ
 deadline_line clock d =
-    codes "deadline " ++ decimal d.number ++ codes " " ++ period_text d.row.period ++ codes " " ++ shown_text clock d.shown ++ codes " " ++ state_text d.state d.row.filed ++ 10 ∷ []
+    codes "deadline " ++ decimal d.number ++ codes " " ++ period_text d.row.period ++ codes " " ++ shown_text clock d.shown ++ codes " " ++ state_text d.state d.row.filed d.ended ++ 10 ∷ []
 
 abbrev pub need_text : Need → List ℕ
 need_text need.ExParte = codes "exparte"
@@ -71,16 +85,44 @@ abbrev pub hearing_line_if_set : CourtView → Option SheetHearing → List ℕ
 hearing_line_if_set court None = []
 hearing_line_if_set court (Some h) = hearing_text court h ++ 10 ∷ []
 
--- `motion 1 served 2025-08-29 need 14`, and where it has a hearing the line of it
+-- how a motion was ruled on: `granted 2025-09-15`
+abbrev pub ruled_text : DatedRuling → List ℕ
+ruled_text r = ruling_word r.ruling ++ codes " " ++ day_text r.dated
+
+-- the same after what is said of it, if it was
+abbrev pub and_ruled_text : Option DatedRuling → List ℕ
+and_ruled_text None = []
+and_ruled_text (Some r) = codes ", " ++ ruled_text r
+
+-- `motion 1 served 2025-08-29 need 14`, `motion 2 served 2025-08-29 need 14, granted 2025-09-15`, and where it has a hearing the line of it
 unfoldable pub motion_lines : CourtView → SheetMotion → List ℕ
 motion_lines court m =
-    codes "motion " ++ decimal m.number ++ codes " served " ++ day_text m.served ++ codes " need " ++ need_text m.need ++ 10 ∷ hearing_line_if_set court m.hearing
+    codes "motion " ++ decimal m.number ++ codes " served " ++ day_text m.served ++ codes " need " ++ need_text m.need ++ and_ruled_text m.ruling ++ 10 ∷ hearing_line_if_set court m.hearing
+
+-- how a case was closed after what is said of it, if it was: `, closed 2025-11-03 settled`
+abbrev pub and_closed_text : Option Closure → List ℕ
+and_closed_text None = []
+and_closed_text (Some c) = codes ", closed " ++ day_text c.dated ++ codes " " ++ closing_word c.why
 
 -- `case 1 filed 2025-03-03`
 abbrev pub case_line : Sheet → List ℕ
-case_line s = codes "case " ++ decimal s.case ++ codes " filed " ++ day_text s.filed ++ (10 ∷ [])
+case_line s = codes "case " ++ decimal s.case ++ codes " filed " ++ day_text s.filed ++ and_closed_text s.closed ++ (10 ∷ [])
 
--- the line of the case, then its deadlines, then its motions
+-- to whom a case is referred after who has it, if it is: `, referred to Cole`
+abbrev pub referred_text : (names : List (List ℕ)) → Option ℕ → List ℕ
+referred_text names None = []
+referred_text names (Some judge) = codes ", referred to " ++ name_of names judge
+
+-- `Ames, referred to Cole`
+abbrev pub assigned_text : (names : List (List ℕ)) → Assignment → List ℕ
+assigned_text names a = name_of names a.judge ++ referred_text names a.referred
+
+-- the line of who has a case, if it was assigned: `assigned Ames, referred to Cole`
+abbrev pub assigned_line : (names : List (List ℕ)) → Option Assignment → List ℕ
+assigned_line names None = []
+assigned_line names (Some a) = codes "assigned " ++ assigned_text names a ++ 10 ∷ []
+
+-- the line of the case, then who has it, then its deadlines, then its motions
 unfoldable pub sheet_lines : CourtView → Sheet → List ℕ
 sheet_lines court s =
-    case_line s ++ flat_map (deadline_line court.clock) s.deadlines ++ flat_map (motion_lines court) s.motions
+    case_line s ++ assigned_line court.judges s.assigned ++ flat_map (deadline_line court.clock) s.deadlines ++ flat_map (motion_lines court) s.motions

@@ -10,7 +10,7 @@ use rule_periods::{Entered, Length, Period};
 use rule6::Act;
 use std::alloc::AllocError;
 
-/// Adds the code of a period that the Rules set, the five words of one that a court enters, or the two of a day that an order sets.
+/// Adds the code of a period that the Rules set, the five words of one that a court enters, or the two of an end that an order sets.
 #[tactic(auto, unfolding(crate::specs::Periods::period_text))]
 pub(crate) fn push_period(text: &mut String, period: &Period) -> Result<(), AllocError>
     ensures { OnOk result (AddsText text.old text.new (period_text period.now)) }
@@ -21,7 +21,9 @@ pub(crate) fn push_period(text: &mut String, period: &Period) -> Result<(), Allo
     }
 }
 
-fn push_entered(text: &mut String, entered: &Entered) -> Result<(), AllocError>
+/// Adds the five words of a period that a court enters, or the two of an end that an order sets, as rows name it. `Err` says that
+/// memory ran out.
+pub fn push_entered(text: &mut String, entered: &Entered) -> Result<(), AllocError>
     ensures { OnOk result (AddsText text.old text.new (entered_text entered.now)) }
 {
     if entered.length.is_set() {
@@ -31,7 +33,7 @@ fn push_entered(text: &mut String, entered: &Entered) -> Result<(), AllocError>
     }
 }
 
-/// Adds the two words of a day that an order sets.
+/// Adds the two words of an end that an order sets.
 fn push_set(text: &mut String, entered: &Entered) -> Result<(), AllocError>
     ensures { OnOk result (AddsText text.old text.new (set_text entered.now)) }
 {
@@ -67,7 +69,7 @@ fn push_length(text: &mut String, length: Length) -> Result<(), AllocError>
             push_number(text, u64::from(hours))?;
             text.push_str("h")
         }
-        Length::ToDay => text.push_str("set"),
+        Length::ToDay | Length::ToTime => text.push_str("set"),
     }
 }
 

@@ -30,6 +30,7 @@ fn push_detail(text: &mut String, refusal: &Refusal) -> Result<(), AllocError>
         Refusal::RoomBusy(case, motion) => push_motion(text, *case, *motion),
         Refusal::HearingThatDay(case, motion) => push_motion(text, *case, *motion),
         Refusal::NoticeLost(case, motion) => push_motion(text, *case, *motion),
+        Refusal::HearingAhead(case, motion) => push_motion(text, *case, *motion),
         _ => Ok(()),
     }
 }

@@ -1,1 +1,3 @@
+pub mod CallerLemmas
 pub mod EscapingLemmas
+pub mod MarkupLemmas

@@ -13,6 +13,7 @@ pub use process::{Ended, run_on_process};
 pub use program::Program;
 pub use run::run_program;
 pub use texts::{
-    DaySaid, case_option, case_said, day_option, day_said, number_of, said_option, text_argument,
-    today_by, weekdays_come_next, with_needed, with_source, with_subcommand, with_text,
+    DaySaid, case_option, case_said, day_option, day_said, days_option, number_of, said_option,
+    text_argument, today_by, weekdays_come_next, with_needed, with_source, with_subcommand,
+    with_text,
 };

@@ -11,4 +11,4 @@ pub use argument::{text_argument, with_needed, with_source, with_subcommand, wit
 pub use days::{DaySaid, day_said, today_by};
 pub use laws::weekdays_come_next;
 pub use numbers::number_of;
-pub use taken::{case_option, case_said, day_option, said_option};
+pub use taken::{case_option, case_said, day_option, days_option, said_option};

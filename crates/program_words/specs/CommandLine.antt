@@ -78,9 +78,21 @@ sheet_line = with_rule (with_rule (with_source (new_app (codes "sheet"))) (text_
 abbrev pub check_line : App
 check_line = with_rule (with_rule (with_rule (new_app (codes "check")) (place_rule (codes "file"))) (text_rule (codes "today"))) (flag_rule (codes "capital"))
 
+-- the names of a court's judges and rooms, each in a file
+abbrev pub with_names : App → App
+with_names line = with_rule (with_rule line (text_rule (codes "judges"))) (text_rule (codes "rooms"))
+
+-- from when to when its clerk's office is open
+abbrev pub with_opening : App → App
+with_opening line = with_rule (with_rule line (text_rule (codes "opens"))) (text_rule (codes "closes"))
+
+-- its hours: these, and to when electronic filing runs
+abbrev pub with_hours : App → App
+with_hours line = with_rule (with_opening line) (text_rule (codes "efiling-until"))
+
 -- the names and the hours that a court has of its own
 abbrev pub with_own : App → App
-with_own line = with_rule (with_rule (with_rule (with_rule line (text_rule (codes "judges"))) (text_rule (codes "rooms"))) (text_rule (codes "opens"))) (text_rule (codes "closes"))
+with_own line = with_hours (with_names line)
 
 abbrev pub write_line : App
 write_line = with_own (with_rule (with_rule (with_rule (new_app (codes "write")) (needed_rule (codes "court"))) (needed_rule (codes "from"))) (needed_rule (codes "to")))

@@ -148,13 +148,15 @@ pub record IsWriting (given : List Row) (writing : Writing) : Type 0 where
   pub to : option_and_then year_of (first_of (codes "to") given) ≡ Some writing.to
   pub opens : writing.opens ≡ option_and_then minute_of_text (first_of (codes "opens") given)
   pub closes : writing.closes ≡ option_and_then minute_of_text (first_of (codes "closes") given)
+  pub efiling_until : writing.efiling_until ≡ option_and_then minute_of_text (first_of (codes "efiling-until") given)
   pub judges : option_map string_bytes writing.judges ≡ first_of (codes "judges") given
   pub rooms : option_map string_bytes writing.rooms ≡ first_of (codes "rooms") given
 
 abbrev pub writing_faults : List Row → Kinds
 writing_faults given =
     or_else (or_else (faults_reading year_of (first_of (codes "from") given)) (faults_reading year_of (first_of (codes "to") given)))
-    (or_else (faults_if_given minute_of_text (first_of (codes "opens") given)) (faults_if_given minute_of_text (first_of (codes "closes") given)))
+    (or_else (or_else (faults_if_given minute_of_text (first_of (codes "opens") given)) (faults_if_given minute_of_text (first_of (codes "closes") given)))
+    (faults_if_given minute_of_text (first_of (codes "efiling-until") given)))
 
 -- years that are added to a court's file
 pub record IsUpdating (given : List Row) (updating : Updating) : Type 0 where
@@ -211,6 +213,18 @@ is_narrowed given = ((is_some (first_of (codes "judge") given) || is_some (first
 abbrev pub lines_alone_faults : List Row → Kinds
 lines_alone_faults given = faults_together (is_flag (first_of (codes "lines") given)) (is_narrowed given)
 
+-- other days are said, or only what is overdue is asked for
+abbrev pub has_other_days : List Row → Bool
+has_other_days given = (is_some (first_of (codes "from") given) || is_some (first_of (codes "to") given)) || is_flag (first_of (codes "overdue") given)
+
+-- so many days from today on, as `--days` says them, don't go with other days
+abbrev pub days_alone_faults : List Row → Kinds
+days_alone_faults given = faults_together (is_some (first_of (codes "days") given)) (has_other_days given)
+
+-- the faults of options that don't go together
+abbrev pub apart_faults : List Row → Kinds
+apart_faults given = or_else (lines_alone_faults given) (days_alone_faults given)
+
 -- The places of a sheet are those of a folder and a case; where an input is given, the first is that of the case.
 abbrev pub sheet_folder : (first second input : Option Text) → Option Text
 sheet_folder first second None = first
@@ -246,6 +260,7 @@ sheet_asked clock_time case = record {
   stamp = None;
   clock_time = clock_time;
   lines = false;
+  overdue = false;
 }
 
 -- ---- the subcommands
@@ -265,7 +280,8 @@ IsTask clock_time sub.Check name given (task.Check folder) = IsText (codes "fold
 IsTask clock_time sub.Rows name given (task.Rows folder as_of) = IsText (codes "folder") given folder × (as_of ≡ as_of_in clock_time given)
 IsTask clock_time sub.Log name given (task.Log folder asked) = IsText (codes "folder") given folder × IsLog clock_time given asked
 IsTask clock_time sub.Report name given (task.Report of asked) = IsSource clock_time given of × IsReportAsked name given asked × (asked.clock_time ≡ clock_time)
-IsTask clock_time sub.Memo name given (task.Memo of asked) = IsSource clock_time given of × IsMemoAsked given asked
+IsTask clock_time sub.Memo name given (task.Memo of asked) =
+    IsSource clock_time given of × IsMemoAsked given asked × (asked.clock_time ≡ clock_time) × (asked.html ≡ has (codes "html") given)
 IsTask clock_time sub.Sheet name given (task.Report of asked) =
     IsSheetSource clock_time given of × (asked ≡ sheet_asked clock_time (option_and_then case_called (case_given given)))
 IsTask clock_time sub.CourtCheck name given (task.CourtCheck file asked shown) =
@@ -294,7 +310,7 @@ faults_given sub.Cases given = kept_faults given
 faults_given sub.Check given = faults_without (first_of (codes "folder") given)
 faults_given sub.Rows given = kept_faults given
 faults_given sub.Log given = or_else (faults_without (first_of (codes "folder") given)) (log_faults given)
-faults_given sub.Report given = or_else (report_source_faults given) (or_else (lines_alone_faults given) (report_faults given))
+faults_given sub.Report given = or_else (report_source_faults given) (or_else (apart_faults given) (report_faults given))
 faults_given sub.Memo given = or_else (report_source_faults given) (memo_faults given)
 faults_given sub.Sheet given = or_else (sheet_source_faults given) (faults_reading case_called (case_given given))
 faults_given sub.Court given = MissingRequiredArgument ∷ []

@@ -2,7 +2,7 @@
 
 ghost use Rattle.std.specs.Prelude.{◌≡◌, codes, IfOk};
 ghost use Rattle.clap.specs.Words.{app_of, new_app};
-ghost use Rattle.program_words.specs.CommandLine.{change_line, check_line, court_line, update_line, with_own, with_taking, write_line};
+ghost use Rattle.program_words.specs.CommandLine.{change_line, check_line, court_line, update_line, with_hours, with_names, with_opening, with_own, with_taking, write_line};
 
 use crate::command::bare;
 use crate::folder_commands::{of_folder, with_wait};
@@ -52,6 +52,8 @@ const ROOMS: &str = "A file with the rooms' names, one a line";
 const OPENS: &str = "When the clerk's office opens (08:30)";
 
 const CLOSES: &str = "When it closes (17:00)";
+
+const EFILING_UNTIL: &str = "To when e-filing runs, by a local rule (midnight)";
 
 const UPDATE: &str = "Add years to a folder's court's file, if no answer changes by it";
 
@@ -116,10 +118,32 @@ fn write<'a>(alloc: Global, names: &'a str) -> Result<Command<'a>, AllocError>
 fn with_own<'a>(alloc: Global, command: Command<'a>) -> Result<Command<'a>, AllocError>
     ensures { IfOk result (λ whole. app_of whole ≡ with_own (app_of command.entry)) }
 {
+    let command = with_names(alloc, command)?;
+    with_hours(alloc, command)
+}
+
+/// The command, which also takes a file with the names of judges, and one with those of rooms.
+fn with_names<'a>(alloc: Global, command: Command<'a>) -> Result<Command<'a>, AllocError>
+    ensures { IfOk result (λ whole. app_of whole ≡ with_names (app_of command.entry)) }
+{
     let command = with_text(alloc, command, "judges", "FILE", JUDGES)?;
-    let command = with_text(alloc, command, "rooms", "FILE", ROOMS)?;
+    with_text(alloc, command, "rooms", "FILE", ROOMS)
+}
+
+/// The command, which also takes from when to when the clerk's office is open.
+fn with_opening<'a>(alloc: Global, command: Command<'a>) -> Result<Command<'a>, AllocError>
+    ensures { IfOk result (λ whole. app_of whole ≡ with_opening (app_of command.entry)) }
+{
     let command = with_text(alloc, command, "opens", "HH:MM", OPENS)?;
     with_text(alloc, command, "closes", "HH:MM", CLOSES)
+}
+
+/// The command, which also takes the hours of the clerk's office, and to when electronic filing runs.
+fn with_hours<'a>(alloc: Global, command: Command<'a>) -> Result<Command<'a>, AllocError>
+    ensures { IfOk result (λ whole. app_of whole ≡ with_hours (app_of command.entry)) }
+{
+    let command = with_opening(alloc, command)?;
+    with_text(alloc, command, "efiling-until", "HH:MM", EFILING_UNTIL)
 }
 
 /// The command, which also takes whether a file is taken though answers differ, and how long to wait for others.

@@ -51,12 +51,14 @@ fn writing_in(alloc: Global, given: &ArgMatches<'_>) -> Result<Writing, OptionsF
         minute_if_given(alloc, given, "opens", "--opens <HH:MM>"),
         minute_if_given(alloc, given, "closes", "--closes <HH:MM>"),
     );
-    let ((from, to), (opens, closes)) = both(years, hours)?;
+    let efiling_until = minute_if_given(alloc, given, "efiling-until", "--efiling-until <HH:MM>");
+    let ((from, to), ((opens, closes), efiling_until)) = both(years, both(hours, efiling_until))?;
     Ok(Writing {
         from,
         to,
         opens,
         closes,
+        efiling_until,
         judges: text_if_given(alloc, given, "judges")?,
         rooms: text_if_given(alloc, given, "rooms")?,
     })

@@ -161,6 +161,8 @@ pub struct Writing {
     pub opens: Option<u16>,
     /// When it closes.
     pub closes: Option<u16>,
+    /// To when electronic filing runs on a last day.
+    pub efiling_until: Option<u16>,
     /// A file with the names of judges.
     pub judges: Option<String>,
     /// A file with the names of rooms.

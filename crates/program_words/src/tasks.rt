@@ -5,7 +5,7 @@ ghost use Rattle.clap.specs.Words.{Text, first_of, found_of, rows_of};
 ghost use Rattle.program_main.specs.Options.Words.{IsAnswerFor};
 ghost use Rattle.program_words.specs.declared.subcommand.Subcommand.{Subcommand};
 ghost use Rattle.program_words.specs.Given.{faults_without};
-ghost use Rattle.program_words.specs.Task.{IsCorrecting, IsSheetSource, IsSource, IsSourceOf, IsTask, correcting_faults, faults_given, is_narrowed, lines_alone_faults, report_source_faults, sheet_asked, sheet_case, sheet_folder, sheet_source_faults, source_faults};
+ghost use Rattle.program_words.specs.Task.{IsCorrecting, IsSheetSource, IsSource, IsSourceOf, IsTask, apart_faults, correcting_faults, days_alone_faults, faults_given, has_other_days, is_narrowed, lines_alone_faults, report_source_faults, sheet_asked, sheet_case, sheet_folder, sheet_source_faults, source_faults};
 
 use crate::as_of::report_as_of;
 use crate::given::{apart, both, has_flag, is_given, mistake, needed, text_in};
@@ -21,6 +21,10 @@ use std::alloc::Global;
 // What is said where answers as lines are to be narrowed.
 const ALL_ANSWERS: &str =
     "'--lines' gives the answers of all rows, and doesn't go with '--judge <NAME>', '--case <N>', '--from <DAY>' or '--to <DAY>'";
+
+// What is said where days that count from today are given beside others.
+const OTHER_DAYS: &str =
+    "the argument '--days <N>' cannot be used with '--from <DAY>', '--to <DAY>' or '--overdue'";
 
 /// The folder.
 pub(crate) fn folder_in(alloc: Global, given: &ArgMatches<'_>) -> Result<String, OptionsFault>
@@ -163,6 +167,32 @@ fn lines_alone(alloc: Global, given: &ArgMatches<'_>) -> Result<(), OptionsFault
     )
 }
 
+/// Whether other days are said, or only what is overdue is asked for.
+fn has_other_days(given: &ArgMatches<'_>) -> bool
+    ensures { result ≡ has_other_days (rows_of (found_of given.now)) }
+{
+    is_given(given, "from") || is_given(given, "to") || has_flag(given, "overdue")
+}
+
+/// Whether so many days from today on are given with no other days. BadWords where others are said too.
+fn days_alone(alloc: Global, given: &ArgMatches<'_>) -> Result<(), OptionsFault>
+    ensures { IsAnswerFor (days_alone_faults (rows_of (found_of given.now))) result }
+{
+    apart(
+        alloc,
+        is_given(given, "days"),
+        has_other_days(given),
+        OTHER_DAYS,
+    )
+}
+
+/// Whether no two options are given that don't go together. BadWords where there are two.
+fn options_apart(alloc: Global, given: &ArgMatches<'_>) -> Result<((), ()), OptionsFault>
+    ensures { IsAnswerFor (apart_faults (rows_of (found_of given.now))) result }
+{
+    both(lines_alone(alloc, given), days_alone(alloc, given))
+}
+
 /// A report of that name, at the clock's time.
 pub(crate) fn report(
     alloc: Global,
@@ -176,7 +206,7 @@ pub(crate) fn report(
     let (source, (_, asked)) = both(
         source_in(alloc, clock_time, given),
         both(
-            lines_alone(alloc, given),
+            options_apart(alloc, given),
             report_program::asked_by(alloc, clock_time, name, given),
         ),
     )?;
@@ -192,9 +222,10 @@ pub(crate) fn memo(
     ensures task { (name : Text) → IfOk result (IsTask clock_time Subcommand.Memo name (rows_of (found_of given.now))) }
     ensures faults { IsAnswerFor (faults_given Subcommand.Memo (rows_of (found_of given.now))) result }
 {
+    let html = has_flag(given, "html");
     let (source, asked) = both(
         source_in(alloc, clock_time, given),
-        report_memo::asked_by(alloc, given),
+        report_memo::asked_by(alloc, clock_time, html, given),
     )?;
     Ok(Task::Memo(source, asked))
 }
@@ -214,6 +245,7 @@ fn sheet_asked(clock_time: Instant, case: CaseCalled) -> Asked
         stamp: None,
         clock_time,
         lines: false,
+        overdue: false,
     }
 }
 

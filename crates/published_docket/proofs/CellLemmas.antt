@@ -11,7 +11,8 @@ use Rattle.std.proofs.lemmas.List.FromFn.{get_or-range_with_len, length-range_wi
 use Rattle.std.proofs.lemmas.Option.{slice_get-get_or}
 use Rattle.hearing_slots.proofs.CallerLemmas.{find-Some}
 use Rattle.docket_rows.specs.declared.command.Command.{Command}
-use Rattle.docket_rows.specs.declared.command.Command.TheVariants.{OpenCase, Start, FileAct, Extend, Motion, Book, MoveHearing, Cancel, Holiday, Inaccessible}
+use Rattle.docket_rows.specs.declared.command.Command.TheVariants.{OpenCase, Start, FileAct, Extend, Motion, Book, MoveHearing, Cancel, Holiday, Inaccessible, Fact}
+use Rattle.docket_rows.specs.declared.fact.Fact.TheVariants.{Ended, Resumed, Closed, Reopened, Ruled, Assigned, Titled, Labelled}
 use Rattle.docket_rows.specs.declared.hearing.Hearing.{Hearing}
 use Rattle.docket_rows.specs.declared.part.PartId.{PartId}
 use Rattle.docket_rows.specs.declared.part.PartId.TheVariants.{Court, Judge, Room, Case}
@@ -120,6 +121,16 @@ module _ (setup : CourtSetup) (small : IsSmall setup) where
   wanted_have parts (Cancel case motion) = about_has case (calendars_now setup parts case motion) (now_have parts case motion)
   wanted_have parts (Holiday day list) = court_and (map Judge (range_with_len 0 setup.judges)) all_judges_have
   wanted_have parts (Inaccessible day from to) = court_and [] (All-nil HasCell)
+  wanted_have parts (Fact case (Ended deadline why dated)) = about_has case (Court ∷ []) (court_and [] (All-nil HasCell))
+  wanted_have parts (Fact case (Resumed deadline dated)) = about_has case (Court ∷ []) (court_and [] (All-nil HasCell))
+  wanted_have parts (Fact case (Closed why dated)) = about_has case (Court ∷ []) (court_and [] (All-nil HasCell))
+  wanted_have parts (Fact case (Reopened dated)) = about_has case (Court ∷ []) (court_and [] (All-nil HasCell))
+  wanted_have parts (Fact case (Ruled motion how dated)) =
+      let now = calendars_now setup parts case motion in
+      about_has case (Court ∷ now) (court_and now (now_have parts case motion))
+  wanted_have parts (Fact case (Assigned judge referred dated)) = about_has case (Court ∷ []) (court_and [] (All-nil HasCell))
+  wanted_have parts (Fact case Titled) = about_has case (Court ∷ []) (court_and [] (All-nil HasCell))
+  wanted_have parts (Fact case (Labelled counted number)) = about_has case (Court ∷ []) (court_and [] (All-nil HasCell))
 
   next_has : (command : Command) (reads : List (PartId × PartValue)) (part : PartId) → next_part setup command reads ≡ Some part → HasCell part
   unfolding next_part

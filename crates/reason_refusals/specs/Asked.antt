@@ -9,7 +9,7 @@ use Rattle.docket_rows.specs.declared.command.Counted.TheVariants.{Deadline, Mot
 use Rattle.docket_rows.specs.declared.command.Subject.{Subject}
 use Rattle.docket_rows.specs.declared.hearing.Setting.{Setting}
 use Rattle.docket_rows.specs.declared.refusal.Refusal.{Refusal}
-use Rattle.docket_rows.specs.declared.refusal.Refusal.TheVariants.{JudgeBusy, RoomBusy, HearingThatDay, NoticeLost}
+use Rattle.docket_rows.specs.declared.refusal.Refusal.TheVariants.{JudgeBusy, RoomBusy, HearingThatDay, NoticeLost, HearingAhead}
 use Rattle.docket_rows.specs.Words.{subject_of}
 
 -- the case and the number of what a command names, where it is a deadline
@@ -43,4 +43,5 @@ motion_of_refusal command (JudgeBusy case motion) = Some (case, motion)
 motion_of_refusal command (RoomBusy case motion) = Some (case, motion)
 motion_of_refusal command (HearingThatDay case motion) = Some (case, motion)
 motion_of_refusal command (NoticeLost case motion) = Some (case, motion)
+motion_of_refusal command (HearingAhead case motion) = Some (case, motion)
 motion_of_refusal command refusal = motion_of_setting (setting_asked command)

@@ -9,11 +9,11 @@ use Rattle.rule_periods.specs.declared.period.Period.TheVariants as period
 use Rattle.rule_periods.specs.declared.rule.RulePeriod.{RulePeriod}
 use Rattle.rule_periods.specs.Words.{is_given, is_kind_for, is_kind_for_entered, service_rule_of}
 use Rattle.docket_rows.specs.declared.command.Command.{Command}
-use Rattle.docket_rows.specs.declared.command.Command.TheVariants.{Start, Extend, Motion, Book, MoveHearing, Holiday, Inaccessible}
+use Rattle.docket_rows.specs.declared.command.Command.TheVariants.{Start, Extend, Motion, Book, MoveHearing, Holiday, Inaccessible, Fact}
 use Rattle.docket_rows.specs.declared.query.Query.{Query}
 use Rattle.docket_rows.specs.declared.query.Query.TheVariants.{Compute}
 use Rattle.docket_rows.specs.declared.refusal.Refusal.{Refusal}
-use Rattle.docket_rows.specs.declared.refusal.Refusal.TheVariants.{NoSuchCase, CaseIsOpen, NoSuchDeadline, NoSuchMotion, BadDay, BadLength, WrongService, Beyond, AlreadySet, NotSet, AlreadyHoliday, Full, NoSuchJudge, NoSuchRoom, BadPanel}
+use Rattle.docket_rows.specs.declared.refusal.Refusal.TheVariants.{NoSuchCase, CaseIsOpen, NoSuchDeadline, NoSuchMotion, BadDay, BadLength, WrongService, Beyond, AlreadySet, NotSet, AlreadyHoliday, Full, NoSuchJudge, NoSuchRoom, BadPanel, CaseIsClosed, NotClosed, AlreadyEnded, NotEnded}
 use Rattle.docket_rows.specs.declared.sheet.SheetMotion.{SheetMotion}
 use Rattle.reason_texts.specs.Words.{note_line}
 use Rattle.reason_refusals.specs.Hearings.{taken_line}
@@ -50,7 +50,13 @@ full_lines (Extend case deadline request) = ours_line (codes "a deadline has 32 
 full_lines (Motion case served need) = ours_line (codes "a case has 64 motions at most")
 full_lines (Holiday day list) = ours_line (codes "a list of holidays has 4096 dates at most")
 full_lines (Inaccessible day from to) = ours_line (codes "the docket has 512 outages at most")
+full_lines (Fact case fact) = ours_line (codes "a case has 512 such rows at most")
 full_lines command = []
+
+-- who is named twice: a judge of a panel, or the judge to whom a case is referred
+abbrev pub panel_words : Command → List ℕ
+panel_words (Fact case fact) = codes "the case is referred to the judge who has it"
+panel_words command = codes "a panel is one to three judges, each once"
 
 -- a kind of service is given and none is taken, or one is taken and none given
 abbrev pub kind_words : Option ServiceKind → List ℕ
@@ -105,7 +111,11 @@ range_lines c command called motion NotSet = ours_line (codes "the motion has no
 range_lines c command called motion AlreadyHoliday = listed_lines command
 range_lines c command called motion NoSuchJudge = ours_line (codes "the court's file names no such judge")
 range_lines c command called motion NoSuchRoom = ours_line (codes "the court's file names no such room")
-range_lines c command called motion BadPanel = ours_line (codes "a panel is one to three judges, each once")
+range_lines c command called motion BadPanel = ours_line (panel_words command)
+range_lines c command called motion CaseIsClosed = ours_line (codes "the case is closed; `reopen` opens it again")
+range_lines c command called motion NotClosed = ours_line (codes "the case isn't closed; `close` closes one")
+range_lines c command called motion AlreadyEnded = ours_line (codes "the deadline is ended; `resume` takes it up again")
+range_lines c command called motion NotEnded = ours_line (codes "the deadline isn't ended; `end` ends one")
 range_lines c command called motion refusal = []
 
 -- which doesn't suit the period whose end is asked for

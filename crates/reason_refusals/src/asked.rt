@@ -50,7 +50,8 @@ pub fn motion_of_refusal(command: &Command, refusal: &Refusal) -> Option<(u32, u
         Refusal::JudgeBusy(case, motion)
         | Refusal::RoomBusy(case, motion)
         | Refusal::HearingThatDay(case, motion)
-        | Refusal::NoticeLost(case, motion) => Some((case, motion)),
+        | Refusal::NoticeLost(case, motion)
+        | Refusal::HearingAhead(case, motion) => Some((case, motion)),
         _ => motion_of_setting(setting_asked(command)),
     }
 }

@@ -133,7 +133,7 @@ fn is_grant_length(grant: &Grant) -> bool
     match *grant {
         Grant::ByDays(n) => 1 <= n && n <= 3_650,
         Grant::ByHours(h) => 1 <= h && h <= 8_760,
-        Grant::Until(_) => true,
+        Grant::Until(_) | Grant::Reset(_) | Grant::ResetAt(_) => true,
     }
 }
 

@@ -3,7 +3,7 @@
 ghost use Rattle.std.specs.Prelude.{◌≡◌, ◌++◌, OnOk, None, codes, option_copied, string_bytes};
 ghost use Rattle.reason_texts.specs.Words.{note_line};
 ghost use Rattle.reason_refusals.specs.Hearings.{hours_text, lost_line, taken_line};
-ghost use Rattle.reason_refusals.specs.Lines.{refusal_lines};
+ghost use Rattle.reason_refusals.specs.Lines.{is_ordered, kept_unit_words, never_words, refusal_lines};
 
 use crate::asked::{request_asked, setting_asked};
 use crate::deadlines::{push_late, push_not_longer};
@@ -14,7 +14,7 @@ use court_days::Days;
 use docket_rows::{Command, Refusal, SheetMotion};
 use reason_notes::push_recorded;
 use reason_texts::push_note;
-use rule_periods::DeadlineRow;
+use rule_periods::{DeadlineRow, Request};
 use std::alloc::{AllocError, Global};
 
 /// Adds why a command is refused, in a line or a few: `row` is the deadline that the command is about, and `motion` the
@@ -39,7 +39,7 @@ pub fn push_refusal(
         Refusal::NotExtendable => push_note(
             text,
             None,
-            "this time must not be extended",
+            never_words(is_ordered(request_asked(command))),
             "6(b)(2)",
         ),
         Refusal::NoGoodCause => push_note(
@@ -77,7 +77,7 @@ pub fn push_refusal(
         Refusal::WrongGrant => push_note(
             text,
             None,
-            "hours are extended by hours, days by days",
+            kept_unit_words(is_ordered(request_asked(command))),
             "ours",
         ),
         Refusal::NotACourtDay => push_closed(alloc, text, days, setting_asked(command)),
@@ -92,8 +92,41 @@ pub fn push_refusal(
         Refusal::JudgeBusy(_, _) => push_taken(alloc, text, called, " has the judge, ", motion),
         Refusal::RoomBusy(_, _) => push_taken(alloc, text, called, " has the room, ", motion),
         Refusal::HearingThatDay(_, _) => push_taken(alloc, text, called, " is heard, ", motion),
+        Refusal::HearingAhead(_, _) => push_taken(alloc, text, called, " is heard, ", motion),
         Refusal::NoticeLost(_, _) => push_both(alloc, text, called, &motion),
         _ => push_range(alloc, text, days, command, called, motion, refusal),
+    }
+}
+
+/// Whether an order sets what a command asks for.
+fn is_ordered(request: Option<Request>) -> bool
+    ensures { result ≡ is_ordered request }
+{
+    match request {
+        Some(request) => request.grant.is_order(),
+        None => false,
+    }
+}
+
+/// Why a time isn't extended, or isn't reset by an order to a later end.
+fn never_words(order: bool) -> &'static str
+    ensures { result.now ≡ never_words order }
+{
+    if order {
+        "this time isn't reset to a later end"
+    } else {
+        "this time must not be extended"
+    }
+}
+
+/// That a period keeps its unit.
+fn kept_unit_words(order: bool) -> &'static str
+    ensures { result.now ≡ kept_unit_words order }
+{
+    if order {
+        "a day is reset to a day, an hour to an hour"
+    } else {
+        "hours are extended by hours, days by days"
     }
 }
 

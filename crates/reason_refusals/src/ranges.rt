@@ -1,7 +1,7 @@
 //! Why a command or a question is refused that names what there isn't, or what is out of its range.
 
 ghost use Rattle.std.specs.Prelude.{◌≡◌, ◌++◌, OnOk, string_bytes};
-ghost use Rattle.reason_refusals.specs.Ranges.{entered_words, full_lines, kind_words, length_lines, listed_lines, ours_line, query_lines, range_lines, rule_words, second_words, service_asked, service_lines, span_line, span_text, suits_line, suits_words};
+ghost use Rattle.reason_refusals.specs.Ranges.{entered_words, full_lines, kind_words, length_lines, listed_lines, ours_line, panel_words, query_lines, range_lines, rule_words, second_words, service_asked, service_lines, span_line, span_text, suits_line, suits_words};
 
 use crate::hearings::push_taken;
 use court_clock::{Day, Direction};
@@ -50,7 +50,14 @@ pub(crate) fn push_range(
         Refusal::AlreadyHoliday => push_listed(text, command),
         Refusal::NoSuchJudge => push_ours(text, NO_JUDGE),
         Refusal::NoSuchRoom => push_ours(text, "the court's file names no such room"),
-        Refusal::BadPanel => push_ours(text, "a panel is one to three judges, each once"),
+        Refusal::BadPanel => push_ours(text, panel_words(command)),
+        Refusal::CaseIsClosed => push_ours(text, "the case is closed; `reopen` opens it again"),
+        Refusal::NotClosed => push_ours(text, "the case isn't closed; `close` closes one"),
+        Refusal::AlreadyEnded => push_ours(
+            text,
+            "the deadline is ended; `resume` takes it up again",
+        ),
+        Refusal::NotEnded => push_ours(text, "the deadline isn't ended; `end` ends one"),
         _ => Ok(()),
     }
 }
@@ -131,7 +138,18 @@ fn push_full(text: &mut String, command: &Command) -> Result<(), AllocError>
         Command::Motion { .. } => push_ours(text, "a case has 64 motions at most"),
         Command::Holiday { .. } => push_ours(text, "a list of holidays has 4096 dates at most"),
         Command::Inaccessible { .. } => push_ours(text, "the docket has 512 outages at most"),
+        Command::Fact { .. } => push_ours(text, "a case has 512 such rows at most"),
         _ => Ok(()),
+    }
+}
+
+/// Who is named twice: a judge of a panel, or the judge to whom a case is referred.
+fn panel_words(command: &Command) -> &'static str
+    ensures { result.now ≡ panel_words command.now }
+{
+    match *command {
+        Command::Fact { .. } => "the case is referred to the judge who has it",
+        _ => "a panel is one to three judges, each once",
     }
 }
 

@@ -2,7 +2,7 @@
 use Rattle.std.specs.Prelude.{ℕ, ◌==◌, ℤ, List, ◌++◌, Option, Some, None, codes, if◌then◌else◌}
 use Rattle.court_clock.specs.Words.{ClockView, CivilTime, civil_of, day_text, weekday_of}
 use Rattle.rule_periods.specs.declared.grant.Grant.{Grant}
-use Rattle.rule_periods.specs.declared.grant.Grant.TheVariants.{ByDays, ByHours, Until}
+use Rattle.rule_periods.specs.declared.grant.Grant.TheVariants.{ByDays, ByHours, Until, Reset, ResetAt}
 use Rattle.deadline_reasons.specs.declared.reason.Reason.{Reason}
 use Rattle.deadline_reasons.specs.declared.reason.Reason.TheVariants as reason
 
@@ -12,6 +12,8 @@ day_of_civil None = None
 
 abbrev pub day_of_grant : Grant → Option ℤ
 day_of_grant (Until day) = Some day
+day_of_grant (Reset day) = Some day
+day_of_grant (ResetAt at) = Some at.day
 day_of_grant (ByDays n) = None
 day_of_grant (ByHours h) = None
 
@@ -25,7 +27,8 @@ day_shown clock (reason.RunsTo day) = Some day
 day_shown clock (reason.EndsOn day) = Some day
 day_shown clock (reason.Continued day second) = Some day
 day_shown clock (reason.UntilMidnight day) = Some day
-day_shown clock (reason.UntilClosing day minute) = Some day
+day_shown clock (reason.UntilClosing day closes until) = Some day
+day_shown clock (reason.SetAt instant) = day_of_civil (civil_of clock.zone instant)
 day_shown clock (reason.HoursFrom instant) = day_of_civil (civil_of clock.zone instant)
 day_shown clock (reason.HoursCounted h instant forward) = day_of_civil (civil_of clock.zone instant)
 day_shown clock (reason.SameTime day instant) = day_of_civil (civil_of clock.zone instant)

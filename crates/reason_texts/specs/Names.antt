@@ -1,6 +1,7 @@
 -- Names of holidays.
-use Rattle.std.specs.Prelude.{ℕ, ℤ, true, List, [], ◌∷◌, ◌++◌, Option, Some, None, codes, if◌then◌else◌}
+use Rattle.std.specs.Prelude.{ℕ, ℤ, Bool, true, false, ◌||◌, List, [], ◌∷◌, ◌++◌, Option, Some, None, codes, if◌then◌else◌}
 use Rattle.std.specs.Ordering.{int_eq}
+use Rattle.std.specs.Str.{bytes_eq}
 use Rattle.court_holidays.specs.declared.federal.statute.FederalHoliday.{FederalHoliday}
 use Rattle.court_holidays.specs.declared.federal.statute.FederalHoliday.TheVariants.{Juneteenth}
 use Rattle.court_holidays.specs.Federal.Words.{holiday_on, observed_on, statute_name}
@@ -33,3 +34,13 @@ set_text None other = other
 -- what a day of the federal list is called by law; a court that has Inauguration Day in its list keeps it
 abbrev pub legal_text : ℤ → List ℕ
 legal_text day = set_text (holiday_on day true) (observed_text (observed_on day))
+
+-- a name is that of the holiday, as the statute or we call it
+abbrev pub is_name_of : Option FederalHoliday → (name : List ℕ) → Bool
+is_name_of None name = false
+is_name_of (Some holiday) name = bytes_eq name (statute_name holiday) || bytes_eq name (short_name holiday)
+
+-- The name that a court's file gives a day of the federal list. Where the holiday of that name is observed on the day in place of
+-- the day set by law, that is said too.
+abbrev pub federal_name : (day : ℤ) → (name : List ℕ) → List ℕ
+federal_name day name = if is_name_of (observed_on day) name then name ++ codes ", observed" else name

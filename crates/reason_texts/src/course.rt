@@ -1,11 +1,11 @@
 //! For what a day is looked for, which decides the section that a reason cites.
 
 ghost use Rattle.std.specs.Prelude.{◌≡◌};
-ghost use Rattle.reason_texts.specs.Course.{course_after, course_of, first_day, is_summons, right_from_of};
+ghost use Rattle.reason_texts.specs.Course.{course_after, course_of, first_day, is_summons, right_from_of, search_after};
 
 use court_clock::{Day, Direction};
 use deadline_reasons::Reason;
-use rule_periods::{Period, RulePeriod};
+use rule_periods::{Grant, Period, RulePeriod};
 
 /// For what a day is looked for.
 #[derive(Clone, Copy, Debug, PartialEq, Eq)]
@@ -18,6 +18,8 @@ pub enum Search {
     AccessibleDay,
     /// The same time on an accessible day (6(a)(3)(B)).
     AccessibleHour,
+    /// None: an order sets the time at which the period ends (2009 Note to 6(a)).
+    NoDay,
 }
 
 /// How far the reasons of a deadline have come.
@@ -51,16 +53,25 @@ impl Course {
         ensures { result ≡ course_after self.now reason.now }
     {
         match *reason {
-            Reason::ThreeAdded(_) | Reason::Extended(_) => self.towards_later(Search::LastDay),
-            Reason::Continued(_, _) => Course {
-                search: Search::SameTime,
-                direction: self.direction,
-                summons: self.summons,
-                right_from: self.right_from,
-            },
+            Reason::ThreeAdded(_) => self.towards_later(Search::LastDay),
+            Reason::Extended(grant) => self.towards_later(search_after(grant)),
+            Reason::SetAt(_) => self.looking_for(Search::NoDay),
+            Reason::Continued(_, _) => self.looking_for(Search::SameTime),
             Reason::Inaccessible(_) => self.towards_later(Search::AccessibleDay),
             Reason::LastHour(_, _, _) => self.towards_later(Search::AccessibleHour),
             _ => *self,
+        }
+    }
+
+    /// The course where a day is looked for in the same direction.
+    fn looking_for(&self, search: Search) -> Course
+        ensures { result ≡ record { search = search; direction = self.now.direction; summons = self.now.summons; right_from = self.now.right_from } }
+    {
+        Course {
+            search,
+            direction: self.direction,
+            summons: self.summons,
+            right_from: self.right_from,
         }
     }
 
@@ -74,6 +85,16 @@ impl Course {
             summons: self.summons,
             right_from: self.right_from,
         }
+    }
+}
+
+/// For what a day is looked for once this is granted: for none where an order sets a time.
+fn search_after(grant: Grant) -> Search
+    ensures { result ≡ search_after grant }
+{
+    match grant {
+        Grant::ResetAt(_) => Search::NoDay,
+        _ => Search::LastDay,
     }
 }
 

@@ -23,8 +23,9 @@ pub fn day_shown(clock: &Clock, reason: &Reason) -> Option<Day>
         | Reason::EndsOn(day)
         | Reason::Continued(day, _)
         | Reason::UntilMidnight(day)
-        | Reason::UntilClosing(day, _) => Some(day),
-        Reason::HoursFrom(instant)
+        | Reason::UntilClosing(day, _, _) => Some(day),
+        Reason::SetAt(instant)
+        | Reason::HoursFrom(instant)
         | Reason::HoursCounted(_, instant, _)
         | Reason::SameTime(_, instant)
         | Reason::UntilInstant(instant) => day_at(clock, instant),
@@ -44,12 +45,13 @@ fn day_at(clock: &Clock, instant: Instant) -> Option<Day>
     }
 }
 
-/// The date certain of an extension to one.
+/// The date certain of an extension to one, or the day that an order sets.
 fn day_of_grant(grant: Grant) -> Option<Day>
     ensures { result ≡ day_of_grant grant }
 {
     match grant {
-        Grant::Until(day) => Some(day),
+        Grant::Until(day) | Grant::Reset(day) => Some(day),
+        Grant::ResetAt(at) => Some(at.day()),
         Grant::ByDays(_) | Grant::ByHours(_) => None,
     }
 }

@@ -1,7 +1,7 @@
 //! Names of holidays.
 
 ghost use Rattle.std.specs.Prelude.{◌≡◌, ◌++◌, OnOk, option_copied, string_bytes};
-ghost use Rattle.reason_texts.specs.Names.{legal_text, name_on, observed_text, short_name};
+ghost use Rattle.reason_texts.specs.Names.{federal_name, is_name_of, legal_text, name_on, observed_text, short_name};
 ghost use Rattle.court_holidays.specs.Federal.Words.{observed_on};
 
 use court_clock::Day;
@@ -84,6 +84,39 @@ fn push_observed(text: &mut String, day: Day) -> Result<(), AllocError>
             text.push_str(", observed")
         }
         None => text.push_str("legal holiday"),
+    }
+}
+
+/// Adds the name that a court's file gives a day of the federal list, and that the holiday is observed where it is that of another
+/// day, which is a Saturday or a Sunday.
+pub(crate) fn push_federal_name(text: &mut String, day: Day, name: &str) -> Result<(), AllocError>
+    ensures { OnOk result (string_bytes text.new ≡ string_bytes text.old ++ federal_name day name.now) }
+{
+    text.push_str(name)?;
+    if is_observed(day, name) {
+        text.push_str(", observed")
+    } else {
+        Ok(())
+    }
+}
+
+/// Whether a name is that of the holiday which is observed on the day in place of another day.
+fn is_observed(day: Day, name: &str) -> bool
+    ensures { result ≡ is_name_of (observed_on day) name.now }
+{
+    is_name_of(observed_on(day), name)
+}
+
+/// Whether a name is that of the holiday, as the statute calls it or as it is called where another word follows.
+fn is_name_of(holiday: Option<FederalHoliday>, name: &str) -> bool
+    ensures { result ≡ is_name_of holiday name.now }
+{
+    match holiday {
+        Some(holiday) => {
+            name.as_bytes() == holiday.name().as_bytes()
+                || name.as_bytes() == short_name(holiday).as_bytes()
+        }
+        None => false,
     }
 }
 

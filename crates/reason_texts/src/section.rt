@@ -1,11 +1,12 @@
 //! The section of the Federal Rules of Civil Procedure by which a reason goes.
 
 ghost use Rattle.std.specs.Prelude.{◌≡◌, ◌++◌, OnOk, string_bytes};
-ghost use Rattle.reason_texts.specs.Section.{extended_by, holiday_section, looked_by, section_of, section_text};
+ghost use Rattle.reason_texts.specs.Section.{instant_section, extended_by, granted_by, holiday_section, looked_by, section_of, section_text};
 
 use crate::course::{Course, Search};
 use court_clock::Direction;
 use deadline_reasons::{Cause, Reason};
+use rule_periods::Grant;
 use std::alloc::AllocError;
 
 /// Adds the section by which a reason goes, and for a holiday that which says what one is. `Err` says that memory ran out.
@@ -22,19 +23,18 @@ fn section_of(course: &Course, reason: &Reason) -> &'static str
 {
     match *reason {
         Reason::Excluded(_) => "6(a)(1)(A)",
-        // The Committee Note says that 6(a) doesn't apply where a time is fixed.
-        Reason::Set(_) => "6(a), 2009 Note",
+        Reason::Set(_) | Reason::SetAt(_) => "6(a), 2009 Note",
         Reason::Counted(_, _) => "6(a)(1)(B)",
         Reason::PassedOver(_, _) | Reason::RunsTo(_) | Reason::SameTime(_, _) => looked_by(course),
         Reason::ThreeAdded(_) => "6(d)",
-        Reason::Extended(_) | Reason::NotExtended(_) => extended_by(course.summons),
+        Reason::Extended(grant) | Reason::NotExtended(grant) => granted_by(course.summons, grant),
         Reason::HoursFrom(_) => "6(a)(2)(A)",
         Reason::HoursCounted(_, _, _) => "6(a)(2)(B)",
         Reason::EndsOn(_) | Reason::Continued(_, _) => "6(a)(2)(C)",
         Reason::Inaccessible(_) => "6(a)(3)(A)",
         Reason::LastHour(_, _, _) => "6(a)(3)(B)",
-        Reason::UntilClosing(_, _) => "6(a)(4)",
-        Reason::UntilInstant(_) => "6(a)(2)",
+        Reason::UntilClosing(_, _, _) => "6(a)(4)",
+        Reason::UntilInstant(_) => instant_section(course.search),
         Reason::UntilMidnight(_) | Reason::NotCovered | Reason::Beyond => "ours",
     }
 }
@@ -54,6 +54,28 @@ fn looked_by(course: &Course) -> &'static str
         },
         Search::AccessibleDay => "6(a)(3)(A)",
         Search::AccessibleHour => "6(a)(3)(B)",
+        Search::NoDay => "6(a), 2009 Note",
+    }
+}
+
+/// The section by which the time ends at an instant. No hours are counted up to a time that an order sets.
+fn instant_section(search: Search) -> &'static str
+    ensures { result.now ≡ instant_section search }
+{
+    match search {
+        Search::LastDay | Search::SameTime | Search::AccessibleDay | Search::AccessibleHour =>
+            "6(a)(2)",
+        Search::NoDay => "6(a), 2009 Note",
+    }
+}
+
+/// The section of what is granted. A time that an order sets is extended by no rule.
+fn granted_by(summons: bool, grant: Grant) -> &'static str
+    ensures { result.now ≡ granted_by summons grant }
+{
+    match grant {
+        Grant::Reset(_) | Grant::ResetAt(_) => "6(a), 2009 Note",
+        _ => extended_by(summons),
     }
 }
 

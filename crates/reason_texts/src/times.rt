@@ -2,7 +2,7 @@
 
 ghost use Rattle.std.specs.Prelude.{◌≡◌, ◌++◌, OnOk, string_bytes};
 ghost use Rattle.court_clock.specs.Words.{civil_of};
-ghost use Rattle.reason_texts.specs.Times.{minute_time, second_time, time_of_civil, two_digits};
+ghost use Rattle.reason_texts.specs.Times.{day_end_time, minute_time, second_time, time_of_civil, two_digits};
 
 use court_clock::{Clock, Instant};
 use std::alloc::AllocError;
@@ -38,6 +38,17 @@ pub fn push_minute(text: &mut String, minute: u16) -> Result<(), AllocError>
     push_two_digits(text, u32::from(minute / 60))?;
     text.push_str(":")?;
     push_two_digits(text, u32::from(minute % 60))
+}
+
+/// Adds the minute at which a day ends, counted from midnight, as hours and minutes, or that it ends at midnight. `Err` says
+/// that memory ran out.
+pub fn push_day_end(text: &mut String, end: Option<u16>) -> Result<(), AllocError>
+    ensures { OnOk result (string_bytes text.new ≡ string_bytes text.old ++ day_end_time end) }
+{
+    match end {
+        Some(minute) => push_minute(text, minute),
+        None => text.push_str("midnight"),
+    }
 }
 
 /// Adds a number with at least two digits.

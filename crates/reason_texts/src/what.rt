@@ -1,10 +1,11 @@
 //! What happened, in words.
 
 ghost use Rattle.std.specs.Prelude.{◌≡◌, ◌++◌, OnOk, codes, option_copied, string_bytes};
-ghost use Rattle.reason_texts.specs.What.{cause_shown, cause_text, cause_unnamed, change_text, change_words, days_or_hours, detail_text, first_words, grant_text, hours_text, kind_text, last_words, name_of_cause, outage_text, what_text};
+ghost use Rattle.reason_texts.specs.Times.{minute_time};
+ghost use Rattle.reason_texts.specs.What.{cause_called, cause_named, cause_shown, cause_text, cause_unnamed, change_text, change_words, days_or_hours, detail_text, end_times, first_words, grant_text, grant_words, hours_text, kind_text, last_words, name_of_cause, outage_text, time_set, ungranted_words, what_text};
 
-use crate::names::{HolidayName, name_on, push_legal};
-use crate::times::{push_minute, push_time_at};
+use crate::names::{HolidayName, name_on, push_federal_name, push_legal};
+use crate::times::{push_day_end, push_minute, push_time_at};
 use court_clock::{Clock, Day, Direction, Instant};
 use court_days::Outage;
 use deadline_reasons::{Cause, Reason};
@@ -37,12 +38,13 @@ fn first_words(reason: &Reason) -> &'static str
     match *reason {
         Reason::Excluded(_) => "day of the event, excluded",
         Reason::Set(_) => "set for this day by an order",
+        Reason::SetAt(_) => "set by an order for ",
         Reason::Counted(_, _) => "day ",
         Reason::PassedOver(_, _) => "",
         Reason::RunsTo(_) => "the time runs to this day",
         Reason::ThreeAdded(_) => "3 days added, served ",
-        Reason::Extended(_) => "extended ",
-        Reason::NotExtended(_) => "not extended ",
+        Reason::Extended(grant) => grant_words(grant),
+        Reason::NotExtended(grant) => ungranted_words(grant),
         Reason::HoursFrom(_) => "the event, at ",
         Reason::HoursCounted(_, _, _) => "hour ",
         Reason::EndsOn(_) => "the hours end on this day",
@@ -50,7 +52,7 @@ fn first_words(reason: &Reason) -> &'static str
         Reason::SameTime(_, _) => "the same time, ",
         Reason::Inaccessible(_) | Reason::LastHour(_, _, _) => "clerk's office inaccessible ",
         Reason::UntilMidnight(_) => "last day, to midnight",
-        Reason::UntilClosing(_, _) => "last day, to ",
+        Reason::UntilClosing(_, _, _) => "last day, to ",
         Reason::UntilInstant(_) => "the time ends at ",
         Reason::NotCovered => "a day that is needed isn't covered",
         Reason::Beyond => "beyond the days covered",
@@ -72,13 +74,15 @@ fn push_detail(
         Reason::PassedOver(day, cause) => push_cause(text, names, day, cause),
         Reason::ThreeAdded(kind) => text.push_str(kind_words(kind)),
         Reason::Extended(grant) | Reason::NotExtended(grant) => push_grant(text, grant),
-        Reason::HoursFrom(instant) | Reason::SameTime(_, instant) | Reason::UntilInstant(instant) =>
-            push_time_at(text, clock, instant),
+        Reason::SetAt(instant)
+        | Reason::HoursFrom(instant)
+        | Reason::SameTime(_, instant)
+        | Reason::UntilInstant(instant) => push_time_at(text, clock, instant),
         Reason::HoursCounted(h, instant, forward) => push_hours(
             text, clock, direction, h, instant, forward,
         ),
         Reason::Inaccessible(outage) | Reason::LastHour(outage, _, _) => push_outage(text, outage),
-        Reason::UntilClosing(_, minute) => push_minute(text, minute),
+        Reason::UntilClosing(_, closes, until) => push_end_times(text, closes, until),
         _ => Ok(()),
     }
 }
@@ -90,7 +94,6 @@ fn last_words(reason: &Reason) -> &'static str
     match *reason {
         Reason::Counted(_, _) => ", every day counted",
         Reason::PassedOver(_, _) => ", passed over",
-        Reason::UntilClosing(_, _) => ", e-filing to midnight",
         _ => "",
     }
 }
@@ -145,7 +148,36 @@ fn push_outage(text: &mut String, outage: Outage) -> Result<(), AllocError>
     push_minute(text, outage.to())
 }
 
-/// Adds how far the time is extended.
+/// Adds when the last day ends for filing on paper, and for electronic filing.
+fn push_end_times(text: &mut String, closes: u16, until: Option<u16>) -> Result<(), AllocError>
+    ensures { OnOk result (string_bytes text.new ≡ string_bytes text.old ++ end_times closes until) }
+{
+    push_minute(text, closes)?;
+    text.push_str(", e-filing to ")?;
+    push_day_end(text, until)
+}
+
+/// What is done: the time is extended, or an order sets another end.
+fn grant_words(grant: Grant) -> &'static str
+    ensures { result.now ≡ grant_words grant }
+{
+    match grant {
+        Grant::ByDays(_) | Grant::ByHours(_) | Grant::Until(_) => "extended ",
+        Grant::Reset(_) | Grant::ResetAt(_) => "reset ",
+    }
+}
+
+/// What isn't done, where the end is of another kind than the period.
+fn ungranted_words(grant: Grant) -> &'static str
+    ensures { result.now ≡ ungranted_words grant }
+{
+    match grant {
+        Grant::ByDays(_) | Grant::ByHours(_) | Grant::Until(_) => "not extended ",
+        Grant::Reset(_) | Grant::ResetAt(_) => "not reset ",
+    }
+}
+
+/// Adds how far the time is extended, or to when it is reset.
 fn push_grant(text: &mut String, grant: Grant) -> Result<(), AllocError>
     ensures { OnOk result (string_bytes text.new ≡ string_bytes text.old ++ grant_text grant) }
 {
@@ -153,7 +185,25 @@ fn push_grant(text: &mut String, grant: Grant) -> Result<(), AllocError>
         Grant::ByDays(n) => push_by(text, n, " day", " days"),
         Grant::ByHours(h) => push_by(text, h, " hour", " hours"),
         Grant::Until(_) => text.push_str("to this day"),
+        Grant::Reset(_) => text.push_str("to this day by an order"),
+        Grant::ResetAt(at) => push_time_set(text, at.minute()),
     }
+}
+
+/// Adds to which time of the day an order sets the end.
+fn push_time_set(text: &mut String, minute: u16) -> Result<(), AllocError>
+    ensures { OnOk result (string_bytes text.new ≡ string_bytes text.old ++ time_set minute) }
+{
+    text.push_str("to ")?;
+    push_ordered_time(text, minute)
+}
+
+/// Adds a time of the day, and that an order sets it.
+fn push_ordered_time(text: &mut String, minute: u16) -> Result<(), AllocError>
+    ensures { OnOk result (string_bytes text.new ≡ string_bytes text.old ++ minute_time minute ++ codes " of this day by an order") }
+{
+    push_minute(text, minute)?;
+    text.push_str(" of this day by an order")
 }
 
 /// Adds by how many days or hours, as one or as many are called.
@@ -177,9 +227,31 @@ fn push_cause(
 ) -> Result<(), AllocError>
     ensures { OnOk result (string_bytes text.new ≡ string_bytes text.old ++ cause_shown names.now day cause) }
 {
-    match name_of_cause(names, day, cause) {
-        Some(name) => text.push_str(name),
+    push_called(text, day, cause, name_of_cause(names, day, cause))
+}
+
+/// Adds a cause with this name, or with none.
+fn push_called(
+    text: &mut String,
+    day: Day,
+    cause: Cause,
+    name: Option<&str>,
+) -> Result<(), AllocError>
+    ensures { OnOk result (string_bytes text.new ≡ string_bytes text.old ++ cause_called day cause (option_copied name.entry)) }
+{
+    match name {
+        Some(name) => push_named(text, day, cause, name),
         None => push_unnamed(text, day, cause),
+    }
+}
+
+/// Adds a cause to which the court's file gives this name.
+fn push_named(text: &mut String, day: Day, cause: Cause, name: &str) -> Result<(), AllocError>
+    ensures { OnOk result (string_bytes text.new ≡ string_bytes text.old ++ cause_named day cause name.now) }
+{
+    match cause {
+        Cause::FederalHoliday => push_federal_name(text, day, name),
+        _ => text.push_str(name),
     }
 }
 

@@ -6,7 +6,6 @@ use Rattle.std.specs.Fmt.{decimal}
 use Rattle.std.proofs.lemmas.Bool.{and_from, and_parts}
 use Rattle.std.proofs.lemmas.List.Folds.{list_all-append}
 use Rattle.court_clock.specs.Words.{ClockView}
-use Rattle.case_numbers.specs.declared.names.NamedCase.{NamedCase}
 use Rattle.court_days.specs.Words.{CourtView}
 use Rattle.rule6.specs.declared.timeliness.Shown.{Shown}
 use Rattle.rule6.specs.declared.timeliness.Shown.TheVariants as shown
@@ -17,6 +16,7 @@ use Rattle.docket_selection.specs.declared.item.Matter.TheVariants.{Deadline, He
 use Rattle.content_lines.specs.Words.{date_digits, is_content_line, property, utc_text}
 use Rattle.content_lines.proofs.CallerLemmas.{folds_are_between_characters, property-content, sent_lines_are_short, unfolding_gives_the_lines}
 use Rattle.office_texts.specs.Words.{name_of}
+use Rattle.report_texts.specs.Words.{LabelsView}
 use Rattle.report_ics.specs.declared.appointment.Appointment.{Appointment}
 use Rattle.report_ics.specs.Calendar.{head_lines, icalendar_lines}
 use Rattle.report_ics.specs.Events.{begin_lines, day_lines, description, end_lines, event_lines, instant_lines, place_lines, sequence_lines, span_lines, status_lines, summary, time_lines, uid, word_lines}
@@ -100,21 +100,21 @@ place_are : (court : CourtView) (matter : Matter) → are_lines (place_lines cou
 place_are court (Deadline d) = refl
 place_are court (Hearing h) = one (codes "LOCATION") (codes "Room " ++ name_of court.rooms h.hearing.room) refl
 
-word_are : (court : CourtView) (named_cases : List NamedCase) (a : Appointment) → are_lines (word_lines court named_cases a)
+word_are : (court : CourtView) (labels : LabelsView) (a : Appointment) → are_lines (word_lines court labels a)
 unfolding word_lines
-word_are court named_cases a =
-    both (property (codes "SUMMARY") (summary court named_cases a) ∷ place_lines court a.item.matter) (property (codes "DESCRIPTION") (description court.clock a.item.second a.item.matter) ∷ [])
-    (more (property (codes "SUMMARY") (summary court named_cases a)) (place_lines court a.item.matter) (named (codes "SUMMARY") (summary court named_cases a) refl) (place_are court a.item.matter))
+word_are court labels a =
+    both (property (codes "SUMMARY") (summary court labels a) ∷ place_lines court a.item.matter) (property (codes "DESCRIPTION") (description court.clock a.item.second a.item.matter) ∷ [])
+    (more (property (codes "SUMMARY") (summary court labels a)) (place_lines court a.item.matter) (named (codes "SUMMARY") (summary court labels a) refl) (place_are court a.item.matter))
     (one (codes "DESCRIPTION") (description court.clock a.item.second a.item.matter) refl)
 
-event_are : (court : CourtView) (named_cases : List NamedCase) (stamp : ℤ) (a : Appointment) → are_lines (event_lines court named_cases stamp a)
+event_are : (court : CourtView) (labels : LabelsView) (stamp : ℤ) (a : Appointment) → are_lines (event_lines court labels stamp a)
 unfolding event_lines
-event_are court named_cases stamp a =
+event_are court labels stamp a =
     let begin = begin_lines stamp a.item in
     let sequence = sequence_lines a.revision in
     let status = status_lines a.cancelled in
     let times = time_lines court.clock a.item.day a.item.matter in
-    let words = word_lines court named_cases a in
+    let words = word_lines court labels a in
     both (begin ++ sequence ++ status ++ times ++ words) (property (codes "END") (codes "VEVENT") ∷ [])
     (both (begin ++ sequence ++ status ++ times) words
     (both (begin ++ sequence ++ status) times
@@ -122,23 +122,23 @@ event_are court named_cases stamp a =
     (both begin sequence (begin_are stamp a.item) (sequence_are a.revision))
     (status_are a.cancelled))
     (time_are court.clock a.item.day a.item.matter))
-    (word_are court named_cases a))
+    (word_are court labels a))
     (one (codes "END") (codes "VEVENT") refl)
 
-events_are : (court : CourtView) (named_cases : List NamedCase) (stamp : ℤ) (appointments : List Appointment) → are_lines (flat_map (event_lines court named_cases stamp) appointments)
-events_are court named_cases stamp [] = refl
-events_are court named_cases stamp (a ∷ others) = both (event_lines court named_cases stamp a) (flat_map (event_lines court named_cases stamp) others) (event_are court named_cases stamp a) (events_are court named_cases stamp others)
+events_are : (court : CourtView) (labels : LabelsView) (stamp : ℤ) (appointments : List Appointment) → are_lines (flat_map (event_lines court labels stamp) appointments)
+events_are court labels stamp [] = refl
+events_are court labels stamp (a ∷ others) = both (event_lines court labels stamp a) (flat_map (event_lines court labels stamp) others) (event_are court labels stamp a) (events_are court labels stamp others)
 
-all_are : (court : CourtView) (named_cases : List NamedCase) (stamp : ℤ) (appointments : List Appointment) → are_lines (icalendar_lines court named_cases stamp appointments)
-all_are court named_cases stamp appointments =
-    both (head_lines ++ flat_map (event_lines court named_cases stamp) appointments) (property (codes "END") (codes "VCALENDAR") ∷ [])
-    (both head_lines (flat_map (event_lines court named_cases stamp) appointments) head_are (events_are court named_cases stamp appointments))
+all_are : (court : CourtView) (labels : LabelsView) (stamp : ℤ) (appointments : List Appointment) → are_lines (icalendar_lines court labels stamp appointments)
+all_are court labels stamp appointments =
+    both (head_lines ++ flat_map (event_lines court labels stamp) appointments) (property (codes "END") (codes "VCALENDAR") ∷ [])
+    (both head_lines (flat_map (event_lines court labels stamp) appointments) head_are (events_are court labels stamp appointments))
     (one (codes "END") (codes "VCALENDAR") refl)
 
 pub calendars_are_sent_whole : CalendarsAreSentWhole
-calendars_are_sent_whole court named_cases stamp appointments =
-    let lines = icalendar_lines court named_cases stamp appointments in
-    let are = all_are court named_cases stamp appointments in
+calendars_are_sent_whole court labels stamp appointments =
+    let lines = icalendar_lines court labels stamp appointments in
+    let are = all_are court labels stamp appointments in
     record {
       unfolds = unfolding_gives_the_lines lines are;
       characters = folds_are_between_characters lines are;

@@ -1,20 +1,20 @@
 -- What a calendar program shows: what is selected of the docket, and what was taken off the calendar.
-use Rattle.std.specs.Prelude.{ℕ, ℤ, ◌==◌, Bool, true, false, ◌&&◌, ◌||◌, not, List, ◌++◌, Option, Some, None, is_some, length, map, option_to_list, if◌then◌else◌}
-use Rattle.std.specs.List.{flat_map, list_all, list_any, range_with_len}
+use Rattle.std.specs.Prelude.{ℕ, ℤ, ◌==◌, Bool, true, ◌&&◌, ◌||◌, not, List, ◌++◌, Option, Some, None, is_some, length, map, option_to_list, if◌then◌else◌}
+use Rattle.std.specs.List.{flat_map, range_with_len}
 use Rattle.std.specs.Option.{option_and_then}
 use Rattle.docket_rows.specs.Words.{last_case}
 use Rattle.docket_selection.specs.declared.choice.Choice.{Choice}
 use Rattle.docket_selection.specs.declared.item.DueItem.{DueItem}
 use Rattle.docket_selection.specs.declared.item.Matter.{Matter}
 use Rattle.docket_selection.specs.declared.item.Matter.TheVariants.{Deadline, Hearing}
-use Rattle.docket_selection.specs.Words.{is_due, set_item}
+use Rattle.docket_selection.specs.Words.{is_due, is_ended, set_item}
 use Rattle.docket_selection.specs.declared.changes.history.HearingHistory.{HearingHistory}
-use Rattle.docket_selection.specs.Changes.Words.{FollowedChanges, history_of, motions_named, revision_of}
+use Rattle.docket_selection.specs.Changes.Words.{FollowedChanges, history_of, motions_named, revision_of, was_assigned}
 use Rattle.report_ics.specs.declared.appointment.Appointment.{Appointment}
 
--- an item as it is set
+-- an item as it is set; a deadline that was ended is off
 abbrev pub appointment_of : FollowedChanges → DueItem → Appointment
-appointment_of followed item = record { item = item; revision = revision_of item.case followed.changes; cancelled = false }
+appointment_of followed item = record { item = item; revision = revision_of item.case followed.changes; cancelled = is_ended item.matter }
 
 -- a hearing as it was set last
 abbrev pub item_of : (case number : ℕ) → HearingHistory → DueItem
@@ -52,18 +52,15 @@ unfoldable pub histories_of_case : FollowedChanges → (case : ℕ) → List Hea
 histories_of_case followed case =
     flat_map (λ number. option_to_list (history_of followed.judge case number followed.changes)) (motions_named case followed.changes)
 
-abbrev pub is_off : HearingHistory → Bool
-is_off h = h.cancelled
+-- the case was assigned or referred to the judge, or the judge had a hearing in it
+abbrev pub was_before : FollowedChanges → (case : ℕ) → Bool
+was_before followed case = was_assigned followed.judge case followed.changes || not (length (histories_of_case followed case) == 0)
 
--- one of them is off, and so are all
-abbrev pub are_off : List HearingHistory → Bool
-are_off had = list_any is_off had && list_all is_off had
-
--- the judge had a hearing in the case, and has none there now
+-- a judge is followed, and the case was before that judge
 abbrev pub has_left : FollowedChanges → (case : ℕ) → Bool
-has_left followed case = is_some followed.judge && are_off (histories_of_case followed case)
+has_left followed case = is_some followed.judge && was_before followed case
 
--- a deadline of a case in which the judge has no hearing any more
+-- a deadline of a case that was before the judge, and isn't any more
 abbrev pub off_matter : FollowedChanges → DueItem → Matter → Option Appointment
 off_matter followed item (Deadline d) =
     if has_left followed item.case then Some (record { item = item; revision = revision_of item.case followed.changes; cancelled = true }) else None
@@ -72,13 +69,13 @@ off_matter followed item (Hearing h) = None
 abbrev pub off_item : FollowedChanges → DueItem → Option Appointment
 off_item followed item = off_matter followed item item.matter
 
--- those among what is due before any judge
+-- those among what is due in the cases that aren't before the judge
 unfoldable pub off_deadlines : FollowedChanges → List DueItem → List Appointment
 off_deadlines followed others = flat_map (λ item. option_to_list (off_item followed item)) others
 
--- any judge is followed, or the one who is had a hearing in the case
+-- any judge is followed, or the case was before the one who is
 abbrev pub has_had : FollowedChanges → (case : ℕ) → Bool
-has_had followed case = not (is_some followed.judge) || not (length (histories_of_case followed case) == 0)
+has_had followed case = not (is_some followed.judge) || was_before followed case
 
 -- the same choice, of that day alone
 abbrev pub of_day : Choice → (day : ℤ) → Choice
@@ -94,8 +91,8 @@ lost_only choice followed item =
 unfoldable pub lost_deadlines : Choice → FollowedChanges → (lost : List DueItem) → List Appointment
 lost_deadlines choice followed lost = flat_map (λ item. option_to_list (lost_only choice followed item)) lost
 
--- The items, in their order; then the deadlines, among what is due before any judge, of cases in which the chosen judge has no hearing
--- any more; the chosen hearings that are off; and the chosen ones of the deadlines that no row starts any more.
+-- The items, in their order; then the deadlines, among what is due in the cases that aren't before the chosen judge, of those that were;
+-- the chosen hearings that are off; and the chosen ones of the deadlines that no row starts any more.
 unfoldable pub appointments_of : Choice → FollowedChanges → (items others lost : List DueItem) → List Appointment
 appointments_of choice followed items others lost =
     map (appointment_of followed) items ++ off_deadlines followed others ++ off_hearings choice followed ++ lost_deadlines choice followed lost

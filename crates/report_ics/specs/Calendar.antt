@@ -1,9 +1,9 @@
 -- A calendar (RFC 5545, 3.4): its lines, and the text that is sent.
 use Rattle.std.specs.Prelude.{ℕ, ℤ, List, [], ◌∷◌, ◌++◌, codes}
 use Rattle.std.specs.List.{flat_map}
-use Rattle.case_numbers.specs.declared.names.NamedCase.{NamedCase}
 use Rattle.court_days.specs.Words.{CourtView}
 use Rattle.content_lines.specs.Words.{property, sent}
+use Rattle.report_texts.specs.Words.{LabelsView}
 use Rattle.report_ics.specs.declared.appointment.Appointment.{Appointment}
 use Rattle.report_ics.specs.Events.{event_lines}
 
@@ -15,10 +15,10 @@ head_lines =
     ∷ []
 
 -- the lines of a calendar: an event for each appointment, in their order
-abbrev pub icalendar_lines : CourtView → List NamedCase → (stamp : ℤ) → List Appointment → List (List ℕ)
-icalendar_lines court named stamp appointments =
-    head_lines ++ flat_map (event_lines court named stamp) appointments ++ property (codes "END") (codes "VCALENDAR") ∷ []
+abbrev pub icalendar_lines : CourtView → LabelsView → (stamp : ℤ) → List Appointment → List (List ℕ)
+icalendar_lines court labels stamp appointments =
+    head_lines ++ flat_map (event_lines court labels stamp) appointments ++ property (codes "END") (codes "VCALENDAR") ∷ []
 
 -- the text of a calendar
-abbrev pub icalendar_text : CourtView → List NamedCase → (stamp : ℤ) → List Appointment → List ℕ
-icalendar_text court named stamp appointments = sent (icalendar_lines court named stamp appointments)
+abbrev pub icalendar_text : CourtView → LabelsView → (stamp : ℤ) → List Appointment → List ℕ
+icalendar_text court labels stamp appointments = sent (icalendar_lines court labels stamp appointments)

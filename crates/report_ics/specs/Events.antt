@@ -2,16 +2,18 @@
 use Rattle.std.specs.Prelude.{ℕ, ◌+◌, ℤ, pos, ◌+ℤ◌, Bool, true, false, List, [], ◌∷◌, ◌++◌, Option, Some, None, codes}
 use Rattle.std.specs.Fmt.{decimal}
 use Rattle.case_numbers.specs.Words.{case_text}
-use Rattle.case_numbers.specs.declared.names.NamedCase.{NamedCase}
 use Rattle.court_clock.specs.Words.{ClockView, day_text}
 use Rattle.court_days.specs.Words.{CourtView}
 use Rattle.rule6.specs.declared.timeliness.Act.TheVariants.{Filing, Service}
 use Rattle.rule6.specs.declared.timeliness.Act.{Act}
+use Rattle.rule6.specs.declared.timeliness.Means.TheVariants.{Electronic}
 use Rattle.rule6.specs.declared.timeliness.Shown.{Shown}
 use Rattle.rule6.specs.declared.timeliness.Shown.TheVariants as shown
+use Rattle.rule6.specs.Words.{day_end}
 use Rattle.rule_periods.specs.declared.period.Period.{Period}
 use Rattle.rule_periods.specs.declared.period.Period.TheVariants as period
 use Rattle.rule_periods.specs.declared.rule.RulePeriod.{RulePeriod}
+use Rattle.docket_rows.specs.declared.fact.Ending.{Ending}
 use Rattle.docket_rows.specs.declared.hearing.Hearing.{Hearing as HearingSet}
 use Rattle.docket_rows.specs.declared.sheet.SheetHearing.{SheetHearing}
 use Rattle.docket_rows.specs.declared.sheet.State.{State}
@@ -21,10 +23,10 @@ use Rattle.docket_selection.specs.declared.item.DueItem.{DueItem}
 use Rattle.docket_selection.specs.declared.item.Matter.{Matter}
 use Rattle.docket_selection.specs.declared.item.Matter.TheVariants.{Deadline, Hearing}
 use Rattle.content_lines.specs.Words.{date_digits, property, utc_text}
-use Rattle.office_texts.specs.Words.{name_of}
+use Rattle.office_texts.specs.Words.{and_ended_text, name_of}
 use Rattle.reason_texts.specs.Periods.Words.{event_words, rule_section, rule_words}
 use Rattle.reason_texts.specs.Words.{minute_time, second_time}
-use Rattle.report_texts.specs.Words.{given_words, matter_words, period_words}
+use Rattle.report_texts.specs.Words.{LabelsView, called_after, counted_in, given_words, matter_words, period_words}
 use Rattle.report_ics.specs.declared.appointment.Appointment.{Appointment}
 use Rattle.report_ics.specs.Times.{slot_begins, utc_if_any}
 
@@ -83,14 +85,19 @@ time_lines clock day (Deadline d) = end_lines day d.shown
 time_lines clock day (Hearing h) = span_lines clock h.hearing
 
 -- a deadline that is off this calendar runs on; one that no row starts any more ends on no day
-abbrev pub off_deadline : Shown → List ℕ
-off_deadline shown.Beyond = codes "Cancelled: "
-off_deadline end = codes "Off this calendar: "
+abbrev pub off_end : Shown → List ℕ
+off_end shown.Beyond = codes "Cancelled: "
+off_end end = codes "Off this calendar: "
+
+-- and one that was ended runs no more
+abbrev pub off_deadline : Shown → Option Ending → List ℕ
+off_deadline end (Some why) = codes "Cancelled: "
+off_deadline end None = off_end end
 
 -- a program that doesn't know the status of an event shows its summary all the same
 abbrev pub off_words : (cancelled : Bool) → Matter → List ℕ
 off_words true (Hearing h) = codes "Cancelled: "
-off_words true (Deadline d) = off_deadline d.shown
+off_words true (Deadline d) = off_deadline d.shown d.ended
 off_words false matter = []
 
 -- what is to be done within a period of the Rules, or an entered period in words
@@ -103,18 +110,21 @@ state_words Timely = codes ", filed in time"
 state_words Late = codes ", filed late"
 state_words state = []
 
--- ` deadline 2: an answer to the complaint, filed late`
+-- ` deadline 2: an answer to the complaint, filed late`, ` deadline 2: an answer to the complaint, ended moot`
 unfoldable pub deadline_name : (number : ℕ) → DueDeadline → List ℕ
-deadline_name number d = codes " deadline " ++ decimal number ++ codes ": " ++ what_words d.period ++ state_words d.state
+deadline_name number d = codes " deadline " ++ decimal number ++ codes ": " ++ what_words d.period ++ state_words d.state ++ and_ended_text d.ended
 
 -- ` motion 1: hearing before Ames+Brandt, room R1`
 abbrev pub name_words : CourtView → (number : ℕ) → Matter → List ℕ
 name_words court number (Deadline d) = deadline_name number d
 name_words court number (Hearing h) = matter_words court number (Hearing h)
 
--- `Case 1 motion 1: hearing before Ames+Brandt, room R1`; a case that has a name is called by it
-unfoldable pub summary : CourtView → List NamedCase → Appointment → List ℕ
-summary court named a = off_words a.cancelled a.item.matter ++ codes "Case " ++ case_text named a.item.case ++ name_words court a.item.number a.item.matter
+-- `Case 1 motion 1: hearing before Ames+Brandt, room R1 (Doe v. Acme)`; a case that has a name is called by it, and what rows call the
+-- case and the deadline or the motion comes last
+unfoldable pub summary : CourtView → LabelsView → Appointment → List ℕ
+summary court labels a =
+    off_words a.cancelled a.item.matter ++ codes "Case " ++ case_text labels.cases a.item.case ++ name_words court a.item.number a.item.matter
+    ++ called_after labels a.item.case (counted_in a.item.matter) a.item.number
 
 -- the room of a hearing
 abbrev pub place_lines : CourtView → Matter → List (List ℕ)
@@ -144,6 +154,14 @@ midnight_words = codes "The time ends with this day, at midnight"
 unfoldable pub paper_words : List ℕ
 paper_words = codes "; for filing on paper when the clerk's office closes, at "
 
+unfoldable pub minute_front : List ℕ
+minute_front = codes "The time ends on this day, at "
+
+-- a last day ends at midnight, or for an act by electronic means at the minute that a local rule sets (Fed. R. Civ. P. 6(a)(4)(A))
+abbrev pub day_words : (end : Option ℕ) → List ℕ
+day_words None = midnight_words
+day_words (Some minute) = minute_front ++ minute_time minute
+
 -- a last day ends for filing on paper when the clerk's office closes (Fed. R. Civ. P. 6(a)(4)(B))
 abbrev pub closing_words : ClockView → Act → List ℕ
 closing_words clock Filing = paper_words ++ minute_time clock.closes
@@ -160,7 +178,7 @@ lost_words = codes "It was taken off the docket"
 
 -- when the time of a deadline ends, if a row starts it
 abbrev pub end_words : ClockView → (second : ℕ) → Shown → List ℕ
-end_words clock second (shown.Last day act) = midnight_words ++ closing_words clock act
+end_words clock second (shown.Last day act) = day_words (day_end clock act Electronic) ++ closing_words clock act
 end_words clock second (shown.Until end) = until_front ++ second_time second ++ until_back
 end_words clock second shown.Beyond = lost_words
 
@@ -191,18 +209,18 @@ abbrev pub description : ClockView → (second : ℕ) → Matter → List ℕ
 description clock second (Deadline d) = deadline_words clock second d
 description clock second (Hearing h) = hearing_words h
 
-unfoldable pub word_lines : CourtView → List NamedCase → Appointment → List (List ℕ)
-word_lines court named a =
-    property (codes "SUMMARY") (summary court named a)
+unfoldable pub word_lines : CourtView → LabelsView → Appointment → List (List ℕ)
+word_lines court labels a =
+    property (codes "SUMMARY") (summary court labels a)
     ∷ place_lines court a.item.matter
     ++ property (codes "DESCRIPTION") (description court.clock a.item.second a.item.matter) ∷ []
 
 -- the lines of an event
-unfoldable pub event_lines : CourtView → List NamedCase → (stamp : ℤ) → Appointment → List (List ℕ)
-event_lines court named stamp a =
+unfoldable pub event_lines : CourtView → LabelsView → (stamp : ℤ) → Appointment → List (List ℕ)
+event_lines court labels stamp a =
     begin_lines stamp a.item
     ++ sequence_lines a.revision
     ++ status_lines a.cancelled
     ++ time_lines court.clock a.item.day a.item.matter
-    ++ word_lines court named a
+    ++ word_lines court labels a
     ++ property (codes "END") (codes "VEVENT") ∷ []

@@ -8,7 +8,7 @@ use crate::left::push_off_deadlines;
 use crate::lost::push_lost;
 use court_clock::{Day, Instant};
 use docket_rows::Hearing;
-use docket_selection::{Choice, DueItem, DueTypes, HearingHistories};
+use docket_selection::{Choice, DueItem, DueTypes, HearingHistories, is_ended};
 use hearing_slots::Panel;
 use std::alloc::{AllocError, Global};
 
@@ -28,9 +28,9 @@ pub struct Appointment {
 /// appointments has a variable of this type.
 pub(crate) type AppointmentTypes = Option<(DueTypes, DueItem, Hearing, Panel, Day, Instant)>;
 
-/// The items; then the deadlines, among what is due before any judge, of cases in which the chosen judge has no hearing any more;
-/// the chosen hearings that are off, by case and motion; and those of the deadlines that no row starts any more which that judge may
-/// have had. The histories are as that judge saw them. `Err` says that memory ran out.
+/// The items; then the deadlines, among what is due in the cases that aren't before the chosen judge, of those that were; the chosen
+/// hearings that are off, by case and motion; and those of the deadlines that no row starts any more which that judge may have had. The
+/// histories are as that judge saw them. `Err` says that memory ran out.
 #[tactic(auto, unfolding(crate::specs::Appointments::appointments_of))]
 pub fn appointments_of(
     alloc: Global,
@@ -66,13 +66,13 @@ fn push_items(
     Ok(())
 }
 
-/// The item, as it is set.
+/// The item, as it is set; a deadline that was ended is off.
 fn appointment_of(histories: &HearingHistories, item: &DueItem) -> Appointment
     ensures { result ≡ appointment_of histories.now item.now }
 {
     Appointment {
         item: *item,
         revision: histories.revision(item.case),
-        cancelled: false,
+        cancelled: is_ended(&item.matter),
     }
 }

@@ -15,8 +15,8 @@ use court_days::Court;
 use report_texts::Labels;
 use std::alloc::{AllocError, Global};
 
-/// The appointments as a calendar. `cases` has the names of cases, and `stamp` is when it is written, for each event. `Err`
-/// says that memory ran out.
+/// The appointments as a calendar. `labels` has what cases, deadlines and motions are called, and `stamp` is when it is written, for
+/// each event. `Err` says that memory ran out.
 pub fn icalendar(
     alloc: Global,
     court: &Court,
@@ -24,7 +24,7 @@ pub fn icalendar(
     stamp: Instant,
     appointments: &[Appointment],
 ) -> Result<String, AllocError>
-    ensures text { IfOk result (λ text. string_bytes text ≡ icalendar_text court.now labels.now.cases stamp appointments.now) }
+    ensures text { IfOk result (λ text. string_bytes text ≡ icalendar_text court.now labels.now stamp appointments.now) }
     ensures short { IfOk result (λ text. HasShortLines (string_bytes text)) }
 {
     let mut text = String::new(alloc);
@@ -42,7 +42,7 @@ fn push_icalendar(
     stamp: Instant,
     appointments: &[Appointment],
 ) -> Result<(), AllocError>
-    ensures { OnOk result (AddsText text.old text.new (icalendar_text court.now labels.now.cases stamp appointments.now)) }
+    ensures { OnOk result (AddsText text.old text.new (icalendar_text court.now labels.now stamp appointments.now)) }
 {
     let mut line = String::new(alloc);
     let mut value = String::new(alloc);
@@ -80,7 +80,7 @@ fn push_events(
     stamp: Instant,
     appointments: &[Appointment],
 ) -> Result<(), AllocError>
-    ensures { OnOk result (AddsText text.old text.new (sent (flat_map (event_lines court.now labels.now.cases stamp) appointments.now))) }
+    ensures { OnOk result (AddsText text.old text.new (sent (flat_map (event_lines court.now labels.now stamp) appointments.now))) }
 {
     for appointment in appointments {
         push_event(text, line, value, court, labels, stamp, appointment)?;

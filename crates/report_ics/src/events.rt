@@ -29,7 +29,7 @@ pub(crate) fn push_event(
     stamp: Instant,
     appointment: &Appointment,
 ) -> Result<(), AllocError>
-    ensures { OnOk result (AddsText text.old text.new (sent (event_lines court.now labels.now.cases stamp appointment.now))) }
+    ensures { OnOk result (AddsText text.old text.new (sent (event_lines court.now labels.now stamp appointment.now))) }
 {
     let item = &appointment.item;
     push_begin(text, line, value, stamp, item)?;

@@ -1,9 +1,9 @@
-//! Deadlines of cases in which a judge has no hearing any more.
+//! Deadlines of cases that were before a judge, and aren't any more.
 
 ghost use Rattle.std.specs.Prelude.{◌≡◌, ◌++◌, option_to_list, IfOk, OnOk};
-ghost use Rattle.std.specs.List.{flat_map, list_all, list_any};
+ghost use Rattle.std.specs.List.{flat_map};
 ghost use Rattle.docket_selection.specs.Changes.Words.{history_of};
-ghost use Rattle.report_ics.specs.Appointments.{are_off, has_left, histories_of_case, is_off, off_deadlines, off_item};
+ghost use Rattle.report_ics.specs.Appointments.{has_left, histories_of_case, off_deadlines, off_item, was_before};
 
 use crate::appointment::{Appointment, AppointmentTypes};
 use crate::lists::push_if;
@@ -12,7 +12,7 @@ use docket_selection::{DueItem, HearingHistories, HearingHistory, Matter};
 use hearing_slots::Panel;
 use std::alloc::{AllocError, Global};
 
-/// Adds the deadlines among the items of cases in which the judge of the histories has no hearing any more.
+/// Adds the deadlines among these items, whose cases aren't before the judge of the histories, of those cases that were.
 pub(crate) fn push_off_deadlines(
     alloc: Global,
     list: &mut Vec<Appointment>,
@@ -52,39 +52,34 @@ fn off_item(
     }
 }
 
-/// Whether the judge had a hearing in the case, and has none there now.
+/// Whether a judge is followed, and the case was before that judge.
 fn has_left(alloc: Global, histories: &HearingHistories, case: u32) -> Result<bool, AllocError>
     ensures { IfOk result (λ left. left ≡ has_left histories.now case) }
 {
     if histories.judge().is_none() {
         return Ok(false);
     }
+    was_before(alloc, histories, case)
+}
+
+/// Whether the case was assigned or referred to the judge, or the judge had a hearing in it. `Err` says that memory ran out.
+pub(crate) fn was_before(
+    alloc: Global,
+    histories: &HearingHistories,
+    case: u32,
+) -> Result<bool, AllocError>
+    ensures { IfOk result (λ was. was ≡ was_before histories.now case) }
+{
+    if histories.was_assigned(case) {
+        return Ok(true);
+    }
     let had = histories_of(alloc, histories, case)?;
-    Ok(are_off(&had))
-}
-
-/// Whether one of them is off, and so are all.
-fn are_off(had: &[HearingHistory]) -> bool
-    ensures { result ≡ are_off had.now }
-{
-    is_any_off(had) && are_all_off(had)
-}
-
-fn is_any_off(had: &[HearingHistory]) -> bool
-    ensures { result ≡ list_any is_off had.now }
-{
-    had.iter().any(|history| history.cancelled)
-}
-
-fn are_all_off(had: &[HearingHistory]) -> bool
-    ensures { result ≡ list_all is_off had.now }
-{
-    had.iter().all(|history| history.cancelled)
+    Ok(!had.is_empty())
 }
 
 /// The hearings that the judge had in a case, also of motions that are none any more.
 #[tactic(auto, unfolding(crate::specs::Appointments::histories_of_case))]
-pub(crate) fn histories_of(
+fn histories_of(
     alloc: Global,
     histories: &HearingHistories,
     case: u32,

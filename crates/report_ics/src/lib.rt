@@ -9,6 +9,7 @@ mod laws;
 mod left;
 mod lists;
 mod lost;
+mod summary;
 mod times;
 mod words;
 

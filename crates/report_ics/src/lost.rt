@@ -4,7 +4,7 @@ ghost use Rattle.std.specs.Prelude.{◌≡◌, ◌++◌, IfOk, OnOk};
 ghost use Rattle.report_ics.specs.Appointments.{has_had, lost_deadlines, lost_only, of_day};
 
 use crate::appointment::{Appointment, AppointmentTypes};
-use crate::left::histories_of;
+use crate::left::was_before;
 use crate::lists::push_if;
 use court_clock::Day;
 use docket_selection::{Choice, DueItem, HearingHistories, is_due};
@@ -57,13 +57,12 @@ fn of_day(choice: &Choice, day: Day) -> Choice
     of_day
 }
 
-/// Whether any judge is followed, or the one who is had a hearing in the case.
+/// Whether any judge is followed, or the case was before the one who is.
 fn has_had(alloc: Global, histories: &HearingHistories, case: u32) -> Result<bool, AllocError>
     ensures { IfOk result (λ had. had ≡ has_had histories.now case) }
 {
     if histories.judge().is_none() {
         return Ok(true);
     }
-    let had = histories_of(alloc, histories, case)?;
-    Ok(!had.is_empty())
+    was_before(alloc, histories, case)
 }

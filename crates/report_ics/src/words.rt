@@ -1,23 +1,23 @@
 //! The words of an event.
 
-ghost use Rattle.std.specs.Prelude.{◌≡◌, ◌++◌, OnOk, codes};
+ghost use Rattle.std.specs.Prelude.{◌++◌, OnOk, codes};
 ghost use Rattle.reason_texts.specs.Words.{second_time};
 ghost use Rattle.content_lines.specs.Words.{property, sent, sent_line};
 ghost use Rattle.office_texts.specs.Words.{AddsText};
-ghost use Rattle.report_ics.specs.Events.{affidavits_back, affidavits_front, affidavits_words, closing_words, deadline_name, deadline_words, described, description, end_words, hearing_words, lost_words, midnight_words, name_words, notice_front, off_deadline, off_words, paper_words, place_lines, reading_front, reading_words, rule_front, rule_period_words, state_words, summary, until_back, until_front, what_words, word_lines};
+ghost use Rattle.report_ics.specs.Events.{affidavits_back, affidavits_front, affidavits_words, closing_words, day_words, deadline_words, described, description, end_words, hearing_words, lost_words, midnight_words, minute_front, notice_front, paper_words, place_lines, reading_front, reading_words, rule_front, rule_period_words, summary, until_back, until_front, word_lines};
 
 use crate::appointment::Appointment;
-use case_numbers::push_case_text;
+use crate::summary::push_summary;
 use content_lines::push_property;
 use court_clock::{Clock, Day};
 use court_days::Court;
-use docket_rows::{SheetHearing, State};
+use docket_rows::SheetHearing;
 use docket_selection::{DueDeadline, Matter};
-use office_texts::{push_number, room_name};
+use office_texts::room_name;
 use reason_texts::{event_words, push_minute, push_second, rule_section, rule_words};
-use report_texts::{Labels, push_given, push_matter, push_period};
+use report_texts::{Labels, push_given, push_period};
 use rule_periods::{Period, RulePeriod};
-use rule6::{Act, Shown};
+use rule6::{Act, Means, Shown, day_end};
 use std::alloc::AllocError;
 use std::fmt::Write;
 
@@ -31,7 +31,7 @@ pub(crate) fn push_words(
     labels: &Labels<'_>,
     appointment: &Appointment,
 ) -> Result<(), AllocError>
-    ensures { OnOk result (AddsText text.old text.new (sent (word_lines court.now labels.now.cases appointment.now))) }
+    ensures { OnOk result (AddsText text.old text.new (sent (word_lines court.now labels.now appointment.now))) }
 {
     let item = &appointment.item;
     push_name(text, line, value, court, labels, appointment)?;
@@ -48,7 +48,7 @@ fn push_name(
     labels: &Labels<'_>,
     appointment: &Appointment,
 ) -> Result<(), AllocError>
-    ensures { OnOk result (AddsText text.old text.new (sent_line (property (codes "SUMMARY") (summary court.now labels.now.cases appointment.now)))) }
+    ensures { OnOk result (AddsText text.old text.new (sent_line (property (codes "SUMMARY") (summary court.now labels.now appointment.now)))) }
 {
     value.clear();
     push_summary(value, court, labels, appointment)?;
@@ -69,90 +69,6 @@ fn push_details(
     value.clear();
     push_description(value, clock, second, matter)?;
     push_property(text, line, "DESCRIPTION", value.as_str())
-}
-
-/// Adds the text that an event is called by.
-#[tactic(auto, unfolding(crate::specs::Events::summary))]
-fn push_summary(
-    value: &mut String,
-    court: &Court,
-    labels: &Labels<'_>,
-    appointment: &Appointment,
-) -> Result<(), AllocError>
-    ensures { OnOk result (AddsText value.old value.new (summary court.now labels.now.cases appointment.now)) }
-{
-    let item = &appointment.item;
-    value.push_str(off_words(appointment.cancelled, &item.matter))?;
-    value.push_str("Case ")?;
-    push_case_text(value, labels.cases, item.case)?;
-    push_called(value, court, item.number, &item.matter)
-}
-
-fn off_words(cancelled: bool, matter: &Matter) -> &'static str
-    ensures { result.now ≡ off_words cancelled matter.now }
-{
-    if !cancelled {
-        return "";
-    }
-    match matter {
-        Matter::Hearing(_) => "Cancelled: ",
-        Matter::Deadline(due) => off_deadline(&due.shown),
-    }
-}
-
-fn off_deadline(shown: &Shown) -> &'static str
-    ensures { result.now ≡ off_deadline shown.now }
-{
-    match *shown {
-        Shown::Beyond => "Cancelled: ",
-        _ => "Off this calendar: ",
-    }
-}
-
-/// Adds what a deadline or a hearing is called in its case.
-fn push_called(
-    value: &mut String,
-    court: &Court,
-    number: u32,
-    matter: &Matter,
-) -> Result<(), AllocError>
-    ensures { OnOk result (AddsText value.old value.new (name_words court.now number matter.now)) }
-{
-    match matter {
-        Matter::Deadline(due) => push_deadline_name(value, number, due),
-        Matter::Hearing(_) => push_matter(value, court, number, matter),
-    }
-}
-
-#[tactic(auto, unfolding(crate::specs::Events::deadline_name))]
-fn push_deadline_name(value: &mut String, number: u32, due: &DueDeadline) -> Result<(), AllocError>
-    ensures { OnOk result (AddsText value.old value.new (deadline_name number due.now)) }
-{
-    value.push_str(" deadline ")?;
-    push_number(value, u64::from(number))?;
-    value.push_str(": ")?;
-    push_what(value, &due.period)?;
-    value.push_str(state_words(due.state))
-}
-
-/// Adds what is to be done within a period of the Rules, or an entered period in words.
-fn push_what(value: &mut String, period: &Period) -> Result<(), AllocError>
-    ensures { OnOk result (AddsText value.old value.new (what_words period.now)) }
-{
-    match period {
-        Period::Rule(rule) => value.push_str(rule_words(*rule)),
-        Period::Entered(_) => push_period(value, period),
-    }
-}
-
-fn state_words(state: State) -> &'static str
-    ensures { result.now ≡ state_words state }
-{
-    match state {
-        State::Timely => ", filed in time",
-        State::Late => ", filed late",
-        _ => "",
-    }
 }
 
 /// Adds the room of a hearing.
@@ -310,7 +226,7 @@ fn push_end(value: &mut String, clock: &Clock, second: u32, shown: &Shown) -> Re
 {
     match *shown {
         Shown::Last { day: _, act } => {
-            push_midnight(value)?;
+            push_day(value, day_end(clock, act, Means::Electronic))?;
             push_closing(value, clock, act)
         }
         Shown::Until(_) => push_until(value, second),
@@ -339,6 +255,26 @@ fn push_until_back(value: &mut String) -> Result<(), AllocError>
     ensures { OnOk result (AddsText value.old value.new until_back) }
 {
     value.push_str(" on the court's clock")
+}
+
+/// Adds when a last day ends, at this minute or at midnight.
+fn push_day(value: &mut String, end: Option<u16>) -> Result<(), AllocError>
+    ensures { OnOk result (AddsText value.old value.new (day_words end)) }
+{
+    match end {
+        Some(minute) => {
+            push_minute_front(value)?;
+            push_minute(value, minute)
+        }
+        None => push_midnight(value),
+    }
+}
+
+#[tactic(auto, unfolding(crate::specs::Events::minute_front))]
+fn push_minute_front(value: &mut String) -> Result<(), AllocError>
+    ensures { OnOk result (AddsText value.old value.new minute_front) }
+{
+    value.push_str("The time ends on this day, at ")
 }
 
 #[tactic(auto, unfolding(crate::specs::Events::midnight_words))]

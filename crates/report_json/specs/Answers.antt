@@ -9,9 +9,9 @@ use Rattle.court_days.specs.Words.{CourtView}
 use Rattle.rule6.specs.declared.timeliness.Shown.{Shown}
 use Rattle.hearing_slots.specs.declared.booking.Booking.{Booking}
 use Rattle.docket_rows.specs.declared.answer.Answer.{Answer}
-use Rattle.docket_rows.specs.declared.answer.Answer.TheVariants.{Opened, Started, Filed, Extended, MotionEntered, Booked, Moved, Cancelled, HolidayEntered, OutageEntered, Refused}
+use Rattle.docket_rows.specs.declared.answer.Answer.TheVariants.{Opened, Started, Filed, Extended, Reset, MotionEntered, Booked, Moved, Cancelled, HolidayEntered, OutageEntered, Ended, Resumed, Closed, Reopened, Ruled, Assigned, Titled, Labelled, Refused}
 use Rattle.docket_rows.specs.declared.refusal.Refusal.{Refusal}
-use Rattle.docket_rows.specs.declared.refusal.Refusal.TheVariants.{ShortNotice, JudgeBusy, RoomBusy, HearingThatDay, NoticeLost}
+use Rattle.docket_rows.specs.declared.refusal.Refusal.TheVariants.{ShortNotice, JudgeBusy, RoomBusy, HearingThatDay, NoticeLost, HearingAhead}
 use Rattle.docket_rows.specs.declared.view.View.{View}
 use Rattle.docket_rows.specs.declared.view.View.TheVariants as view
 use Rattle.docket_rows.specs.Words.{refusal_name, refusal_number}
@@ -35,6 +35,7 @@ case_named (JudgeBusy case motion) = Some case
 case_named (RoomBusy case motion) = Some case
 case_named (HearingThatDay case motion) = Some case
 case_named (NoticeLost case motion) = Some case
+case_named (HearingAhead case motion) = Some case
 case_named _ = None
 
 abbrev pub motion_named : Refusal → Option ℕ
@@ -42,6 +43,7 @@ motion_named (JudgeBusy case motion) = Some motion
 motion_named (RoomBusy case motion) = Some motion
 motion_named (HearingThatDay case motion) = Some motion
 motion_named (NoticeLost case motion) = Some motion
+motion_named (HearingAhead case motion) = Some motion
 motion_named _ = None
 
 -- a refusal: its number, its name, and what it names
@@ -81,12 +83,21 @@ answer_fields zone named Opened = kind (codes "opened") ∷ []
 answer_fields zone named (Started number end) = started_fields zone number end
 answer_fields zone named (Filed timely) = kind (codes "filed") ∷ field (codes "timely") (boolean timely) ∷ []
 answer_fields zone named (Extended end) = kind (codes "extended") ∷ shown_fields zone end
+answer_fields zone named (Reset end) = kind (codes "reset") ∷ shown_fields zone end
 answer_fields zone named (MotionEntered number) = kind (codes "motion") ∷ field (codes "number") (amount number) ∷ []
 answer_fields zone named Booked = kind (codes "booked") ∷ []
 answer_fields zone named Moved = kind (codes "moved") ∷ []
 answer_fields zone named Cancelled = kind (codes "cancelled") ∷ []
 answer_fields zone named HolidayEntered = kind (codes "holiday") ∷ []
 answer_fields zone named OutageEntered = kind (codes "outage") ∷ []
+answer_fields zone named Ended = kind (codes "ended") ∷ []
+answer_fields zone named Closed = kind (codes "closed") ∷ []
+answer_fields zone named Reopened = kind (codes "reopened") ∷ []
+answer_fields zone named (Ruled off) = kind (codes "ruled") ∷ field (codes "hearing_cancelled") (or_null day_value off) ∷ []
+answer_fields zone named Assigned = kind (codes "assigned") ∷ []
+answer_fields zone named Titled = kind (codes "titled") ∷ []
+answer_fields zone named Labelled = kind (codes "labelled") ∷ []
+answer_fields zone named (Resumed end) = kind (codes "resumed") ∷ shown_fields zone end
 answer_fields zone named (Refused refusal) = refused_fields named refusal
 
 -- what a query shows

@@ -6,7 +6,9 @@ use Rattle.rule6.specs.declared.timeliness.Filing.{Filing}
 use Rattle.rule6.specs.declared.timeliness.Shown.{Shown}
 use Rattle.rule6.specs.declared.timeliness.Shown.TheVariants as shown
 use Rattle.rule_periods.specs.Words.{DeadlineRowView, EventView}
+use Rattle.docket_rows.specs.declared.fact.Ending.{Ending}
 use Rattle.docket_rows.specs.declared.sheet.SheetDeadline.{SheetDeadline}
+use Rattle.docket_rows.specs.Words.{ending_word}
 use Rattle.office_texts.specs.Words.{means_text, state_word}
 use Rattle.report_json.specs.Periods.{code_of, entered_of, entered_value, grant_value, service_value}
 use Rattle.report_json.specs.Times.{day_value, happened_fields, instant_value}
@@ -60,13 +62,18 @@ docketed_fields zone d =
     ∷ field (codes "entered") (or_null entered_value (entered_of d.row.period))
     ∷ started_fields zone d.row
 
--- when its time ends, and whether it was met
+-- the field of why it is due no more, if it was ended
+abbrev pub ended_fields : Option Ending → List Field
+ended_fields (Some why) = field (codes "ended") (string (ending_word why)) ∷ []
+ended_fields None = []
+
+-- when its time ends, whether it was met, and why it is due no more, if it was ended
 unfoldable pub outcome_fields : TimeZone → SheetDeadline → List Field
 outcome_fields zone d =
     shown_fields zone d.shown
     ++ field (codes "state") (string (state_word d.state))
     ∷ field (codes "filed") (or_null (filed_value zone) d.row.filed)
-    ∷ []
+    ∷ ended_fields d.ended
 
 abbrev pub deadline_fields : TimeZone → SheetDeadline → List Field
 deadline_fields zone d = docketed_fields zone d ++ outcome_fields zone d

@@ -1,10 +1,9 @@
 -- The whole: the court, what each row was answered, the sheets of the chosen cases and the calendars of the chosen judges.
-use Rattle.std.specs.Prelude.{◌≡◌, ℕ, List, [], ◌∷◌, ◌++◌, Some, map, codes}
+use Rattle.std.specs.Prelude.{◌≡◌, ℕ, List, [], ◌∷◌, ◌++◌, Option, Some, None, map, codes}
 use Rattle.std.specs.Str.{IsUtf8}
 use Rattle.json.specs.Json.{Json, document}
 use Rattle.json.specs.Print.{print}
 use Rattle.json.specs.Tree.{json_tokens}
-use Rattle.case_numbers.specs.declared.names.NamedCase.{NamedCase}
 use Rattle.court_days.specs.Words.{CourtView}
 use Rattle.docket_rows.specs.Words.{Rows, opening_rows, setup_of}
 use Rattle.docket_selection.specs.declared.choice.Choice.{Choice}
@@ -24,14 +23,22 @@ use Rattle.report_json.specs.Times.{day_value, minute_value}
 use Rattle.report_json.specs.Values.{Field, array_of, field, object_of}
 
 -- when the clerk's office opens and closes, the first and the last day of the court's file, and its judges
-abbrev pub court_fields : CourtView → List Field
-court_fields court =
+abbrev pub office_fields : CourtView → List Field
+office_fields court =
     field (codes "opens") (minute_value court.clock.opens)
     ∷ field (codes "closes") (minute_value court.clock.closes)
     ∷ field (codes "from") (day_value court.days.from)
     ∷ field (codes "to") (day_value court.days.to)
     ∷ field (codes "judges") (judges_value court)
     ∷ []
+
+-- the minute to which electronic filing runs on a last day, if the court's file has one
+abbrev pub until_fields : (minute : Option ℕ) → List Field
+until_fields (Some minute) = field (codes "efiling_until") (minute_value minute) ∷ []
+until_fields None = []
+
+abbrev pub court_fields : CourtView → List Field
+court_fields court = office_fields court ++ until_fields court.clock.efiling_until
 
 unfoldable pub court_value : CourtView → Json
 court_value court = object_of (court_fields court)
@@ -44,14 +51,14 @@ answers_from court labels docketed (n ∷ rows) =
     ∷ answers_from court labels (docketed_then (setup_of court) docketed n.row.work) rows
 
 -- the sheets of cases, with the reasons of each deadline
-abbrev pub cases_field : CourtView → List NamedCase → List ExplainedSheet → Field
-cases_field court named sheets = field (codes "cases") (array_of (map (case_value court named) sheets))
+abbrev pub cases_field : CourtView → LabelsView → List ExplainedSheet → Field
+cases_field court labels sheets = field (codes "cases") (array_of (map (case_value court labels) sheets))
 
 -- the calendars of the chosen judges, with the bookings that are chosen and the numbers of their motions, in the order of the
 -- court's file
 abbrev pub calendars_field : CourtView → LabelsView → Choice → (docketed : Rows) → Field
 calendars_field court labels choice docketed =
-    field (codes "calendars") (array_of (map (calendar_value court labels.cases) (map (numbered_calendar labels.moved) (chosen_calendars (setup_of court) docketed choice))))
+    field (codes "calendars") (array_of (map (calendar_value court labels) (map (numbered_calendar labels.moved) (chosen_calendars (setup_of court) docketed choice))))
 
 -- what is docketed after all rows
 abbrev pub docketed_by : CourtView → List NumberedRow → Rows
@@ -62,7 +69,7 @@ abbrev pub document_fields : CourtView → LabelsView → Choice → List Number
 document_fields court labels choice rows sheets =
     field (codes "court") (court_value court)
     ∷ field (codes "answers") (array_of (answers_from court labels (opening_rows (setup_of court)) rows))
-    ∷ cases_field court labels.cases sheets
+    ∷ cases_field court labels sheets
     ∷ calendars_field court labels choice (docketed_by court rows)
     ∷ []
 

@@ -1,22 +1,27 @@
 -- The sheets of cases, with the reasons of each deadline.
-use Rattle.std.specs.Prelude.{ℤ, List, [], ◌∷◌, ◌++◌, map, Option, Some, None, codes}
+use Rattle.std.specs.Prelude.{ℕ, ℤ, List, [], ◌∷◌, ◌++◌, map, Option, Some, None, codes}
 use Rattle.json.specs.Json.{Json, string}
 use Rattle.court_clock.specs.Words.{ClockView}
-use Rattle.case_numbers.specs.declared.names.NamedCase.{NamedCase}
 use Rattle.court_days.specs.Words.{CourtView}
 use Rattle.deadline_reasons.specs.declared.reason.Reason.{Reason}
-use Rattle.deadline_reasons.specs.declared.reason.Reason.TheVariants.{HoursFrom, HoursCounted, SameTime, UntilInstant}
+use Rattle.deadline_reasons.specs.declared.reason.Reason.TheVariants.{SetAt, HoursFrom, HoursCounted, SameTime, UntilInstant}
 use Rattle.reason_texts.specs.declared.course.Course.{Course}
 use Rattle.reason_texts.specs.Words.{course_after, course_of, day_shown, section_text, what_text}
+use Rattle.docket_rows.specs.declared.command.Counted.TheVariants.{Deadline}
+use Rattle.desk_numbers.specs.Words.{label_of}
 use Rattle.docket_selection.specs.declared.explained.explained.ExplainedDeadline.{ExplainedDeadline}
 use Rattle.docket_selection.specs.declared.explained.explained.ExplainedSheet.{ExplainedSheet}
+use Rattle.report_texts.specs.Words.{LabelsView}
+use Rattle.report_json.specs.Cases.{called_case_fields, label_fields}
 use Rattle.report_json.specs.Deadlines.{deadline_fields, shown_value}
-use Rattle.report_json.specs.Sheets.{sheet_with}
+use Rattle.report_json.specs.Motions.{labelled_motion}
+use Rattle.report_json.specs.Sheets.{sheet_docketed}
 use Rattle.report_json.specs.Times.{day_value, instant_value}
 use Rattle.report_json.specs.Values.{Field, array_of, field, object_of, or_null}
 
 -- the instant that a reason is about, where it is about one
 abbrev pub instant_shown : Reason → Option ℤ
+instant_shown (SetAt instant) = Some instant
 instant_shown (HoursFrom instant) = Some instant
 instant_shown (HoursCounted hours instant forward) = Some instant
 instant_shown (SameTime day instant) = Some instant
@@ -51,12 +56,17 @@ why_fields clock e = field (codes "other_reading") (or_null (shown_value clock.z
 abbrev pub explained_fields : ClockView → ExplainedDeadline → List Field
 explained_fields clock e = deadline_fields clock.zone e.deadline ++ why_fields clock e
 
-unfoldable pub explained_value : ClockView → ExplainedDeadline → Json
-explained_value clock e = object_of (explained_fields clock e)
+-- a deadline of a case, with its reasons, and what rows call it
+abbrev pub labelled_fields : ClockView → LabelsView → (case : ℕ) → ExplainedDeadline → List Field
+labelled_fields clock labels case e = explained_fields clock e ++ label_fields (label_of labels.called case Deadline e.deadline.number)
 
--- a case, with the reasons of each of its deadlines
-abbrev pub explained_sheet_fields : CourtView → List NamedCase → ExplainedSheet → List Field
-explained_sheet_fields court named e = sheet_with (explained_value court.clock) court named e.case e.filed e.deadlines.items e.motions
+unfoldable pub labelled_value : ClockView → LabelsView → (case : ℕ) → ExplainedDeadline → Json
+labelled_value clock labels case e = object_of (labelled_fields clock labels case e)
 
-unfoldable pub case_value : CourtView → List NamedCase → ExplainedSheet → Json
-case_value court named e = object_of (explained_sheet_fields court named e)
+-- a case, with the reasons of each of its deadlines, and with what rows call it, its deadlines and its motions
+abbrev pub explained_sheet_fields : CourtView → LabelsView → ExplainedSheet → List Field
+explained_sheet_fields court labels e =
+    called_case_fields labels e.case ++ sheet_docketed (labelled_value court.clock labels e.case) (labelled_motion court labels e.case) court e.filed e.closed e.assigned e.deadlines.items e.motions
+
+unfoldable pub case_value : CourtView → LabelsView → ExplainedSheet → Json
+case_value court labels e = object_of (explained_sheet_fields court labels e)

@@ -111,6 +111,10 @@ fn push_answer(
             push_kind(out, "extended")?;
             shown.write_fields(out, court, labels)
         }
+        Answer::Reset(shown) => {
+            push_kind(out, "reset")?;
+            shown.write_fields(out, court, labels)
+        }
         Answer::MotionEntered(number) => {
             push_kind(out, "motion")?;
             out.field(court, labels, "number", number)
@@ -120,6 +124,20 @@ fn push_answer(
         Answer::Cancelled => push_kind(out, "cancelled"),
         Answer::HolidayEntered => push_kind(out, "holiday"),
         Answer::OutageEntered => push_kind(out, "outage"),
+        Answer::Ended => push_kind(out, "ended"),
+        Answer::Closed => push_kind(out, "closed"),
+        Answer::Reopened => push_kind(out, "reopened"),
+        Answer::Ruled(off) => {
+            push_kind(out, "ruled")?;
+            out.field(court, labels, "hearing_cancelled", off)
+        }
+        Answer::Assigned => push_kind(out, "assigned"),
+        Answer::Titled => push_kind(out, "titled"),
+        Answer::Labelled => push_kind(out, "labelled"),
+        Answer::Resumed(shown) => {
+            push_kind(out, "resumed")?;
+            shown.write_fields(out, court, labels)
+        }
         Answer::Refused(refusal) => push_refused(out, court, labels, refusal),
     }
 }
@@ -262,6 +280,7 @@ fn case_named(refusal: &Refusal) -> Option<u32>
         Refusal::RoomBusy(case, _) => Some(*case),
         Refusal::HearingThatDay(case, _) => Some(*case),
         Refusal::NoticeLost(case, _) => Some(*case),
+        Refusal::HearingAhead(case, _) => Some(*case),
         _ => None,
     }
 }
@@ -274,6 +293,7 @@ fn motion_named(refusal: &Refusal) -> Option<u32>
         Refusal::RoomBusy(_, motion) => Some(*motion),
         Refusal::HearingThatDay(_, motion) => Some(*motion),
         Refusal::NoticeLost(_, motion) => Some(*motion),
+        Refusal::HearingAhead(_, motion) => Some(*motion),
         _ => None,
     }
 }

@@ -1,13 +1,15 @@
 //! The calendars of judges.
 
 ghost use Rattle.std.specs.Prelude.{OnOk};
-ghost use Rattle.report_json.specs.Bookings.{booked_fields};
+ghost use Rattle.report_json.specs.Bookings.{booked_fields, calendar_fields, called_booking_fields, labelled_booked};
 ghost use Rattle.report_json.specs.Values.{AddsFields};
 
+use crate::called::ToCalled;
 use crate::spans::push_span;
 use crate::to_json::{ToFields, ToJson};
 use crate::writer::JsonWriter;
 use court_days::Court;
+use docket_rows::Counted;
 use docket_selection::JudgeCalendar;
 use hearing_slots::Booking;
 use report_texts::Labels;
@@ -68,34 +70,82 @@ impl ToJson for Booking {
     }
 }
 
-impl ToFields for JudgeCalendar {
-    ghost use Rattle.report_json.specs.Bookings.{calendar_fields};
+/// Writes what is booked, and what rows call the motion.
+#[tactic(auto, using(crate::proofs::TokenLemmas::more_fields))]
+fn push_labelled(
+    out: &mut JsonWriter,
+    court: &Court,
+    labels: &Labels<'_>,
+    booking: &Booking,
+) -> Result<(), AllocError>
+    ensures { OnOk result (AddsFields out.old out.new (labelled_booked court.now labels.now booking.now)) }
+{
+    push_hearing(out, court, labels, booking)?;
+    let (case, motion) = (booking.case, booking.motion);
+    out.label_if_any(labels.called.label_of(case, Counted::Motion, motion))
+}
 
-    ghost fields = { calendar_fields };
+/// Writes the case of a booking and what is booked, with what rows call the case and the motion.
+#[tactic(auto, using(crate::proofs::TokenLemmas::more_fields))]
+fn push_called(
+    out: &mut JsonWriter,
+    court: &Court,
+    labels: &Labels<'_>,
+    booking: &Booking,
+) -> Result<(), AllocError>
+    ensures { OnOk result (AddsFields out.old out.new (called_booking_fields court.now labels.now booking.now)) }
+{
+    out.called_case_fields(court, labels, booking.case)?;
+    push_labelled(out, court, labels, booking)
+}
 
-    fn write_fields(
+impl ToCalled for Booking {
+    ghost use Rattle.report_json.specs.Bookings.{called_booking};
+
+    ghost value = { λ court labels case booking. called_booking court labels booking };
+
+    #[tactic(auto, unfolding(crate::specs::Bookings::called_booking), using(crate::proofs::TokenLemmas::object_is))]
+    fn write_called(
         &self,
         out: &mut JsonWriter,
         court: &Court,
         labels: &Labels<'_>,
+        _case: u32,
     ) -> Result<(), AllocError> {
-        out.text_if_any("judge", court.judge_name(self.judge))?;
-        out.list_field(court, labels, "bookings", self.bookings.as_slice())
+        out.begin_object()?;
+        push_called(out, court, labels, self)?;
+        out.end_object()
     }
 }
 
-impl ToJson for JudgeCalendar {
+/// Writes a judge, with each of the bookings.
+fn push_calendar(
+    out: &mut JsonWriter,
+    court: &Court,
+    labels: &Labels<'_>,
+    calendar: &JudgeCalendar,
+) -> Result<(), AllocError>
+    ensures { OnOk result (AddsFields out.old out.new (calendar_fields court.now labels.now calendar.now)) }
+{
+    out.text_if_any("judge", court.judge_name(calendar.judge))?;
+    out.called_field(court, labels, 0, "bookings", calendar.bookings.as_slice())
+}
+
+impl ToCalled for JudgeCalendar {
     ghost use Rattle.report_json.specs.Bookings.{calendar_value};
 
-    ghost value = { calendar_value };
+    ghost value = { λ court labels case calendar. calendar_value court labels calendar };
 
-    #[tactic(auto, unfolding(crate::specs::Bookings::calendar_value))]
-    fn write(
+    #[tactic(auto, unfolding(crate::specs::Bookings::calendar_value), using(crate::proofs::TokenLemmas::object_is))]
+    fn write_called(
         &self,
         out: &mut JsonWriter,
         court: &Court,
         labels: &Labels<'_>,
+        _case: u32,
     ) -> Result<(), AllocError> {
-        out.object(court, labels, self)
+        out.begin_object()?;
+        push_calendar(out, court, labels, self)?;
+        out.end_object()
     }
 }

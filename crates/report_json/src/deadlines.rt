@@ -3,7 +3,7 @@
 ghost use Rattle.std.specs.Prelude.{◌≡◌, ◌<◌, [], ◌∷◌, IfSome, OnOk, codes};
 ghost use Rattle.json.specs.Json.{string};
 ghost use Rattle.office_texts.specs.Words.{means_text, state_word};
-ghost use Rattle.report_json.specs.Deadlines.{docketed_fields, end_of, filed_value, last_day_of, outcome_fields, started_fields};
+ghost use Rattle.report_json.specs.Deadlines.{docketed_fields, end_of, ended_fields, filed_value, last_day_of, outcome_fields, started_fields};
 ghost use Rattle.report_json.specs.Times.{happened_fields, instant_value};
 ghost use Rattle.report_json.specs.Values.{AddsFields, field, or_null};
 
@@ -12,7 +12,7 @@ use crate::to_json::{ToFields, ToJson};
 use crate::writer::JsonWriter;
 use court_clock::{Day, Instant};
 use court_days::Court;
-use docket_rows::{SheetDeadline, State};
+use docket_rows::{Ending, SheetDeadline, State};
 use report_texts::Labels;
 use rule_periods::{DeadlineRow, Event};
 use rule6::{Filing, Means, Shown};
@@ -69,7 +69,7 @@ fn push_started(
     out.list_field(court, labels, "grants", row.grants())
 }
 
-/// Writes when a deadline's time ends, and whether it was met.
+/// Writes when a deadline's time ends, whether it was met, and why it is due no more, if it was ended.
 #[tactic(auto, unfolding(crate::specs::Deadlines::outcome_fields))]
 fn push_outcome(
     out: &mut JsonWriter,
@@ -81,7 +81,18 @@ fn push_outcome(
 {
     deadline.shown.write_fields(out, court, labels)?;
     out.field(court, labels, "state", &deadline.state)?;
-    push_filed(out, court, labels, deadline.row.filed())
+    push_filed(out, court, labels, deadline.row.filed())?;
+    push_ended(out, deadline.ended)
+}
+
+/// Writes why a deadline is due no more, if it was ended.
+fn push_ended(out: &mut JsonWriter, ended: Option<Ending>) -> Result<(), AllocError>
+    ensures { OnOk result (AddsFields out.old out.new (ended_fields ended)) }
+{
+    match ended {
+        Some(why) => out.text_field("ended", why.word()),
+        None => Ok(()),
+    }
 }
 
 impl ToJson for SheetDeadline {

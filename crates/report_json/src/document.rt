@@ -7,7 +7,7 @@ ghost use Rattle.docket_rows.specs.Words.{Rows, opening_rows, setup_of};
 ghost use Rattle.docket_core.specs.Words.{StandsFor};
 ghost use Rattle.office_texts.specs.Run.Words.{Holds, docketed_after};
 ghost use Rattle.row_forms.specs.Words.{rows_of};
-ghost use Rattle.report_json.specs.Document.{AreSheetsAfter, IsDocketJson, answers_from, calendars_field, court_fields, court_value, document_fields, document_value};
+ghost use Rattle.report_json.specs.Document.{AreSheetsAfter, IsDocketJson, answers_from, calendars_field, court_fields, court_value, document_fields, document_value, office_fields, until_fields};
 ghost use Rattle.report_json.specs.Values.{Adds, AddsFields, AddsValue, array_of, field};
 
 use crate::answers::AnsweredRow;
@@ -23,8 +23,9 @@ use row_forms::NumberedRow;
 use std::alloc::{AllocError, Global};
 
 /// One line of JSON: an object with the court, what each row was answered, by its number, the sheets of the chosen cases with the reasons
-/// of each deadline, and the calendars of the chosen judges after the last row. The name of a case is beside its number. Deadlines and
-/// motions have their numbers, while rows name them by their places. `Err` says that memory ran out.
+/// of each deadline, and the calendars of the chosen judges after the last row. The name of a case is beside its number, and in sheets
+/// and calendars so is what rows call it, its deadlines and its motions. Deadlines and motions have their numbers, while rows name
+/// them by their places. `Err` says that memory ran out.
 pub fn json_text(
     alloc: Global,
     court: &Court,
@@ -74,7 +75,7 @@ fn push_document_fields(
     push_court(out, court, labels)?;
     push_answers(alloc, out, court, labels, &mut docket, rows)?;
     let sheets = explained_selection(alloc, court, &docket, labels, choice)?;
-    out.list_field(court, labels, "cases", &sheets)?;
+    out.called_field(court, labels, 0, "cases", &sheets)?;
     push_calendars(alloc, out, court, labels, &docket, choice)?;
     Ok(sheets)
 }
@@ -100,13 +101,36 @@ fn push_court_value(
     out.end_object()
 }
 
-/// Writes the hours of the clerk's office, the first and the last day, and the judges.
+/// Writes what the court's file says of the court.
+#[tactic(auto, using(crate::proofs::TokenLemmas::more_fields))]
 fn push_court_fields(
     out: &mut JsonWriter,
     court: &Court,
     labels: &Labels<'_>,
 ) -> Result<(), AllocError>
     ensures { OnOk result (AddsFields out.old out.new (court_fields court.now)) }
+{
+    push_office_fields(out, court, labels)?;
+    push_until(out, court.clock().efiling_until())
+}
+
+/// Writes the minute to which electronic filing runs on a last day, if there is one.
+fn push_until(out: &mut JsonWriter, minute: Option<u16>) -> Result<(), AllocError>
+    ensures { OnOk result (AddsFields out.old out.new (until_fields minute)) }
+{
+    match minute {
+        Some(minute) => out.minute_field("efiling_until", minute),
+        None => Ok(()),
+    }
+}
+
+/// Writes the hours of the clerk's office, the first and the last day, and the judges.
+fn push_office_fields(
+    out: &mut JsonWriter,
+    court: &Court,
+    labels: &Labels<'_>,
+) -> Result<(), AllocError>
+    ensures { OnOk result (AddsFields out.old out.new (office_fields court.now)) }
 {
     let clock = court.clock();
     out.minute_field("opens", clock.opens())?;
@@ -173,5 +197,5 @@ fn push_calendars(
     ensures { (docketed : Rows) → StandsFor docket.now docketed → OnOk result (AddsFields out.old out.new (calendars_field court.now labels.now choice.now docketed ∷ [])) }
 {
     let calendars = numbered_calendars(alloc, court, docket, labels, choice)?;
-    out.list_field(court, labels, "calendars", &calendars)
+    out.called_field(court, labels, 0, "calendars", &calendars)
 }

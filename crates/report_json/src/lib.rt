@@ -3,6 +3,7 @@
 
 mod answers;
 mod bookings;
+mod called;
 mod cases;
 mod deadlines;
 mod document;

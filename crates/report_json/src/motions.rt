@@ -1,15 +1,16 @@
 //! Motions, with their hearings.
 
 ghost use Rattle.std.specs.Prelude.{[], ◌∷◌, OnOk, codes};
-ghost use Rattle.report_json.specs.Motions.{hearing_value, notice_days_of};
+ghost use Rattle.report_json.specs.Motions.{heard_fields, hearing_value, labelled_motion_fields, notice_days_of, ruling_fields};
 ghost use Rattle.report_json.specs.Values.{AddsFields, amount, field, or_null};
 
+use crate::called::ToCalled;
 use crate::names::push_panel;
 use crate::spans::push_span;
 use crate::to_json::{ToFields, ToJson};
 use crate::writer::JsonWriter;
 use court_days::Court;
-use docket_rows::{SheetHearing, SheetMotion};
+use docket_rows::{Counted, DatedRuling, SheetHearing, SheetMotion};
 use hearing_slots::Need;
 use report_texts::Labels;
 use std::alloc::AllocError;
@@ -19,16 +20,49 @@ impl ToFields for SheetMotion {
 
     ghost fields = { λ court named motion. motion_fields court motion };
 
+    #[tactic(auto, using(crate::proofs::TokenLemmas::more_fields))]
     fn write_fields(
         &self,
         out: &mut JsonWriter,
         court: &Court,
         labels: &Labels<'_>,
     ) -> Result<(), AllocError> {
-        out.field(court, labels, "number", &self.number)?;
-        out.field(court, labels, "served", &self.served)?;
-        out.field(court, labels, "notice_days", &self.need)?;
-        push_hearing_if_set(out, court, labels, &self.hearing)
+        push_heard(out, court, labels, self)?;
+        push_ruling(out, court, labels, self.ruling)
+    }
+}
+
+/// Writes what is docketed of a motion: its number, when it was served, the notice that it needs, and its hearing.
+#[tactic(auto, unfolding(crate::specs::Motions::heard_fields))]
+fn push_heard(
+    out: &mut JsonWriter,
+    court: &Court,
+    labels: &Labels<'_>,
+    motion: &SheetMotion,
+) -> Result<(), AllocError>
+    ensures { OnOk result (AddsFields out.old out.new (heard_fields court.now motion.now)) }
+{
+    out.field(court, labels, "number", &motion.number)?;
+    out.field(court, labels, "served", &motion.served)?;
+    out.field(court, labels, "notice_days", &motion.need)?;
+    push_hearing_if_set(out, court, labels, &motion.hearing)
+}
+
+/// Writes how a motion was ruled on, and when, if it was.
+fn push_ruling(
+    out: &mut JsonWriter,
+    court: &Court,
+    labels: &Labels<'_>,
+    ruling: Option<DatedRuling>,
+) -> Result<(), AllocError>
+    ensures { OnOk result (AddsFields out.old out.new (ruling_fields ruling)) }
+{
+    match ruling {
+        Some(DatedRuling { ruling, dated }) => {
+            out.text_field("ruling", ruling.word())?;
+            out.field(court, labels, "ruled", &dated)
+        }
+        None => Ok(()),
     }
 }
 
@@ -62,6 +96,40 @@ impl ToJson for SheetMotion {
         labels: &Labels<'_>,
     ) -> Result<(), AllocError> {
         out.object(court, labels, self)
+    }
+}
+
+/// Writes a motion of a case, and what rows call it.
+#[tactic(auto, using(crate::proofs::TokenLemmas::more_fields))]
+fn push_labelled(
+    out: &mut JsonWriter,
+    court: &Court,
+    labels: &Labels<'_>,
+    case: u32,
+    motion: &SheetMotion,
+) -> Result<(), AllocError>
+    ensures { OnOk result (AddsFields out.old out.new (labelled_motion_fields court.now labels.now case motion.now)) }
+{
+    motion.write_fields(out, court, labels)?;
+    out.label_if_any(labels.called.label_of(case, Counted::Motion, motion.number))
+}
+
+impl ToCalled for SheetMotion {
+    ghost use Rattle.report_json.specs.Motions.{labelled_motion};
+
+    ghost value = { λ court labels case motion. labelled_motion court labels case motion };
+
+    #[tactic(auto, unfolding(crate::specs::Motions::labelled_motion), using(crate::proofs::TokenLemmas::object_is))]
+    fn write_called(
+        &self,
+        out: &mut JsonWriter,
+        court: &Court,
+        labels: &Labels<'_>,
+        case: u32,
+    ) -> Result<(), AllocError> {
+        out.begin_object()?;
+        push_labelled(out, court, labels, case, self)?;
+        out.end_object()
     }
 }
 

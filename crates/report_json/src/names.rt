@@ -63,8 +63,8 @@ fn push_numbered(out: &mut JsonWriter, court: &Court, count: u8) -> Result<(), A
     Ok(())
 }
 
-/// Writes a name, or `null` where there is none.
-fn push_name(out: &mut JsonWriter, name: Option<&str>) -> Result<(), AllocError>
+/// Writes a name, or `null` where there is none. `Err` says that memory ran out.
+pub(crate) fn push_name(out: &mut JsonWriter, name: Option<&str>) -> Result<(), AllocError>
     ensures { OnOk result (AddsValue out.old out.new (or_null string (option_copied name.entry))) }
 {
     match name {

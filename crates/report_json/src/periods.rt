@@ -1,8 +1,9 @@
 //! The period of a deadline, and its extensions.
 
-ghost use Rattle.std.specs.Prelude.{◌≡◌, option_copied};
+ghost use Rattle.std.specs.Prelude.{◌≡◌, OnOk, option_copied};
 ghost use Rattle.office_texts.specs.Words.{act_text, direction_text, start_text};
-ghost use Rattle.report_json.specs.Periods.{code_of, day_of_grant, days_of_grant, days_of_length, entered_of, hours_of_grant, hours_of_length, service_letter};
+ghost use Rattle.report_json.specs.Values.{AddsFields};
+ghost use Rattle.report_json.specs.Periods.{code_of, day_of_grant, days_of_grant, days_of_length, entered_of, extension_fields, hours_of_grant, hours_of_length, order_fields, service_letter};
 
 use crate::to_json::{ToFields, ToJson};
 use crate::writer::JsonWriter;
@@ -75,7 +76,7 @@ fn days_of_length(length: Length) -> Option<u32>
 {
     match length {
         Length::Days(days) => Some(days),
-        Length::Hours(_) | Length::ToDay => None,
+        Length::Hours(_) | Length::ToDay | Length::ToTime => None,
     }
 }
 
@@ -83,7 +84,7 @@ fn hours_of_length(length: Length) -> Option<u32>
     ensures { result ≡ hours_of_length length }
 {
     match length {
-        Length::Days(_) | Length::ToDay => None,
+        Length::Days(_) | Length::ToDay | Length::ToTime => None,
         Length::Hours(hours) => Some(hours),
     }
 }
@@ -145,15 +146,48 @@ impl ToFields for Grant {
 
     ghost fields = { λ court named grant. grant_fields grant };
 
+    #[tactic(auto, using(crate::proofs::TokenLemmas::more_fields))]
     fn write_fields(
         &self,
         out: &mut JsonWriter,
         court: &Court,
         labels: &Labels<'_>,
     ) -> Result<(), AllocError> {
-        out.field(court, labels, "days", &days_of_grant(*self))?;
-        out.field(court, labels, "hours", &hours_of_grant(*self))?;
-        out.field(court, labels, "until", &day_of_grant(*self))
+        push_extension(out, court, labels, self)?;
+        push_order(out, court, labels, *self)
+    }
+}
+
+/// Writes an extension: by days, by hours, or until a day.
+fn push_extension(
+    out: &mut JsonWriter,
+    court: &Court,
+    labels: &Labels<'_>,
+    grant: &Grant,
+) -> Result<(), AllocError>
+    ensures { OnOk result (AddsFields out.old out.new (extension_fields grant.now)) }
+{
+    out.field(court, labels, "days", &days_of_grant(*grant))?;
+    out.field(court, labels, "hours", &hours_of_grant(*grant))?;
+    out.field(court, labels, "until", &day_of_grant(*grant))
+}
+
+/// Writes that an order set the end, if one did, and where it set one the time of day.
+fn push_order(
+    out: &mut JsonWriter,
+    court: &Court,
+    labels: &Labels<'_>,
+    grant: Grant,
+) -> Result<(), AllocError>
+    ensures { OnOk result (AddsFields out.old out.new (order_fields grant)) }
+{
+    match grant {
+        Grant::ByDays(_) | Grant::ByHours(_) | Grant::Until(_) => Ok(()),
+        Grant::Reset(_) => out.field(court, labels, "order", &true),
+        Grant::ResetAt(at) => {
+            out.field(court, labels, "order", &true)?;
+            out.minute_field("time", at.minute())
+        }
     }
 }
 
@@ -178,7 +212,7 @@ fn days_of_grant(grant: Grant) -> Option<u32>
 {
     match grant {
         Grant::ByDays(days) => Some(days),
-        Grant::ByHours(_) | Grant::Until(_) => None,
+        Grant::ByHours(_) | Grant::Until(_) | Grant::Reset(_) | Grant::ResetAt(_) => None,
     }
 }
 
@@ -187,7 +221,7 @@ fn hours_of_grant(grant: Grant) -> Option<u32>
 {
     match grant {
         Grant::ByHours(hours) => Some(hours),
-        Grant::ByDays(_) | Grant::Until(_) => None,
+        Grant::ByDays(_) | Grant::Until(_) | Grant::Reset(_) | Grant::ResetAt(_) => None,
     }
 }
 
@@ -195,7 +229,8 @@ fn day_of_grant(grant: Grant) -> Option<Day>
     ensures { result ≡ day_of_grant grant }
 {
     match grant {
-        Grant::Until(day) => Some(day),
+        Grant::Until(day) | Grant::Reset(day) => Some(day),
+        Grant::ResetAt(at) => Some(at.day()),
         Grant::ByDays(_) | Grant::ByHours(_) => None,
     }
 }

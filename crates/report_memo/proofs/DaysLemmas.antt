@@ -1,9 +1,10 @@
 -- The days by other readings after a row.
-use Rattle.std.proofs.Common.{◌≡◌, ◌∙◌, true, false, Option, Some, None, ap, inl, inr, refl, sym, if◌then◌else◌}
+use Rattle.std.proofs.Common.{◌≡◌, ◌∙◌, false, Option, Some, None, ap, inl, inr, refl, sym, if◌then◌else◌}
 use Rattle.std.proofs.lemmas.Bool.{cases_Bool}
 use Rattle.court_days.specs.Words.{DaysView}
 use Rattle.docket_rows.specs.declared.command.Command.{Command as CommandOf}
 use Rattle.docket_rows.specs.declared.command.Command.TheVariants as command
+use Rattle.docket_rows.specs.declared.fact.Fact.TheVariants as fact
 use Rattle.docket_rows.specs.declared.refusal.Refusal.{Refusal}
 use Rattle.docket_rows.specs.Words.{CourtSetup, Rows, answered, parts_of, refusal, step}
 use Rattle.docket_core.specs.Words.{DocketView, parts_held}
@@ -32,6 +33,14 @@ made_same setup docketed (command.MoveHearing s) None is none = rw is refl
 made_same setup docketed (command.Cancel case motion) None is none = rw is refl
 made_same setup docketed (command.Holiday day list) None is none = absurd cc (rw is at none)
 made_same setup docketed (command.Inaccessible day from to) None is none = absurd cc (rw is at none)
+made_same setup docketed (command.Fact case (fact.Ended deadline why dated)) None is none = rw is refl
+made_same setup docketed (command.Fact case (fact.Resumed deadline dated)) None is none = rw is refl
+made_same setup docketed (command.Fact case (fact.Closed why dated)) None is none = rw is refl
+made_same setup docketed (command.Fact case (fact.Reopened dated)) None is none = rw is refl
+made_same setup docketed (command.Fact case (fact.Ruled motion how dated)) None is none = rw is refl
+made_same setup docketed (command.Fact case (fact.Assigned judge referred dated)) None is none = rw is refl
+made_same setup docketed (command.Fact case fact.Titled) None is none = rw is refl
+made_same setup docketed (command.Fact case (fact.Labelled counted number)) None is none = rw is refl
 
 same_days : (setup : CourtSetup) (docketed : Rows) (work : Work) → changes_days (reply_to setup docketed work) ≡ false → (docketed_then setup docketed work).days ≡ docketed.days
 unfolding step

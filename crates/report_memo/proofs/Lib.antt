@@ -1,8 +1,10 @@
 pub mod AnswerLemmas
 pub mod AskedLemmas
+pub mod CourtNameLemmas
 pub mod DaysLemmas
 pub mod DocketLemmas
 pub mod MarginLemmas
 pub mod MemoLemmas
+pub mod PageLemmas
 pub mod ReplyLemmas
 pub mod TextLemmas

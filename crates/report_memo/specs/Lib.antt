@@ -1,4 +1,5 @@
 pub mod Texts
+pub mod Called
 pub mod Reasons
 pub mod Sources
 pub mod Sheets
@@ -9,5 +10,9 @@ pub mod Memo
 pub mod Case
 pub mod CommandLine
 pub mod Asked
+pub mod CourtName
+pub mod AboutCase
+pub mod Head
+pub mod Page
 pub mod Answer
 pub mod Words

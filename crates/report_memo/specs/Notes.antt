@@ -1,5 +1,5 @@
--- The lines that say of an act by how much it was in time or late, of a refusal why it is one, and of an extension what a reader
--- is warned of.
+-- The lines that say of an act by how much it was in time or late, of a refusal why it is one, and of an extension, or of an
+-- order that sets another end, what a reader is warned of.
 use Rattle.std.specs.Prelude.{ℕ, List, [], Option, Some, option_map}
 use Rattle.court_days.specs.Words.{CourtView}
 use Rattle.rule6.specs.declared.timeliness.Shown.{Shown}
@@ -42,6 +42,8 @@ abbrev pub notes_of : CourtView → LabelsView → (docketed : Rows) → Command
 notes_of court labels docketed command (answer.Filed timely) =
     recorded_lines docketed.days court.clock (deadline_at (parts_of docketed) (deadline_asked command))
 notes_of court labels docketed command (answer.Extended shown) =
+    notes_of_request court shown (deadline_at (parts_of docketed) (deadline_asked command)) (request_asked command)
+notes_of court labels docketed command (answer.Reset shown) =
     notes_of_request court shown (deadline_at (parts_of docketed) (deadline_asked command)) (request_asked command)
 notes_of court labels docketed command (answer.Refused refusal) =
     why_refused court (parts_of docketed) command (motion_called labels.cases (motion_refused labels.moved command refusal)) refusal

@@ -6,15 +6,16 @@ use Rattle.docket_rows.specs.Words.{Rows, deadline_in, parts_of}
 use Rattle.deadline_reasons.specs.declared.reason.Reason.{Reason}
 use Rattle.deadline_reasons.specs.Words.{IsDerivation}
 use Rattle.reason_texts.specs.Words.{course_of, reason_lines}
-use Rattle.reason_texts.specs.Periods.Words.{heading_lines}
+use Rattle.reason_texts.specs.Periods.Words.{called_lines}
 use Rattle.reason_notes.specs.Readings.Words.{DaysByReadingView, days_by_reading, reading_lines}
 use Rattle.report_texts.specs.Words.{LabelsView}
+use Rattle.report_memo.specs.Called.{period_back}
 use Rattle.report_memo.specs.Texts.{Is}
 
--- the period of a deadline in words, a line for each of these reasons, and a line for each other reading that gives another end
+-- the period of a deadline by its Rule, a line for each of these reasons, and a line for each other reading that gives another end
 abbrev pub deadline_lines : CourtView → LabelsView → DaysByReadingView → DeadlineRowView → List Reason → List ℕ
 deadline_lines court labels days row reasons =
-    heading_lines row ++ reason_lines court.clock labels.holidays (course_of row.period) reasons ++ reading_lines days court.clock row
+    called_lines (period_back row.period) row ++ reason_lines court.clock labels.holidays (course_of row.period) reasons ++ reading_lines days court.clock row
 
 -- these lines, with the reasons of a derivation of what is shown of the deadline, where the days are these
 pub record AreReasons (court : CourtView) (labels : LabelsView) (days : DaysByReadingView) (row : DeadlineRowView) (text : List ℕ) : Type 0 where

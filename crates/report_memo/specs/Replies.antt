@@ -4,6 +4,7 @@ use Rattle.court_days.specs.Words.{CourtView}
 use Rattle.rule_periods.specs.Words.{DeadlineRowView}
 use Rattle.docket_rows.specs.declared.answer.Answer.TheVariants as answer
 use Rattle.docket_rows.specs.declared.command.Command.TheVariants as command
+use Rattle.docket_rows.specs.declared.fact.Fact.TheVariants as fact
 use Rattle.docket_rows.specs.declared.query.Query.{Query as QueryOf}
 use Rattle.docket_rows.specs.declared.query.Query.TheVariants as query
 use Rattle.docket_rows.specs.declared.sheet.Sheet.{Sheet}
@@ -27,7 +28,7 @@ use Rattle.report_memo.specs.Sheets.{IsSheet}
 use Rattle.report_memo.specs.Texts.{Is, Then}
 
 -- the case and the place of the deadline that was to start and was given that place, and of the one whose time was to be
--- extended
+-- extended or reset
 abbrev pub deadline_started : Work → (place : ℕ) → Option (ℕ × ℕ)
 deadline_started (Command (command.Start case period event second service)) place = Some (case, place)
 deadline_started work place = None
@@ -36,10 +37,17 @@ abbrev pub deadline_extended : Work → Option (ℕ × ℕ)
 deadline_extended (Command (command.Extend case deadline request)) = Some (case, deadline)
 deadline_extended work = None
 
+-- and of the one that was to be resumed
+abbrev pub deadline_resumed : Work → Option (ℕ × ℕ)
+deadline_resumed (Command (command.Fact case (fact.Resumed deadline dated))) = Some (case, deadline)
+deadline_resumed work = None
+
 -- the case and the place of the docketed deadline whose end a reply tells
 abbrev pub deadline_told : Work → Reply → Option (ℕ × ℕ)
 deadline_told work (Made (answer.Started place shown)) = deadline_started work place
 deadline_told work (Made (answer.Extended shown)) = deadline_extended work
+deadline_told work (Made (answer.Reset shown)) = deadline_extended work
+deadline_told work (Made (answer.Resumed shown)) = deadline_resumed work
 deadline_told work reply = None
 
 -- the deadline whose end a query asks for, as it would start now

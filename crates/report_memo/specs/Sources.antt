@@ -1,5 +1,5 @@
--- Which rows made the deadlines of a case what they are: the one that started a deadline, those that extended it, and the one
--- that recorded its act.
+-- Which rows made the deadlines of a case what they are: the one that started a deadline, those that extended, reset, ended or
+-- resumed it, and the one that recorded its act.
 use Rattle.std.specs.Prelude.{ℕ, ◌==◌, List, [], ◌∷◌, ◌++◌, Option, Some, None, codes, option_to_list, if◌then◌else◌}
 use Rattle.std.specs.Fmt.{decimal}
 use Rattle.std.specs.List.{flat_map}
@@ -7,6 +7,8 @@ use Rattle.docket_rows.specs.declared.answer.Answer.{Answer}
 use Rattle.docket_rows.specs.declared.answer.Answer.TheVariants as answer
 use Rattle.docket_rows.specs.declared.command.Command.{Command as CommandOf}
 use Rattle.docket_rows.specs.declared.command.Command.TheVariants as command
+use Rattle.docket_rows.specs.declared.fact.Fact.{Fact}
+use Rattle.docket_rows.specs.declared.fact.Fact.TheVariants as fact
 use Rattle.docket_rows.specs.Words.{CourtSetup, Rows}
 use Rattle.docket_rows.specs.declared.command.Counted.TheVariants.{Deadline}
 use Rattle.desk_numbers.specs.declared.moved.Moved.{Moved}
@@ -19,18 +21,26 @@ use Rattle.office_texts.specs.declared.run.reply.Reply.TheVariants.{Made, Viewed
 use Rattle.office_texts.specs.Run.Words.{docketed_then, reply_to}
 use Rattle.reason_texts.specs.Words.{note_line}
 use Rattle.report_memo.specs.declared.sources.Deed.{Deed}
-use Rattle.report_memo.specs.declared.sources.Deed.TheVariants.{Started, Extended, Filed}
+use Rattle.report_memo.specs.declared.sources.Deed.TheVariants.{Started, Extended, Reset, Filed, Ended, Resumed}
 use Rattle.report_memo.specs.declared.sources.Source.{Source}
 
 -- a row of that number did this to the deadline of a case, where the case is the one that is asked for
 abbrev pub source_if : (asked case : ℕ) → (deadline : ℕ) → Deed → (row : ℕ) → Option Source
 source_if asked case deadline deed row = if case == asked then Some (record { deadline = deadline; deed = deed; row = row }) else None
 
+-- what a fact of a case that was so answered did to a deadline of the case that is asked for
+abbrev pub source_of_fact : (asked row case : ℕ) → Fact → Answer → Option Source
+source_of_fact asked row case (fact.Ended deadline why dated) answer.Ended = source_if asked case deadline Ended row
+source_of_fact asked row case (fact.Resumed deadline dated) (answer.Resumed shown) = source_if asked case deadline Resumed row
+source_of_fact asked row case recorded a = None
+
 -- what a command that was so answered did to a deadline of the case that is asked for
 abbrev pub source_made : (asked row : ℕ) → CommandOf → Answer → Option Source
 source_made asked row (command.Start case period event second service) (answer.Started place shown) = source_if asked case place Started row
 source_made asked row (command.Extend case deadline request) (answer.Extended shown) = source_if asked case deadline Extended row
+source_made asked row (command.Extend case deadline request) (answer.Reset shown) = source_if asked case deadline Reset row
 source_made asked row (command.FileAct case deadline filing) (answer.Filed timely) = source_if asked case deadline Filed row
+source_made asked row (command.Fact case recorded) a = source_of_fact asked row case recorded a
 source_made asked row c a = None
 
 abbrev pub source_in : (asked row : ℕ) → Work → Reply → Option Source
@@ -51,7 +61,10 @@ numbered_source moved case s = record s { deadline = number_in moved case Deadli
 abbrev pub deed_words : Deed → List ℕ
 deed_words Started = codes "started by row "
 deed_words Extended = codes "extended by row "
+deed_words Reset = codes "reset by row "
 deed_words Filed = codes "filed by row "
+deed_words Ended = codes "ended by row "
+deed_words Resumed = codes "resumed by row "
 
 -- `started by row 3`
 unfoldable pub source_text : Source → List ℕ

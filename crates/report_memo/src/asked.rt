@@ -6,12 +6,13 @@ ghost use Rattle.clap.specs.declared.error.kind.ErrorKind.{ErrorKind};
 ghost use Rattle.clap.specs.Words.{found_of, rows_of};
 ghost use Rattle.court_clock.specs.Words.{day_of_text};
 ghost use Rattle.program_main.specs.Options.Words.{IsAnswerFor, IsFaultAmong};
-ghost use Rattle.report_memo.specs.Asked.{IsAskedBy, are_given_taken, day_counts, faults_given, faults_of_day};
+ghost use Rattle.report_memo.specs.Asked.{IsAskedBy, are_given_taken, day_counts, day_made, faults_given, faults_of_day};
 
 use clap::ArgMatches;
-use court_clock::Day;
+use court_clock::{Day, Instant};
+use court_days::Court;
 use office_texts::CaseCalled;
-use program_main::{OptionsFault, case_option, day_option};
+use program_main::{OptionsFault, case_option, day_option, today_by};
 use std::alloc::Global;
 
 /// What is asked for: the memo of one case, or of all rows where no case is named.
@@ -21,12 +22,24 @@ pub struct Asked {
     pub case: Option<CaseCalled>,
     /// The day from which its deadlines are counted.
     pub today: Option<Day>,
+    /// The instant that the clock shows, by which the memo of a folder is made where no day is given.
+    pub clock_time: Instant,
+    /// Whether it is a page.
+    pub html: bool,
 }
 
-/// What is asked for by the texts of the options `case` and `today` that were given. BadWords where a text calls no case or writes
-/// no day, or where a day is given and no case, and OutOfMemory where memory runs out.
-pub fn asked_by(alloc: Global, given: &ArgMatches<'_>) -> Result<Asked, OptionsFault>
+/// What is asked for by the texts of the options `case` and `today` that were given, at the clock's time, as a page where `html` says
+/// so. BadWords where a text calls no case or writes no day, or where a day is given and no case, and OutOfMemory where memory runs
+/// out.
+pub fn asked_by(
+    alloc: Global,
+    clock_time: Instant,
+    html: bool,
+    given: &ArgMatches<'_>,
+) -> Result<Asked, OptionsFault>
     ensures asked { IfOk result (λ asked. IsAskedBy (rows_of (found_of given.now)) asked) }
+    ensures timed { IfOk result (λ asked. asked.clock_time ≡ clock_time) }
+    ensures shown { IfOk result (λ asked. asked.html ≡ html) }
     ensures faults { IsAnswerFor (faults_given (rows_of (found_of given.now))) result }
     ensures taken { are_given_taken (rows_of (found_of given.now)) ≡ true → IfErr result (λ fault. fault ≡ OptionsFault.OutOfMemory) }
 {
@@ -35,7 +48,12 @@ pub fn asked_by(alloc: Global, given: &ArgMatches<'_>) -> Result<Asked, OptionsF
         Err(fault) => return Err(fault),
     };
     match day_asked(alloc, given.get_str("today"), given.get_str("case")) {
-        Ok(today) => Ok(Asked { case, today }),
+        Ok(today) => Ok(Asked {
+            case,
+            today,
+            clock_time,
+            html,
+        }),
         Err(fault) => Err(fault),
     }
 }
@@ -54,6 +72,16 @@ fn day_asked(
         (None, _) => Ok(None),
         (Some(_), None) => Err(without_case(alloc)),
         (Some(text), Some(_)) => day_option(alloc, "today", Some(text)),
+    }
+}
+
+/// The day on which the memo of a folder is made: the one that is asked for, or else the one that the court's clock shows.
+pub fn day_made(court: &Court, asked: &Asked) -> Day
+    ensures { result ≡ day_made court.now asked.now }
+{
+    match asked.today {
+        Some(day) => day,
+        None => today_by(court.clock(), asked.clock_time),
     }
 }
 

@@ -2,13 +2,18 @@
 //! sheet of a case.
 #![tactic(auto)]
 
+mod about_case;
 mod asked;
 mod calendars;
+mod called;
 mod case;
+mod court_name;
 mod detail;
+mod head;
 mod laws;
 mod memo;
 mod notes;
+mod page;
 mod reasons;
 mod replies;
 mod report;
@@ -17,7 +22,7 @@ mod sources;
 mod subcommand;
 mod whole;
 
-pub use asked::{Asked, asked_by};
-pub use laws::margins_say_the_state;
+pub use asked::{Asked, asked_by, day_made};
+pub use laws::{margins_say_the_state, page_is_markup};
 pub use report::memo_of;
 pub use subcommand::with_memo;

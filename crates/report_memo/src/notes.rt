@@ -65,6 +65,7 @@ fn push_notes_of(
     match answer {
         Answer::Filed(_) => push_filed(alloc, text, court, docket, command),
         Answer::Extended(shown) => push_extended(text, court, docket, command, shown),
+        Answer::Reset(shown) => push_extended(text, court, docket, command, shown),
         Answer::Refused(refusal) => push_refused(
             alloc, text, court, labels, docket, command, refusal,
         ),

@@ -7,18 +7,19 @@ ghost use Rattle.office_texts.specs.Run.Words.{Holds};
 ghost use Rattle.report_memo.specs.Reasons.{AreReasons, AreReasonsDocketed, days_docketed, deadline_lines};
 ghost use Rattle.report_memo.specs.Texts.{Pushes};
 
+use crate::called::push_period_back;
 use court_clock::Day;
 use court_days::Court;
 use deadline_reasons::{Reason, reasons_of};
 use docket_core::Docket;
 use reason_notes::{DaysByReading, push_readings};
-use reason_texts::{Course, push_heading, push_reasons};
+use reason_texts::{Course, push_period_called, push_reasons};
 use report_texts::Labels;
 use rule_periods::{DeadlineRow, DocketRow, Event, Period, check_start};
 use rule6::ServiceKind;
 use std::alloc::{AllocError, Global};
 
-/// Adds the period of the deadline in words, its reasons, a line each, where the days are these, and the other readings that
+/// Adds the period of the deadline by its Rule, its reasons, a line each, where the days are these, and the other readings that
 /// give another end. `Err` says that memory ran out.
 pub(crate) fn push_deadline_reasons(
     alloc: Global,
@@ -34,7 +35,7 @@ pub(crate) fn push_deadline_reasons(
     push_lines(alloc, text, court, labels, days, row, reasons.as_slice())
 }
 
-/// Adds the period of the deadline in words, a line for each reason, and the other readings that give another end.
+/// Adds the period of the deadline by its Rule, a line for each reason, and the other readings that give another end.
 fn push_lines(
     alloc: Global,
     text: &mut String,
@@ -46,7 +47,9 @@ fn push_lines(
 ) -> Result<(), AllocError>
     ensures { OnOk result (string_bytes text.new ≡ string_bytes text.old ++ deadline_lines court.now labels.now days.now row.now reasons.now) }
 {
-    push_heading(alloc, text, row)?;
+    let mut back = String::new(alloc);
+    push_period_back(alloc, &mut back, &row.period())?;
+    push_period_called(alloc, text, row, back.as_str())?;
     let course = Course::of(&row.period());
     push_reasons(text, court.clock(), labels.holidays, course, reasons)?;
     push_readings(alloc, text, days, court.clock(), row)

@@ -12,7 +12,7 @@ ghost use Rattle.office_texts.specs.Run.Words.{Holds, docketed_after, docketed_t
 ghost use Rattle.office_texts.specs.Words.{AddsText};
 ghost use Rattle.row_forms.specs.Words.{rows_of};
 ghost use Rattle.report_memo.specs.Reasons.{AreReasonsIfAny, days_docketed};
-ghost use Rattle.report_memo.specs.Replies.{AreReasonsWith, AreReplies, HasAnswered, IsReply, IsRow, IsTold, changes_days, deadline_asked, deadline_extended, deadline_queried, deadline_started, deadline_told, is_computed, sheet_replied, without_list};
+ghost use Rattle.report_memo.specs.Replies.{AreReasonsWith, AreReplies, HasAnswered, IsReply, IsRow, IsTold, changes_days, deadline_asked, deadline_extended, deadline_queried, deadline_resumed, deadline_started, deadline_told, is_computed, sheet_replied, without_list};
 ghost use Rattle.report_memo.specs.Texts.{Pushes};
 
 use crate::detail::Detail;
@@ -21,7 +21,7 @@ use crate::reasons::{push_docketed_reasons, push_started_reasons};
 use crate::sheets::push_sheet;
 use court_days::Court;
 use docket_core::Docket;
-use docket_rows::{Answer, Command, Query, Sheet, View};
+use docket_rows::{Answer, Command, Fact, Query, Sheet, View};
 use office_texts::{Reply, push_named_line, push_numbers, reply_to};
 use reason_notes::DaysByReading;
 use report_texts::Labels;
@@ -255,6 +255,8 @@ fn deadline_told(work: &Work, reply: &Reply) -> Option<(u32, u32)>
     match reply {
         Reply::Made(Answer::Started(place, _)) => deadline_started(work, *place),
         Reply::Made(Answer::Extended(_)) => deadline_extended(work),
+        Reply::Made(Answer::Reset(_)) => deadline_extended(work),
+        Reply::Made(Answer::Resumed(_)) => deadline_resumed(work),
         _ => None,
     }
 }
@@ -269,12 +271,27 @@ fn deadline_started(work: &Work, place: u32) -> Option<(u32, u32)>
     }
 }
 
-/// The case and the place of the deadline whose time was to be extended.
+/// The case and the place of the deadline whose time was to be extended or reset.
 fn deadline_extended(work: &Work) -> Option<(u32, u32)>
     ensures { result ≡ deadline_extended work.now }
 {
     match work {
         Work::Command(Command::Extend { case, deadline, .. }) => Some((*case, *deadline)),
+        _ => None,
+    }
+}
+
+/// The case and the place of the deadline that was to be resumed.
+fn deadline_resumed(work: &Work) -> Option<(u32, u32)>
+    ensures { result ≡ deadline_resumed work.now }
+{
+    match work {
+        Work::Command(
+            Command::Fact {
+                case,
+                fact: Fact::Resumed { deadline, .. },
+            },
+        ) => { Some((*case, *deadline)) }
         _ => None,
     }
 }

@@ -4,7 +4,7 @@ ghost use Rattle.std.specs.Prelude.{◌≡◌, ◌+◌, ◌++◌, ◌≤◌, OnO
 ghost use Rattle.docket_rows.specs.Words.{Rows, setup_of};
 ghost use Rattle.office_texts.specs.Run.Words.{Holds};
 ghost use Rattle.report_memo.specs.Memo.{AreSheets};
-ghost use Rattle.report_memo.specs.Sheets.{IsDeadline, IsSheet, IsSheetShown, first_lines};
+ghost use Rattle.report_memo.specs.Sheets.{IsDeadline, IsSheet, IsSheetShown, first_lines, lines_of_case, standing_lines};
 ghost use Rattle.report_memo.specs.Texts.{Each, Pushes};
 
 use crate::detail::Detail;
@@ -15,9 +15,9 @@ use court_clock::Day;
 use court_days::Court;
 use docket_core::Docket;
 use docket_rows::{Query, Sheet, SheetDeadline, View};
-use office_texts::{push_case_line, push_deadline};
+use office_texts::{push_assigned_line, push_case_line, push_deadline};
 use reason_notes::DaysByReading;
-use report_texts::Labels;
+use report_texts::{Labels, push_case_lines, push_labelled_deadline};
 use std::alloc::{AllocError, Global};
 
 /// Adds the lines of a sheet, with the reasons of each deadline after its line, and more where more is asked for. `Err`
@@ -33,18 +33,57 @@ pub(crate) fn push_sheet(
 ) -> Result<(), AllocError>
     ensures { Pushes (IsSheet court.now labels.now days.now detail.now sheet.now) result text.old text.new }
 {
-    push_case_line(text, labels.cases, sheet)?;
+    push_lines_of_case(text, court, labels, detail, sheet)?;
     push_deadlines(
         alloc,
         text,
         court,
         labels,
         days,
+        sheet.case,
         sheet.filed,
         detail,
         sheet.deadlines.as_slice(),
     )?;
-    push_all_motions(text, court, days.here(), detail, sheet.motions.as_slice())
+    push_all_motions(
+        text,
+        court,
+        labels,
+        sheet.case,
+        days.here(),
+        detail,
+        sheet.motions.as_slice(),
+    )
+}
+
+/// Adds the line of the case and that of who has it, and where the whole sheet is asked for that of its title between them.
+fn push_lines_of_case(
+    text: &mut String,
+    court: &Court,
+    labels: &Labels<'_>,
+    detail: &Detail,
+    sheet: &Sheet,
+) -> Result<(), AllocError>
+    ensures { OnOk result (string_bytes text.new ≡ string_bytes text.old ++ lines_of_case court.now labels.now detail.now sheet.now) }
+{
+    match detail {
+        Detail::Reasons => push_standing_lines(text, court, labels, sheet),
+        Detail::Whole { .. } => push_case_lines(text, court, labels, sheet),
+    }
+}
+
+/// Adds the line of the case, and that of who has it.
+#[tactic(auto, unfolding(crate::specs::Sheets::standing_lines))]
+fn push_standing_lines(
+    text: &mut String,
+    court: &Court,
+    labels: &Labels<'_>,
+    sheet: &Sheet,
+) -> Result<(), AllocError>
+    ensures { OnOk result (string_bytes text.new ≡ string_bytes text.old ++ standing_lines court.now labels.now.cases sheet.now) }
+{
+    push_case_line(text, labels.cases, sheet)?;
+    push_assigned_line(text, court, sheet.assigned)
 }
 
 /// Adds the line of each deadline, its reasons, and what comes before and after them.
@@ -54,14 +93,17 @@ fn push_deadlines(
     court: &Court,
     labels: &Labels<'_>,
     days: &DaysByReading,
+    case: u32,
     filed: Day,
     detail: &Detail,
     deadlines: &[SheetDeadline],
 ) -> Result<(), AllocError>
-    ensures { Pushes (Each (IsDeadline court.now labels.now days.now filed detail.now) deadlines.now) result text.old text.new }
+    ensures { Pushes (Each (IsDeadline court.now labels.now days.now case filed detail.now) deadlines.now) result text.old text.new }
 {
     for deadline in deadlines {
-        push_explained(alloc, text, court, labels, days, filed, detail, deadline)?;
+        push_explained(
+            alloc, text, court, labels, days, case, filed, detail, deadline,
+        )?;
     }
     Ok(())
 }
@@ -73,31 +115,34 @@ fn push_explained(
     court: &Court,
     labels: &Labels<'_>,
     days: &DaysByReading,
+    case: u32,
     filed: Day,
     detail: &Detail,
     deadline: &SheetDeadline,
 ) -> Result<(), AllocError>
-    ensures { Pushes (IsDeadline court.now labels.now days.now filed detail.now deadline.now) result text.old text.new }
+    ensures { Pushes (IsDeadline court.now labels.now days.now case filed detail.now deadline.now) result text.old text.new }
 {
-    push_first_lines(alloc, text, court, detail, deadline)?;
+    push_first_lines(alloc, text, court, labels, case, detail, deadline)?;
     push_deadline_reasons(alloc, text, court, labels, days, &deadline.row)?;
     push_more(alloc, text, court, days.here(), filed, detail, deadline)
 }
 
-/// Adds the line of a deadline, and where the whole sheet is asked for the rows that made it what it is.
+/// Adds the line of a deadline, and where the whole sheet is asked for that of its label and the rows that made it what it is.
 fn push_first_lines(
     alloc: Global,
     text: &mut String,
     court: &Court,
+    labels: &Labels<'_>,
+    case: u32,
     detail: &Detail,
     deadline: &SheetDeadline,
 ) -> Result<(), AllocError>
-    ensures { OnOk result (string_bytes text.new ≡ string_bytes text.old ++ first_lines court.now.clock detail.now deadline.now) }
+    ensures { OnOk result (string_bytes text.new ≡ string_bytes text.old ++ first_lines court.now.clock labels.now case detail.now deadline.now) }
 {
-    push_deadline(text, court.clock(), deadline)?;
     match detail {
-        Detail::Reasons => Ok(()),
+        Detail::Reasons => push_deadline(text, court.clock(), deadline),
         Detail::Whole { sources, .. } => {
+            push_labelled_deadline(text, court.clock(), labels, case, deadline)?;
             push_sources(alloc, text, deadline.number, sources.as_slice())
         }
     }

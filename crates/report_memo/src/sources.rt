@@ -4,12 +4,12 @@ ghost use Rattle.std.specs.Prelude.{◌≡◌, ◌++◌, map, IfOk, OnOk, option
 ghost use Rattle.docket_rows.specs.Words.{opening_rows, setup_of};
 ghost use Rattle.office_texts.specs.Run.Words.{Holds, docketed_after};
 ghost use Rattle.row_forms.specs.Words.{rows_of};
-ghost use Rattle.report_memo.specs.Sources.{deed_words, numbered_source, source_if, source_in, source_line, source_lines, source_made, source_text, sources_made};
+ghost use Rattle.report_memo.specs.Sources.{deed_words, numbered_source, source_if, source_in, source_line, source_lines, source_made, source_of_fact, source_text, sources_made};
 
 use court_days::Court;
 use desk_numbers::MovedNumbers;
 use docket_core::Docket;
-use docket_rows::{Answer, Command, Counted};
+use docket_rows::{Answer, Command, Counted, Fact};
 use office_texts::{Reply, reply_to};
 use reason_texts::push_note;
 use row_forms::{NumberedRow, Work};
@@ -24,8 +24,14 @@ pub enum Deed {
     Started,
     /// It extended the time.
     Extended,
+    /// It set another end, by an order.
+    Reset,
     /// It recorded the act.
     Filed,
+    /// It ended the deadline.
+    Ended,
+    /// It resumed the deadline.
+    Resumed,
 }
 
 /// A row that did something to a deadline of a case.
@@ -141,8 +147,27 @@ fn source_made(asked: u32, row: u64, command: &Command, answer: &Answer) -> Opti
         (Command::Extend { case, deadline, .. }, Answer::Extended(_)) => {
             source_if(asked, case, deadline, Deed::Extended, row)
         }
+        (Command::Extend { case, deadline, .. }, Answer::Reset(_)) => {
+            source_if(asked, case, deadline, Deed::Reset, row)
+        }
         (Command::FileAct { case, deadline, .. }, Answer::Filed(_)) => {
             source_if(asked, case, deadline, Deed::Filed, row)
+        }
+        (Command::Fact { case, fact }, answer) => source_of_fact(asked, row, case, fact, answer),
+        _ => None,
+    }
+}
+
+/// What a fact of a case, which was so answered, did to a deadline of the case that is asked for.
+fn source_of_fact(asked: u32, row: u64, case: u32, fact: Fact, answer: Answer) -> Option<Source>
+    ensures { result ≡ source_of_fact asked row case fact answer }
+{
+    match (fact, answer) {
+        (Fact::Ended { deadline, .. }, Answer::Ended) => {
+            source_if(asked, case, deadline, Deed::Ended, row)
+        }
+        (Fact::Resumed { deadline, .. }, Answer::Resumed(_)) => {
+            source_if(asked, case, deadline, Deed::Resumed, row)
         }
         _ => None,
     }
@@ -220,6 +245,9 @@ fn deed_words(deed: Deed) -> &'static str
     match deed {
         Deed::Started => "started by row ",
         Deed::Extended => "extended by row ",
+        Deed::Reset => "reset by row ",
         Deed::Filed => "filed by row ",
+        Deed::Ended => "ended by row ",
+        Deed::Resumed => "resumed by row ",
     }
 }

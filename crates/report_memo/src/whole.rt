@@ -7,12 +7,12 @@ ghost use Rattle.report_memo.specs.Sheets.{ahead_if_pending, more_lines, motions
 use crate::detail::Detail;
 use court_clock::{Clock, Day};
 use court_days::{Court, Days};
-use docket_rows::{SheetDeadline, SheetHearing, SheetMotion, State};
+use docket_rows::{Ending, SheetDeadline, SheetHearing, SheetMotion, State};
 use office_texts::push_motions;
 use reason_notes::{push_ahead, push_deadline_notes, push_hearing_notes, push_recorded};
+use report_texts::{Labels, push_labelled_motion};
 use rule6::Shown;
 use std::alloc::{AllocError, Global};
-use std::slice::from_ref;
 
 /// Adds what comes after the reasons of a deadline, where the whole sheet is asked for. `Err` says that memory ran out.
 pub(crate) fn push_more(
@@ -48,7 +48,15 @@ fn push_whole(
 {
     let (clock, row) = (court.clock(), &deadline.row);
     push_recorded(alloc, text, days, clock, Some(row))?;
-    push_if_pending(alloc, text, clock, *today, deadline.state, &deadline.shown)?;
+    push_if_pending(
+        alloc,
+        text,
+        clock,
+        *today,
+        deadline.state,
+        deadline.ended,
+        &deadline.shown,
+    )?;
     push_deadline_notes(
         alloc,
         text,
@@ -61,64 +69,71 @@ fn push_whole(
     )
 }
 
-/// Adds how far the end of a deadline lies from a day, where one is given and no act is recorded.
+/// Adds how far the end of a deadline lies from a day, where one is given, no act is recorded, and it wasn't ended.
 fn push_if_pending(
     alloc: Global,
     text: &mut String,
     clock: &Clock,
     today: Option<Day>,
     state: State,
+    ended: Option<Ending>,
     shown: &Shown,
 ) -> Result<(), AllocError>
-    ensures { OnOk result (string_bytes text.new ≡ string_bytes text.old ++ ahead_if_pending clock.now today state shown.now) }
+    ensures { OnOk result (string_bytes text.new ≡ string_bytes text.old ++ ahead_if_pending clock.now today state ended shown.now) }
 {
-    match (today, state) {
-        (Some(today), State::Pending) => push_ahead(alloc, text, clock, today, shown),
+    match (today, state, ended) {
+        (Some(today), State::Pending, None) => push_ahead(alloc, text, clock, today, shown),
         _ => Ok(()),
     }
 }
 
-/// Adds the lines of all motions, and where the whole sheet is asked for the notes on their hearings.
+/// Adds the lines of all motions, and where the whole sheet is asked for those of their labels and the notes on their hearings.
 pub(crate) fn push_all_motions(
     text: &mut String,
     court: &Court,
+    labels: &Labels<'_>,
+    case: u32,
     days: &Days,
     detail: &Detail,
     motions: &[SheetMotion],
 ) -> Result<(), AllocError>
-    ensures { OnOk result (string_bytes text.new ≡ string_bytes text.old ++ motions_text court.now days.now detail.now motions.now) }
+    ensures { OnOk result (string_bytes text.new ≡ string_bytes text.old ++ motions_text court.now labels.now case days.now detail.now motions.now) }
 {
     match detail {
         Detail::Reasons => push_motions(text, court, motions),
-        Detail::Whole { .. } => push_whole_motions(text, court, days, motions),
+        Detail::Whole { .. } => push_whole_motions(text, court, labels, case, days, motions),
     }
 }
 
-/// Adds the lines of each motion, and the notes on its hearing.
+/// Adds the lines of each motion and of its label, and the notes on its hearing.
 fn push_whole_motions(
     text: &mut String,
     court: &Court,
+    labels: &Labels<'_>,
+    case: u32,
     days: &Days,
     motions: &[SheetMotion],
 ) -> Result<(), AllocError>
-    ensures { OnOk result (string_bytes text.new ≡ string_bytes text.old ++ flat_map (whole_motion court.now days.now) motions.now) }
+    ensures { OnOk result (string_bytes text.new ≡ string_bytes text.old ++ flat_map (whole_motion court.now labels.now case days.now) motions.now) }
 {
     for motion in motions {
-        push_whole_motion(text, court, days, motion)?;
+        push_whole_motion(text, court, labels, case, days, motion)?;
     }
     Ok(())
 }
 
-/// Adds the lines of a motion, and the notes on its hearing.
+/// Adds the lines of a motion and of its label, and the notes on its hearing.
 fn push_whole_motion(
     text: &mut String,
     court: &Court,
+    labels: &Labels<'_>,
+    case: u32,
     days: &Days,
     motion: &SheetMotion,
 ) -> Result<(), AllocError>
-    ensures { OnOk result (string_bytes text.new ≡ string_bytes text.old ++ whole_motion court.now days.now motion.now) }
+    ensures { OnOk result (string_bytes text.new ≡ string_bytes text.old ++ whole_motion court.now labels.now case days.now motion.now) }
 {
-    push_motions(text, court, from_ref(motion))?;
+    push_labelled_motion(text, court, labels, case, motion)?;
     push_notes_if_set(text, days, motion.hearing)
 }
 

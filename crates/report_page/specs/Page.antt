@@ -20,12 +20,13 @@ title court named choice = codes "Court calendar, " ++ chosen_words court named 
 -- what the page shows: what was chosen, what is due, the judges' hearings and the cases
 unfoldable pub content : CourtView → DaysView → LabelsView → Choice → List DueItem → List JudgeCalendar → List ExplainedSheet → List ℕ
 content court days labels choice items calendars sheets =
-    text_in tag.Heading1 (codes "Court calendar") ++ text_in tag.Paragraph (chosen_words court labels.cases choice) ++ due_part court labels.cases items ++ judges_part court labels.cases calendars ++ cases_part court days labels sheets
+    text_in tag.Heading1 (codes "Court calendar") ++ text_in tag.Paragraph (chosen_words court labels.cases choice) ++ due_part court labels items ++ judges_part court labels calendars ++ cases_part court days labels sheets
 
 -- the page
 unfoldable pub page_text : CourtView → DaysView → LabelsView → Choice → List DueItem → List JudgeCalendar → List ExplainedSheet → List ℕ
 page_text court days labels choice items calendars sheets = page_with (title court labels.cases choice) (content court days labels choice items calendars sheets)
 
--- what a page shows is made of elements and escaped texts alone, whatever the names in the court's file are
+-- what a page shows is made of elements and escaped texts alone, whatever the names in the court's file are and whatever rows call
+-- cases, deadlines and motions
 abbrev pub ContentIsMarkup : Type 0
 ContentIsMarkup = (court : CourtView) (days : DaysView) (labels : LabelsView) (choice : Choice) (items : List DueItem) (calendars : List JudgeCalendar) (sheets : List ExplainedSheet) → IsMarkup (content court days labels choice items calendars sheets)

@@ -12,9 +12,13 @@ use Rattle.rule6.specs.declared.timeliness.Shown.{Shown}
 use Rattle.rule6.specs.declared.timeliness.Shown.TheVariants as shown
 use Rattle.hearing_slots.specs.declared.need.Need.{Need}
 use Rattle.hearing_slots.specs.declared.need.Need.TheVariants as need
+use Rattle.docket_rows.specs.declared.fact.DatedRuling.{DatedRuling}
+use Rattle.docket_rows.specs.declared.fact.Ending.{Ending}
 use Rattle.docket_rows.specs.declared.hearing.Hearing.{Hearing}
 use Rattle.docket_rows.specs.declared.sheet.State.{State}
 use Rattle.docket_rows.specs.declared.sheet.State.TheVariants.{Pending, Timely, Late, Undecided}
+use Rattle.docket_rows.specs.Words.{ruling_word}
+use Rattle.office_texts.specs.Words.{and_ended_text, ended_text}
 use Rattle.reason_texts.specs.Words.{minute_time, second_time}
 use Rattle.report_texts.specs.Words.{panel_names, room_words, span_words, unit_words, whole_day}
 
@@ -55,9 +59,14 @@ abbrev pub done_words : Option Filing → List ℕ
 done_words None = []
 done_words (Some f) = codes ": " ++ whole_day f.day ++ codes " " ++ minute_time f.minute ++ means_words f.means
 
--- `timely: Mon 2025-03-24 23:59, electronic`
-unfoldable pub state_words : State → Option Filing → List ℕ
-state_words state filed = state_word state ++ done_words filed
+-- `timely: Mon 2025-03-24 23:59, electronic`, `ended moot`; of one that was ended no act is pending
+unfoldable pub state_words : State → Option Filing → Option Ending → List ℕ
+state_words Pending filed (Some why) = ended_text why
+state_words state filed ended = state_word state ++ done_words filed ++ and_ended_text ended
+
+-- `granted Mon 2025-09-15`
+unfoldable pub ruling_words : DatedRuling → List ℕ
+ruling_words r = ruling_word r.ruling ++ codes " " ++ whole_day r.dated
 
 -- the days of notice that a motion needs
 abbrev pub need_words : Need → List ℕ

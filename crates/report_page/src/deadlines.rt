@@ -10,12 +10,12 @@ use crate::reasons::push_reasons_cell;
 use crate::tables::push_four_heads;
 use case_numbers::push_case_text;
 use court_clock::Clock;
-use docket_rows::SheetDeadline;
+use docket_rows::{Counted, SheetDeadline};
 use docket_selection::ExplainedDeadline;
 use page_markup::{Page, Tag};
 use reason_notes::DaysByReading;
 use reason_texts::push_heading;
-use report_texts::{Labels, push_period, push_reading};
+use report_texts::{Labels, push_label_after, push_period, push_reading};
 use rule_periods::DeadlineRow;
 use rule6::Shown;
 use std::alloc::{AllocError, Global};
@@ -42,7 +42,7 @@ pub(crate) fn push_deadlines(
     page.text_in(Tag::Caption, line)?;
     push_heads(page)?;
     page.open(Tag::TableBody)?;
-    push_rows(alloc, page, line, days, clock, deadlines)?;
+    push_rows(alloc, page, line, days, clock, labels, case, deadlines)?;
     page.close(Tag::TableBody)?;
     page.close(Tag::Table)
 }
@@ -71,12 +71,14 @@ fn push_rows(
     line: &mut String,
     days: &DaysByReading,
     clock: &Clock,
+    labels: &Labels<'_>,
+    case: u32,
     deadlines: &[ExplainedDeadline],
 ) -> Result<(), AllocError>
-    ensures { OnOk result (page.new ≡ page.old ++ flat_map (deadline_rows days.now clock.now) deadlines.now) }
+    ensures { OnOk result (page.new ≡ page.old ++ flat_map (deadline_rows days.now clock.now labels.now case) deadlines.now) }
 {
     for explained in deadlines {
-        push_explained(alloc, page, line, days, clock, explained)?;
+        push_explained(alloc, page, line, days, clock, labels, case, explained)?;
     }
     Ok(())
 }
@@ -89,15 +91,19 @@ fn push_explained(
     line: &mut String,
     days: &DaysByReading,
     clock: &Clock,
+    labels: &Labels<'_>,
+    case: u32,
     explained: &ExplainedDeadline,
 ) -> Result<(), AllocError>
-    ensures { OnOk result (page.new ≡ page.old ++ deadline_rows days.now clock.now explained.now) }
+    ensures { OnOk result (page.new ≡ page.old ++ deadline_rows days.now clock.now labels.now case explained.now) }
 {
     push_row(
         alloc,
         page,
         line,
         clock,
+        labels,
+        case,
         &explained.deadline,
         explained.other,
     )?;
@@ -113,17 +119,20 @@ fn push_row(
     page: &mut Page,
     line: &mut String,
     clock: &Clock,
+    labels: &Labels<'_>,
+    case: u32,
     deadline: &SheetDeadline,
     other: Option<Shown>,
 ) -> Result<(), AllocError>
-    ensures { OnOk result (page.new ≡ page.old ++ deadline_row clock.now deadline.now other) }
+    ensures { OnOk result (page.new ≡ page.old ++ deadline_row clock.now labels.now case deadline.now other) }
 {
     page.open(Tag::Row)?;
     set_number(line, deadline.number)?;
+    push_label_after(line, labels, case, Counted::Deadline, deadline.number)?;
     page.text_in(Tag::RowHead, line)?;
     push_period_cell(alloc, page, line, &deadline.row)?;
     push_end_cell(page, line, clock, &deadline.shown, other)?;
-    set_state(line, deadline.state, deadline.row.filed())?;
+    set_state(line, deadline.state, deadline.row.filed(), deadline.ended)?;
     page.text_in(state_cell(deadline.state), line)?;
     page.close(Tag::Row)
 }

@@ -12,7 +12,9 @@ use court_days::Court;
 use docket_rows::State;
 use docket_selection::{DueItem, DueTypes, Matter};
 use page_markup::{Page, Tag};
-use report_texts::{Labels, is_day_of, push_closing, push_matter, push_time};
+use report_texts::{
+    Labels, counted_in, is_day_of, push_called_after, push_closing, push_matter, push_time,
+};
 use std::alloc::AllocError;
 
 /// Adds what is due.
@@ -24,7 +26,7 @@ pub(crate) fn push_due(
     labels: &Labels<'_>,
     items: &[DueItem],
 ) -> Result<(), AllocError>
-    ensures { OnOk result (page.new ≡ page.old ++ due_part court.now labels.now.cases items.now) }
+    ensures { OnOk result (page.new ≡ page.old ++ due_part court.now labels.now items.now) }
 {
     let _types: DueTypes = None;
     page.open(Tag::Section)?;
@@ -45,7 +47,7 @@ fn push_table(
     labels: &Labels<'_>,
     items: &[DueItem],
 ) -> Result<(), AllocError>
-    ensures { OnOk result (page.new ≡ page.old ++ due_table court.now labels.now.cases items.now) }
+    ensures { OnOk result (page.new ≡ page.old ++ due_table court.now labels.now items.now) }
 {
     let _types: DueTypes = None;
     if items.is_empty() {
@@ -85,7 +87,7 @@ fn push_rows(
     labels: &Labels<'_>,
     items: &[DueItem],
 ) -> Result<(), AllocError>
-    ensures { OnOk result (page.new ≡ page.old ++ due_rows court.now labels.now.cases None items.now) }
+    ensures { OnOk result (page.new ≡ page.old ++ due_rows court.now labels.now None items.now) }
 {
     let _types: DueTypes = None;
     let mut before = None;
@@ -124,15 +126,22 @@ fn push_row(
     labels: &Labels<'_>,
     item: &DueItem,
 ) -> Result<(), AllocError>
-    ensures { OnOk result (page.new ≡ page.old ++ due_row court.now labels.now.cases item.now) }
+    ensures { OnOk result (page.new ≡ page.old ++ due_row court.now labels.now item.now) }
 {
     page.open(Tag::Row)?;
     line.clear();
-    push_time(line, item.second, &item.matter)?;
+    push_time(line, court.clock(), item.second, &item.matter)?;
     page.text_in(Tag::RowHead, line)?;
     push_case_cell(page, line, labels, item.case)?;
     line.clear();
     push_matter(line, court, item.number, &item.matter)?;
+    push_called_after(
+        line,
+        labels,
+        item.case,
+        counted_in(&item.matter),
+        item.number,
+    )?;
     page.text_in(matter_cell(&item.matter), line)?;
     page.close(Tag::Row)
 }

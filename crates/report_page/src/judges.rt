@@ -26,7 +26,7 @@ pub(crate) fn push_judges(
     labels: &Labels<'_>,
     calendars: &[JudgeCalendar],
 ) -> Result<(), AllocError>
-    ensures { OnOk result (page.new ≡ page.old ++ judges_part court.now labels.now.cases calendars.now) }
+    ensures { OnOk result (page.new ≡ page.old ++ judges_part court.now labels.now calendars.now) }
 {
     page.open(Tag::Section)?;
     page.text_in(Tag::Heading2, "Hearings by judge")?;
@@ -42,7 +42,7 @@ fn push_parts(
     labels: &Labels<'_>,
     calendars: &[JudgeCalendar],
 ) -> Result<(), AllocError>
-    ensures { OnOk result (page.new ≡ page.old ++ judge_parts court.now labels.now.cases calendars.now) }
+    ensures { OnOk result (page.new ≡ page.old ++ judge_parts court.now labels.now calendars.now) }
 {
     if calendars.is_empty() {
         return page.text_in(Tag::Paragraph, "No hearing is set.");
@@ -58,7 +58,7 @@ fn push_calendars(
     labels: &Labels<'_>,
     calendars: &[JudgeCalendar],
 ) -> Result<(), AllocError>
-    ensures { OnOk result (page.new ≡ page.old ++ flat_map (judge_part court.now labels.now.cases) calendars.now) }
+    ensures { OnOk result (page.new ≡ page.old ++ flat_map (judge_part court.now labels.now) calendars.now) }
 {
     for calendar in calendars {
         push_judge(page, line, court, labels, calendar)?;
@@ -75,7 +75,7 @@ fn push_judge(
     labels: &Labels<'_>,
     calendar: &JudgeCalendar,
 ) -> Result<(), AllocError>
-    ensures { OnOk result (page.new ≡ page.old ++ judge_part court.now labels.now.cases calendar.now) }
+    ensures { OnOk result (page.new ≡ page.old ++ judge_part court.now labels.now calendar.now) }
 {
     page.open(Tag::Section)?;
     set_title(line, court, calendar.judge)?;
@@ -127,7 +127,7 @@ fn push_rows(
     labels: &Labels<'_>,
     bookings: &[Booking],
 ) -> Result<(), AllocError>
-    ensures { OnOk result (page.new ≡ page.old ++ booking_rows court.now labels.now.cases None bookings.now) }
+    ensures { OnOk result (page.new ≡ page.old ++ booking_rows court.now labels.now None bookings.now) }
 {
     let mut before = None;
     for booking in bookings {
@@ -185,7 +185,7 @@ fn push_row(
     labels: &Labels<'_>,
     booking: &Booking,
 ) -> Result<(), AllocError>
-    ensures { OnOk result (page.new ≡ page.old ++ booking_row court.now labels.now.cases booking.now) }
+    ensures { OnOk result (page.new ≡ page.old ++ booking_row court.now labels.now booking.now) }
 {
     page.open(Tag::Row)?;
     set_day(line, booking.day)?;

@@ -2,17 +2,19 @@
 
 ghost use Rattle.std.specs.Prelude.{◌≡◌, ◌++◌, OnOk, string_bytes};
 ghost use Rattle.std.specs.List.{flat_map};
-ghost use Rattle.report_page.specs.Cases.{hearing_cell, motion_caption, motion_heads, motion_row, motion_table};
+ghost use Rattle.report_page.specs.Cases.{hearing_cell, motion_caption, motion_heads, motion_row, motion_table, served_cell};
 
 use crate::phrases::{
     set_affidavits, set_day, set_hearing_place, set_hearing_time, set_need, set_notice, set_number,
+    set_ruling,
 };
 use crate::tables::push_four_heads;
 use case_numbers::push_case_text;
+use court_clock::Day;
 use court_days::Court;
-use docket_rows::{SheetHearing, SheetMotion};
+use docket_rows::{Counted, DatedRuling, SheetHearing, SheetMotion};
 use page_markup::{Page, Tag};
-use report_texts::Labels;
+use report_texts::{Labels, push_label_after};
 use std::alloc::AllocError;
 
 /// Adds the table of a case's motions, or that there are none.
@@ -25,7 +27,7 @@ pub(crate) fn push_motions(
     case: u32,
     motions: &[SheetMotion],
 ) -> Result<(), AllocError>
-    ensures { OnOk result (page.new ≡ page.old ++ motion_table court.now labels.now.cases case motions.now) }
+    ensures { OnOk result (page.new ≡ page.old ++ motion_table court.now labels.now case motions.now) }
 {
     if motions.is_empty() {
         return page.text_in(Tag::Paragraph, "No motion is entered.");
@@ -35,7 +37,7 @@ pub(crate) fn push_motions(
     page.text_in(Tag::Caption, line)?;
     push_heads(page)?;
     page.open(Tag::TableBody)?;
-    push_rows(page, line, court, motions)?;
+    push_rows(page, line, court, labels, case, motions)?;
     page.close(Tag::TableBody)?;
     page.close(Tag::Table)
 }
@@ -62,12 +64,14 @@ fn push_rows(
     page: &mut Page,
     line: &mut String,
     court: &Court,
+    labels: &Labels<'_>,
+    case: u32,
     motions: &[SheetMotion],
 ) -> Result<(), AllocError>
-    ensures { OnOk result (page.new ≡ page.old ++ flat_map (motion_row court.now) motions.now) }
+    ensures { OnOk result (page.new ≡ page.old ++ flat_map (motion_row court.now labels.now case) motions.now) }
 {
     for motion in motions {
-        push_row(page, line, court, motion)?;
+        push_row(page, line, court, labels, case, motion)?;
     }
     Ok(())
 }
@@ -78,19 +82,44 @@ fn push_row(
     page: &mut Page,
     line: &mut String,
     court: &Court,
+    labels: &Labels<'_>,
+    case: u32,
     motion: &SheetMotion,
 ) -> Result<(), AllocError>
-    ensures { OnOk result (page.new ≡ page.old ++ motion_row court.now motion.now) }
+    ensures { OnOk result (page.new ≡ page.old ++ motion_row court.now labels.now case motion.now) }
 {
     page.open(Tag::Row)?;
     set_number(line, motion.number)?;
+    push_label_after(line, labels, case, Counted::Motion, motion.number)?;
     page.text_in(Tag::RowHead, line)?;
-    set_day(line, motion.served)?;
-    page.text_in(Tag::Cell, line)?;
+    push_served(page, line, motion.served, motion.ruling)?;
     set_need(line, motion.need)?;
     page.text_in(Tag::Cell, line)?;
     push_hearing(page, line, court, &motion.hearing)?;
     page.close(Tag::Row)
+}
+
+/// Adds the cell of when a motion was served, with how it was ruled on, if it was.
+#[tactic(auto, unfolding(crate::specs::Cases::served_cell))]
+fn push_served(
+    page: &mut Page,
+    line: &mut String,
+    served: Day,
+    ruling: Option<DatedRuling>,
+) -> Result<(), AllocError>
+    ensures { OnOk result (page.new ≡ page.old ++ served_cell served ruling) }
+{
+    set_day(line, served)?;
+    match ruling {
+        None => page.text_in(Tag::Cell, line),
+        Some(ruled) => {
+            page.open(Tag::Cell)?;
+            page.text_in(Tag::Line, line)?;
+            set_ruling(line, ruled)?;
+            page.text_in(Tag::Line, line)?;
+            page.close(Tag::Cell)
+        }
+    }
 }
 
 /// Adds the cell of a motion's hearing, or that none is set.

@@ -1,19 +1,19 @@
 //! What is said of a deadline and of a motion, in words. Each function makes a line that, where memory runs out, has any
 //! text.
 
-ghost use Rattle.std.specs.Prelude.{◌≡◌, ◌<◌, IfSome, OnOk, string_bytes};
+ghost use Rattle.std.specs.Prelude.{◌≡◌, ◌<◌, ◌++◌, IfSome, OnOk, string_bytes};
 ghost use Rattle.std.specs.Fmt.{decimal};
-ghost use Rattle.office_texts.specs.Words.{AddsText};
+ghost use Rattle.office_texts.specs.Words.{AddsText, and_ended_text};
 ghost use Rattle.court_clock.specs.Words.{civil_of};
 ghost use Rattle.report_texts.specs.Words.{whole_day};
-ghost use Rattle.report_page.specs.Phrases.{affidavits_words, beyond_words, case_name, done_words, ends_words, hearing_place, hearing_time, means_words, motion_name, need_words, notice_words, state_word, state_words, until_words};
+ghost use Rattle.report_page.specs.Phrases.{affidavits_words, beyond_words, case_name, done_words, ends_words, hearing_place, hearing_time, means_words, motion_name, need_words, notice_words, ruling_words, state_word, state_words, until_words};
 
 use case_numbers::push_case_text;
 use court_clock::{Clock, Day, Instant};
 use court_days::Court;
-use docket_rows::{Hearing, State};
+use docket_rows::{DatedRuling, Ending, Hearing, State};
 use hearing_slots::Need;
-use office_texts::push_number;
+use office_texts::{push_and_ended, push_ended, push_number};
 use reason_texts::{push_minute, push_second};
 use report_texts::{Labels, push_panel, push_room, push_span, push_whole_day, unit_words};
 use rule6::{Filing, Means, Shown};
@@ -93,18 +93,35 @@ fn push_beyond(line: &mut String) -> Result<(), AllocError>
     line.push_str("beyond the days of the court's file")
 }
 
-/// Makes the line whether a deadline was met, and by which act.
+/// Makes the line whether a deadline was met, and by which act, and why it is due no more, if it was ended.
 #[tactic(auto, unfolding(crate::specs::Phrases::state_words))]
 pub(crate) fn set_state(
     line: &mut String,
     state: State,
     filed: Option<Filing>,
+    ended: Option<Ending>,
 ) -> Result<(), AllocError>
-    ensures { OnOk result (string_bytes line.new ≡ state_words state filed) }
+    ensures { OnOk result (string_bytes line.new ≡ state_words state filed ended) }
 {
     line.clear();
+    match (state, ended) {
+        (State::Pending, Some(why)) => push_ended(line, why),
+        _ => push_act(line, state, filed, ended),
+    }
+}
+
+/// Adds whether a deadline was met, by which act, and why it is due no more after that.
+fn push_act(
+    line: &mut String,
+    state: State,
+    filed: Option<Filing>,
+    ended: Option<Ending>,
+) -> Result<(), AllocError>
+    ensures { OnOk result (AddsText line.old line.new (state_word state ++ done_words filed ++ and_ended_text ended)) }
+{
     line.push_str(state_word(state))?;
-    push_done(line, filed)
+    push_done(line, filed)?;
+    push_and_ended(line, ended)
 }
 
 /// Whether a deadline was met.
@@ -142,6 +159,17 @@ fn means_words(means: Means) -> &'static str
         Means::Electronic => ", electronic",
         Means::Paper => ", paper",
     }
+}
+
+/// Makes the line how a motion was ruled on, and when.
+#[tactic(auto, unfolding(crate::specs::Phrases::ruling_words))]
+pub(crate) fn set_ruling(line: &mut String, ruled: DatedRuling) -> Result<(), AllocError>
+    ensures { OnOk result (string_bytes line.new ≡ ruling_words ruled) }
+{
+    line.clear();
+    line.push_str(ruled.ruling.word())?;
+    line.push_str(" ")?;
+    push_whole_day(line, ruled.dated)
 }
 
 /// Makes the line the notice that a motion needs.

@@ -4,8 +4,9 @@ ghost use Rattle.std.specs.Prelude.{◌≡◌, ◌++◌, OnOk};
 ghost use Rattle.report_page.specs.Tables.{case_cell, case_link, four_heads, motion_cell, three_heads};
 
 use crate::phrases::{set_case, set_motion};
+use docket_rows::Counted;
 use page_markup::{Page, Tag};
-use report_texts::Labels;
+use report_texts::{Labels, push_called_after};
 use std::alloc::AllocError;
 
 /// Adds the heads of three columns.
@@ -86,11 +87,12 @@ pub(crate) fn push_motion_cell(
     case: u32,
     motion: u32,
 ) -> Result<(), AllocError>
-    ensures { OnOk result (page.new ≡ page.old ++ motion_cell labels.now.cases case motion) }
+    ensures { OnOk result (page.new ≡ page.old ++ motion_cell labels.now case motion) }
 {
     page.open(Tag::Cell)?;
     push_case_link(page, line, labels, case)?;
     set_motion(line, motion)?;
+    push_called_after(line, labels, case, Counted::Motion, motion)?;
     page.text(line)?;
     page.close(Tag::Cell)
 }

@@ -5,7 +5,7 @@ use Rattle.clap.specs.Words.{Row, first_of}
 use Rattle.program_main.specs.declared.options.fault.OptionsFault.{OptionsFault}
 use Rattle.program_main.specs.declared.options.fault.OptionsFault.TheVariants.{BadWords, Help, OutOfMemory}
 use Rattle.program_main.specs.Options.Words.{IsFaultAmong}
-use Rattle.program_main.specs.Texts.Words.{faults_unless, is_case_taken, is_day_taken, is_said_taken}
+use Rattle.program_main.specs.Texts.Words.{faults_unless, is_case_taken, is_count_taken, is_day_taken, is_said_taken}
 use Rattle.report_program.specs.Asked.{are_given_taken, is_instant_taken}
 
 false_is_true : false ≡ true → ⊥
@@ -29,10 +29,12 @@ taken_of false none = cc
 pub each_taken : (given : List Row) → are_given_taken given ≡ true
     → (is_said_taken (first_of (codes "from") given) ≡ true) × (is_said_taken (first_of (codes "to") given) ≡ true) × (is_said_taken (first_of (codes "of") given) ≡ true)
     × (is_day_taken (first_of (codes "today") given) ≡ true) × (is_instant_taken (first_of (codes "stamp") given) ≡ true) × (is_case_taken (first_of (codes "case") given) ≡ true)
+    × (is_count_taken (first_of (codes "days") given) ≡ true)
 each_taken given all =
     let from = and_parts (is_said_taken (first_of (codes "from") given)) _ all in
     let to = and_parts (is_said_taken (first_of (codes "to") given)) _ from.1 in
     let of = and_parts (is_said_taken (first_of (codes "of") given)) _ to.1 in
     let today = and_parts (is_day_taken (first_of (codes "today") given)) _ of.1 in
-    let rest = and_parts (is_instant_taken (first_of (codes "stamp") given)) (is_case_taken (first_of (codes "case") given)) today.1 in
-    (from.0, to.0, of.0, today.0, rest.0, rest.1)
+    let stamp = and_parts (is_instant_taken (first_of (codes "stamp") given)) _ today.1 in
+    let rest = and_parts (is_case_taken (first_of (codes "case") given)) (is_count_taken (first_of (codes "days") given)) stamp.1 in
+    (from.0, to.0, of.0, today.0, stamp.0, rest.0, rest.1)

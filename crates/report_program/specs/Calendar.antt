@@ -1,5 +1,5 @@
 -- What is written of a docket after all its rows.
-use Rattle.std.specs.Prelude.{◌≡◌, ℕ, ℤ, List, [], ◌++◌, Option, Some, None, codes, map, string_bytes, IsErrAnd, IsOkAnd, IsSome}
+use Rattle.std.specs.Prelude.{◌≡◌, ℕ, ℤ, true, List, [], ◌++◌, Option, Some, None, codes, length, map, string_bytes, IsErrAnd, IsOkAnd, IsSome}
 use Rattle.std.specs.declared.alloc.Global.{Global}
 use Rattle.std.specs.Prelude.{String}
 use Rattle.office_texts.specs.Names.Words.{called_text}
@@ -10,13 +10,14 @@ use Rattle.desk_numbers.specs.Words.{numbered_sheet, numbered_view}
 use Rattle.court_clock.specs.Words.{day_text}
 use Rattle.court_days.specs.Words.{CourtView, file_of}
 use Rattle.docket_rows.specs.declared.query.Query.TheVariants as query
+use Rattle.docket_rows.specs.declared.view.View.TheVariants as view
 use Rattle.docket_rows.specs.Words.{CourtSetup, Rows, opening_rows, setup_of, view_of}
 use Rattle.docket_selection.specs.declared.choice.Choice.{Choice}
 use Rattle.docket_selection.specs.declared.item.DueItem.{DueItem}
-use Rattle.docket_selection.specs.Words.{IsDue, chosen_calendars, chosen_sheets, day_bookings, week_days}
+use Rattle.docket_selection.specs.Words.{IsDue, all_left_out, chosen_calendars, chosen_sheets, day_bookings, week_days}
 use Rattle.docket_selection.specs.declared.changes.change.RowChange.{RowChange}
 use Rattle.content_lines.specs.Words.{HasShortLines}
-use Rattle.report_texts.specs.Words.{LabelsView, due_text, numbered_calendar, numbered_day, numbered_item, week_text}
+use Rattle.report_texts.specs.Words.{LabelsView, due_text, labelled_sheet, left_out_line, numbered_calendar, numbered_day, numbered_item, week_text}
 use Rattle.report_ics.specs.Words.{appointments_of, icalendar_text}
 use Rattle.docket_selection.specs.declared.explained.explained.ExplainedSheet.{ExplainedSheet}
 use Rattle.docket_selection.specs.Explained.Words.{AreExplained}
@@ -25,6 +26,7 @@ use Rattle.row_forms.specs.declared.numbered.NumberedRow.{NumberedRow}
 use Rattle.row_forms.specs.Words.{numbered_from, rows_of}
 use Rattle.office_texts.specs.Named.Words.{named_reply}
 use Rattle.office_texts.specs.Run.Words.{docketed_after}
+use Rattle.office_texts.specs.declared.run.reply.Reply.{Reply}
 use Rattle.office_texts.specs.declared.run.reply.Reply.TheVariants.{Viewed}
 use Rattle.report_json.specs.Words.{AreAnswerLines, IsDocketJson}
 use Rattle.report_sql.specs.Words.{script_text}
@@ -47,16 +49,16 @@ pub record IsNumberedDue (setup : CourtSetup) (docketed : Rows) (labels : Labels
   pub due : IsDue setup docketed labels.doubtful choice items
   pub numbers : list ≡ map (numbered_item labels.moved) items
 
--- the text of what is due: a line for each item of the list of what is due
+-- the text of what is due: a line for each item of the list of what is due, and how many deadlines aren't there since they are ended
 pub record IsDueText (court : CourtView) (labels : LabelsView) (docketed : Rows) (choice : Choice) (text : List ℕ) : Type 0 where
   pub list : List DueItem
   pub due : IsNumberedDue (setup_of court) docketed labels choice list
-  pub lines : text ≡ due_text court labels.cases choice list
+  pub lines : text ≡ due_text court labels choice list ++ left_out_line (length (all_left_out (setup_of court) docketed choice))
 
 -- the text of the week of the judge in which the day is: of the bookings that the docket shows on each of its days
 abbrev pub week_text_of : CourtView → LabelsView → (docketed : Rows) → (judge : ℕ) → (day : ℤ) → List ℕ
 week_text_of court labels docketed judge day =
-    week_text court labels.cases judge (map (numbered_day labels.moved) (map (day_bookings (setup_of court) docketed judge) (week_days day)))
+    week_text court labels judge (map (numbered_day labels.moved) (map (day_bookings (setup_of court) docketed judge) (week_days day)))
 
 -- The page of what is due, of the chosen judges' bookings, and of the sheets of the chosen cases with the reasons of each
 -- deadline, by the days that are docketed.
@@ -67,9 +69,9 @@ pub record IsPage (court : CourtView) (labels : LabelsView) (docketed : Rows) (c
   pub explained : AreExplained docketed.days court.clock labels.doubtful (map (numbered_sheet labels.moved) (chosen_sheets (setup_of court) docketed choice)) sheets
   pub page : text ≡ page_text court docketed.days labels choice list (map (numbered_calendar labels.moved) (chosen_calendars (setup_of court) docketed choice)) sheets
 
--- the same, of any judge
-abbrev pub of_any_judge : Choice → Choice
-of_any_judge choice = record choice { judge = None }
+-- the same, of the cases that aren't before the judge
+abbrev pub of_other_cases : Choice → Choice
+of_other_cases choice = record choice { elsewhere = true }
 
 -- The text of a calendar: an event for each item of the list of what is chosen, for each deadline and each chosen hearing that is off
 -- by the changes that were made, as the chosen judge saw them, and for each chosen deadline that no row starts any more.
@@ -77,13 +79,18 @@ pub record IsIcsText (court : CourtView) (labels : LabelsView) (docketed : Rows)
   pub items : List DueItem
   pub chosen : IsDue (setup_of court) docketed labels.doubtful choice items
   pub others : List DueItem
-  pub of_any : IsSome choice.judge → IsDue (setup_of court) docketed labels.doubtful (of_any_judge choice) others
-  pub lines : text ≡ icalendar_text court labels.cases stamp (map (numbered_appointment labels.moved corrections) (appointments_of choice (record { judge = choice.judge; changes = changes }) items others lost))
+  pub of_others : IsSome choice.judge → IsDue (setup_of court) docketed labels.doubtful (of_other_cases choice) others
+  pub lines : text ≡ icalendar_text court labels stamp (map (numbered_appointment labels.moved corrections) (appointments_of choice (record { judge = choice.judge; changes = changes }) items others lost))
   pub short : HasShortLines text
 
--- the text of a case's sheet, as a row that asks for it is answered
+-- a sheet with what rows call things, and any other reply as rows get it
+abbrev pub shown_called : CourtView → LabelsView → Reply → List ℕ
+shown_called court labels (Viewed (view.Sheet sheet)) = codes "sheet\n" ++ labelled_sheet court labels sheet
+shown_called court labels reply = named_reply court labels.cases reply
+
+-- the text of a case's sheet, as a row that asks for it is answered, with what rows call the case, its deadlines and its motions
 abbrev pub sheet_text_of : CourtView → LabelsView → (docketed : Rows) → (case : ℕ) → List ℕ
-sheet_text_of court labels docketed case = named_reply court labels.cases (Viewed (numbered_view labels.moved (view_of (setup_of court) docketed (query.Sheet case))))
+sheet_text_of court labels docketed case = shown_called court labels (Viewed (numbered_view labels.moved (view_of (setup_of court) docketed (query.Sheet case))))
 
 -- the text of what is shown of the docket
 abbrev pub IsListing : CourtView → LabelsView → (docketed : Rows) → List RowChange → (lost : List DueItem) → (corrections : ℕ) → Listing → List ℕ → Type 0

@@ -4,10 +4,12 @@ use Rattle.std.specs.Option.{option_and_then, option_or}
 use Rattle.office_texts.specs.Names.Words.{number_called}
 use Rattle.office_texts.specs.declared.names.called.CaseCalled.{CaseCalled}
 use Rattle.case_numbers.specs.declared.names.NamedCase.{NamedCase}
+use Rattle.court_clock.specs.Words.{earlier_day}
 use Rattle.court_days.specs.Words.{CourtView, DaysView, is_covered}
 use Rattle.court_file_text.specs.Words.{name_index}
 use Rattle.docket_selection.specs.declared.choice.Choice.{Choice}
 use Rattle.program_main.specs.declared.texts.days.DaySaid.{DaySaid}
+use Rattle.program_main.specs.declared.texts.days.DaySaid.TheVariants.{Before}
 use Rattle.program_main.specs.Texts.Words.{day_on, today_by}
 use Rattle.report_program.specs.declared.asked.Asked.{Asked}
 use Rattle.report_program.specs.declared.asked.Task.TheVariants as task
@@ -32,14 +34,22 @@ today_of court asked = unwrap_or asked.today (today_by court.clock asked.clock_t
 abbrev pub day_asked : CourtView → Asked → Option DaySaid → (other : ℤ) → ℤ
 day_asked court asked said other = unwrap_or (option_map (day_on (today_of court asked)) said) other
 
+-- the last day: what is overdue ended before today
+abbrev pub last_asked : CourtView → Asked → ℤ
+last_asked court asked =
+    let to = day_asked court asked asked.to court.days.to in
+    if asked.overdue then earlier_day to (day_on (today_of court asked) (Before 1)) else to
+
 -- of that judge or of any, and of that case or of any: all days of the court's file, as far as nothing else is asked for
 abbrev pub choice_of : CourtView → (case : Option ℕ) → Asked → (met : Bool) → (judge : Option ℕ) → Choice
 choice_of court case asked met judge = record {
   judge = judge;
+  elsewhere = false;
   case = case;
   from = day_asked court asked asked.from court.days.from;
-  to = day_asked court asked asked.to court.days.to;
+  to = last_asked court asked;
   met = met;
+  overdue = asked.overdue;
 }
 
 -- of the judge of that name, where the court has one, or of any where none is asked for

@@ -18,6 +18,14 @@ choosing_shape name = record (sourced_shape name) {
   rules = (sourced_shape name).rules ++ text_rule (codes "from") ∷ text_rule (codes "to") ∷ text_rule (codes "today") ∷ text_rule (codes "judge") ∷ text_rule (codes "case") ∷ [];
 }
 
+-- `--overdue`, once at most
+abbrev pub overdue_rule : Rule
+overdue_rule = record (new_rule (codes "overdue")) { long = Some (codes "overdue"); action = Some SetTrue }
+
+-- the one of what is due, which also takes how many days there are from today on, and that only what is overdue is listed
+abbrev pub due_shape : Shape
+due_shape = record (choosing_shape (codes "due")) { rules = (choosing_shape (codes "due")).rules ++ text_rule (codes "days") ∷ overdue_rule ∷ [] }
+
 -- the one of calendars, which also takes the instant at which one is written
 abbrev pub ics_shape : Shape
 ics_shape = record (choosing_shape (codes "ics")) { rules = (choosing_shape (codes "ics")).rules ++ text_rule (codes "stamp") ∷ [] }
@@ -37,5 +45,5 @@ sql_shape = sourced_shape (codes "sql")
 -- a command line with a subcommand for each report
 abbrev pub with_reports : App → App
 with_reports app =
-    with_subcommand (with_subcommand (with_subcommand (with_subcommand (with_subcommand (with_subcommand app (choosing_shape (codes "due"))) week_shape) (choosing_shape (codes "page"))) ics_shape)
+    with_subcommand (with_subcommand (with_subcommand (with_subcommand (with_subcommand (with_subcommand app due_shape) week_shape) (choosing_shape (codes "page"))) ics_shape)
     json_shape) sql_shape

@@ -23,7 +23,7 @@ lost_item from period g = record {
   second = 0;
   case = g.case;
   number = g.number;
-  matter = Deadline (record { period = period; shown = Beyond; state = Pending; other = None });
+  matter = Deadline (record { period = period; shown = Beyond; state = Pending; ended = None; other = None });
 }
 
 -- what a command started, if it starts a deadline and this number was given to it

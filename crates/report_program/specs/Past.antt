@@ -4,7 +4,7 @@ use Rattle.std.specs.Prelude.{ℕ, ◌+◌, List, [], ◌∷◌, ◌++◌, Optio
 use Rattle.std.specs.List.{filter_map, flat_map}
 use Rattle.docket_rows.specs.declared.answer.Answer.TheVariants.{Booked}
 use Rattle.docket_selection.specs.declared.changes.change.Change.{Change}
-use Rattle.docket_selection.specs.declared.changes.change.Change.TheVariants.{Days, Deadline, Hearing}
+use Rattle.docket_selection.specs.declared.changes.change.Change.TheVariants.{Days, Deadline, Hearing, Judges}
 use Rattle.docket_selection.specs.declared.changes.change.RowChange.{RowChange}
 use Rattle.docket_selection.specs.declared.item.DueItem.{DueItem}
 use Rattle.docket_selection.specs.Changes.Words.{change_made}
@@ -36,6 +36,7 @@ change_asked number (Query query) = None
 abbrev pub undone : (number : ℕ) → Change → List RowChange
 undone number Days = []
 undone number (Deadline case) = []
+undone number (Judges case to referred) = []
 undone number (Hearing h) = record { row = number; change = Hearing (record h { hearing = None }) } ∷ []
 
 abbrev pub and_undone : Option RowChange → List RowChange

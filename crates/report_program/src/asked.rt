@@ -8,13 +8,13 @@ ghost use Rattle.clap.specs.Words.{found_of, rows_of};
 ghost use Rattle.content_lines.specs.Words.{stamp_of_text};
 ghost use Rattle.program_main.specs.Options.Words.{IsAnswerFor, IsFaultAmong};
 ghost use Rattle.program_main.specs.Texts.Words.{faults_unless};
-ghost use Rattle.report_program.specs.Asked.{IsAskedBy, are_given_taken, faults_given, is_instant_taken, task_of};
+ghost use Rattle.report_program.specs.Asked.{IsAskedBy, are_given_taken, faults_given, first_said, is_instant_taken, last_said, task_of};
 
 use clap::ArgMatches;
 use content_lines::stamp_of_text;
 use court_clock::{Day, Instant};
 use office_texts::CaseCalled;
-use program_main::{DaySaid, OptionsFault, case_option, day_option, said_option};
+use program_main::{DaySaid, OptionsFault, case_option, day_option, days_option, said_option};
 use std::alloc::{AllocError, Global};
 
 /// What is written.
@@ -59,10 +59,13 @@ pub struct Asked {
     pub clock_time: Instant,
     /// Whether answers are to be lines.
     pub lines: bool,
+    /// Whether only what is overdue is asked for.
+    pub overdue: bool,
 }
 
 /// What a subcommand of that name asks for with what it was given, at the clock's time: a subcommand of `with_reports`. Where the rows
-/// are isn't in the answer. BadWords where a text writes no day, no instant or no case, and OutOfMemory where memory runs out.
+/// are isn't in the answer. BadWords where a text writes no day, no instant, no case or no number of days, and OutOfMemory where memory
+/// runs out.
 pub fn asked_by(
     alloc: Global,
     clock_time: Instant,
@@ -98,19 +101,44 @@ pub fn asked_by(
         Ok(case) => case,
         Err(fault) => return Err(fault),
     };
+    let last = match days_option(alloc, "days", given.get_str("days")) {
+        Ok(last) => last,
+        Err(fault) => return Err(fault),
+    };
     let judge = text_given(alloc, given, "judge")?;
     Ok(Asked {
         task: task_of(name),
         judge,
         case,
-        from,
-        to,
+        from: first_said(&last, from),
+        to: last_said(&last, to),
         of,
         today,
         stamp,
         clock_time,
         lines: given.get_flag("lines"),
+        overdue: given.get_flag("overdue"),
     })
+}
+
+/// The first day: today, where it is said which is the last of so many days from today on.
+fn first_said(last: &Option<DaySaid>, from: Option<DaySaid>) -> Option<DaySaid>
+    ensures { result ≡ first_said last.now from }
+{
+    match last {
+        Some(_) => Some(DaySaid::After(0)),
+        None => from,
+    }
+}
+
+/// The last day.
+fn last_said(last: &Option<DaySaid>, to: Option<DaySaid>) -> Option<DaySaid>
+    ensures { result ≡ last_said last.now to }
+{
+    match last {
+        Some(_) => *last,
+        None => to,
+    }
 }
 
 /// What a subcommand of that name writes.

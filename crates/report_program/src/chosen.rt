@@ -1,7 +1,8 @@
 //! What is chosen of a court by what was asked for.
 
 ghost use Rattle.std.specs.Prelude.{◌≡◌, option_map, string_bytes};
-ghost use Rattle.report_program.specs.Chosen.{case_given, choice_asked, choice_of, chosen_by, chosen_of, day_asked, due_chosen, ics_chosen, json_chosen, judge_given, missing_backwards, missing_between, missing_day, missing_days, missing_listed, page_chosen, sheet_chosen, today_of, week_chosen};
+ghost use Rattle.court_clock.specs.Words.{earlier_day};
+ghost use Rattle.report_program.specs.Chosen.{case_given, choice_asked, choice_of, chosen_by, chosen_of, day_asked, due_chosen, ics_chosen, json_chosen, judge_given, last_asked, missing_backwards, missing_between, missing_day, missing_days, missing_listed, page_chosen, sheet_chosen, today_of, week_chosen};
 
 use crate::asked::{Asked, Task};
 use court_clock::{Day, Instant};
@@ -237,11 +238,32 @@ fn choice_of(
 {
     Choice {
         judge,
+        elsewhere: false,
         case,
         from: day_asked(court, asked, asked.from, court.days().from()),
-        to: day_asked(court, asked, asked.to, court.days().to()),
+        to: last_asked(court, asked),
         met,
+        overdue: asked.overdue,
     }
+}
+
+/// The last day: the one that is asked for, and where only what is overdue is asked for at the latest the day before today.
+fn last_asked(court: &Court, asked: &Asked) -> Day
+    ensures { result ≡ last_asked court.now asked.now }
+{
+    let to = day_asked(court, asked, asked.to, court.days().to());
+    if !asked.overdue {
+        return to;
+    }
+    let yesterday = DaySaid::Before(1).on(today_of(court, asked));
+    earlier_day(to, yesterday)
+}
+
+/// The earlier of two days.
+fn earlier_day(x: Day, y: Day) -> Day
+    ensures { result ≡ earlier_day x y }
+{
+    if x.number() <= y.number() { x } else { y }
 }
 
 /// The day that was said, by the day that counts as today; or else the other day.

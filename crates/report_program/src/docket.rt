@@ -44,7 +44,17 @@ impl Came {
 
 /// The types inside a change. The checker finds them only where they have names, so a function that adds a change to a
 /// `Vec` has a variable of this type.
-pub(crate) type ChangeTypes = Option<(RowChange, Change, HearingChange, Hearing, Panel, Day)>;
+pub(crate) type ChangeTypes = Option<
+    (
+        RowChange,
+        Change,
+        HearingChange,
+        Hearing,
+        Panel,
+        Day,
+        Option<u8>,
+    ),
+>;
 
 /// The docket of the court after all rows, each of which is carried out as `clerk_office` does, where these are by row what rows gave.
 /// What comes of them is added in their order. `Err` says that memory ran out.

@@ -4,7 +4,7 @@ ghost use Rattle.std.specs.Prelude.{◌≡◌, IfOk, IsSome};
 ghost use Rattle.docket_rows.specs.Words.{Rows, setup_of};
 ghost use Rattle.docket_selection.specs.Words.{IsDue};
 ghost use Rattle.office_texts.specs.Run.Words.{Holds};
-ghost use Rattle.report_program.specs.Calendar.{IsIcsText, of_any_judge};
+ghost use Rattle.report_program.specs.Calendar.{IsIcsText, of_other_cases};
 
 use crate::appointments::numbered_appointments;
 use crate::docket::Came;
@@ -36,7 +36,7 @@ pub(crate) fn ics_text(
     let items = placed_due(alloc, court, labels, docket, choice)?;
     let Came { changes, lost } = came;
     let histories = HearingHistories::of_changes(alloc, choice.judge, changes)?;
-    let others = due_of_any(alloc, court, labels, docket, choice)?;
+    let others = due_elsewhere(alloc, court, labels, docket, choice)?;
     let appointments = numbered_appointments(
         alloc,
         labels,
@@ -51,8 +51,8 @@ pub(crate) fn ics_text(
     Ok(text.into_bytes())
 }
 
-/// What is due before any judge, where a judge is chosen; without one it isn't asked for.
-fn due_of_any(
+/// What is due in the cases that aren't before the judge, where one is chosen; without one it isn't asked for.
+fn due_elsewhere(
     alloc: Global,
     court: &Court,
     labels: &Labels<'_>,
@@ -60,20 +60,20 @@ fn due_of_any(
     choice: &Choice,
 ) -> Result<Vec<DueItem>, AllocError>
     requires court { docket.now.setup ≡ setup_of court.now }
-    ensures { (docketed : Rows) → Holds (setup_of court.now) docket.now docketed → IfOk result (λ list. IsSome choice.now.judge → IsDue (setup_of court.now) docketed labels.now.doubtful (of_any_judge choice.now) list.items) }
+    ensures { (docketed : Rows) → Holds (setup_of court.now) docket.now docketed → IfOk result (λ list. IsSome choice.now.judge → IsDue (setup_of court.now) docketed labels.now.doubtful (of_other_cases choice.now) list.items) }
 {
     let _types: DueTypes = None;
     match choice.judge {
-        Some(_) => placed_due(alloc, court, labels, docket, &of_any_judge(choice)),
+        Some(_) => placed_due(alloc, court, labels, docket, &of_other_cases(choice)),
         None => Ok(Vec::new(alloc)),
     }
 }
 
-/// The same choice, of any judge.
-fn of_any_judge(choice: &Choice) -> Choice
-    ensures { result ≡ of_any_judge choice.now }
+/// The same choice, of the cases that aren't before the judge.
+fn of_other_cases(choice: &Choice) -> Choice
+    ensures { result ≡ of_other_cases choice.now }
 {
-    let mut any = *choice;
-    any.judge = None;
-    any
+    let mut others = *choice;
+    others.elsewhere = true;
+    others
 }

@@ -59,6 +59,7 @@ fn lost_item(from: Day, period: Period, given: Given) -> DueItem
             period,
             shown: Shown::Beyond,
             state: State::Pending,
+            ended: None,
             other: None,
         }),
     }

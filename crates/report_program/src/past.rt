@@ -97,7 +97,7 @@ fn undone(change: &RowChange) -> Option<RowChange>
     ensures { option_to_list result ≡ undone change.now.row change.now.change }
 {
     match &change.change {
-        Change::Days | Change::Deadline(_) => None,
+        Change::Days | Change::Deadline(_) | Change::Judges(_, _, _) => None,
         Change::Hearing(hearing) => Some(RowChange {
             row: change.row,
             change: Change::Hearing(HearingChange {

@@ -22,7 +22,7 @@ use crate::sheet::sheet_text;
 use crate::week::week_text;
 use case_numbers::Cases;
 use court_days::Court;
-use desk_numbers::MovedNumbers;
+use desk_numbers::{CalledTexts, MovedNumbers};
 use docket_core::Docket;
 use program_runs::{CheckedInput, Finding, Report};
 use report_json::{answer_lines, json_text};
@@ -33,7 +33,7 @@ use std::alloc::{AllocError, Global};
 use std::sync::Wait;
 use std::thread::Threads;
 
-/// The text of an input: no case has a name, and deadlines and motions have their places as numbers.
+/// The text of an input: no case has a name, deadlines and motions have their places as numbers, and no row calls anything so.
 impl Report for Asked {
     ghost use Rattle.std.specs.Prelude.{[]};
     ghost use Rattle.report_program.specs.Calendar.{IsCalendarOf, IsMissingOf};
@@ -45,7 +45,7 @@ impl Report for Asked {
     ghost clerk_count = { λ asked. 64 };
 
     // Of the court's file a text has what the court has of it, and the names of holidays.
-    ghost is_text = { λ asked file. IsCalendarOf asked (labels_of file [] []) };
+    ghost is_text = { λ asked file. IsCalendarOf asked (labels_of file [] [] []) };
 
     ghost is_missing = { λ asked file. IsMissingOf asked };
 
@@ -76,10 +76,11 @@ fn checked_calendar(
     file: &[u8],
     checked: &CheckedInput,
 ) -> Result<Finding<Vec<u8>>, AllocError>
-    ensures { IfOk result (IsFinding (λ text. text.items) (IsCalendar asked.now checked.now.court (labels_of file.now [] []) no_past (numbered_from 1 checked.now.rows.items)) (IsMissing asked.now checked.now.court [] (numbered_from 1 checked.now.rows.items))) }
+    ensures { IfOk result (IsFinding (λ text. text.items) (IsCalendar asked.now checked.now.court (labels_of file.now [] [] []) no_past (numbered_from 1 checked.now.rows.items)) (IsMissing asked.now checked.now.court [] (numbered_from 1 checked.now.rows.items))) }
 {
     let cases = Cases::new(alloc);
     let moved = MovedNumbers::new(alloc);
+    let called = CalledTexts::new(alloc);
     let rows = numbered_rows(alloc, checked.rows.as_slice())?;
     let past = Past::none(alloc);
     report_of(
@@ -89,6 +90,7 @@ fn checked_calendar(
         &checked.court,
         &cases,
         &moved,
+        &called,
         &past,
         &rows,
     )
@@ -96,8 +98,9 @@ fn checked_calendar(
 
 /// What was asked for of the docket after all rows, in a court whose file has these bytes, or the line that says what isn't there of
 /// it, which ends with LF. The bytes are asked for the names of holidays alone. `cases` has the names of cases. Rows name deadlines
-/// and motions by their places, counted from 1 in each case; `moved` has those that are shown with another number than their place.
-/// `past` has what a folder says beside these rows. `Err` says that memory ran out.
+/// and motions by their places, counted from 1 in each case; `moved` has those that are shown with another number than their place,
+/// and `called` what rows call cases, deadlines and motions. `past` has what a folder says beside these rows. `Err` says that memory
+/// ran out.
 pub fn report_of(
     alloc: Global,
     asked: &Asked,
@@ -105,15 +108,17 @@ pub fn report_of(
     court: &Court,
     cases: &Cases,
     moved: &MovedNumbers,
+    called: &CalledTexts,
     past: &Past<'_>,
     rows: &[NumberedRow],
 ) -> Result<Finding<Vec<u8>>, AllocError>
-    ensures { IfOk result (IsFinding (λ text. text.items) (IsCalendar asked.now court.now (labels_of file.now cases.now.named moved.now) past.now rows.now) (IsMissing asked.now court.now cases.now.named rows.now)) }
+    ensures { IfOk result (IsFinding (λ text. text.items) (IsCalendar asked.now court.now (labels_of file.now cases.now.named moved.now called.now) past.now rows.now) (IsMissing asked.now court.now cases.now.named rows.now)) }
 {
     let found = holiday_names(alloc, file)?;
     let labels = Labels {
         cases,
         moved,
+        called,
         holidays: found.names.as_slice(),
         doubtful: found.doubtful.as_slice(),
     };

@@ -2,7 +2,7 @@
 
 ghost use Rattle.std.specs.Prelude.{◌≡◌, [], IfOk};
 ghost use Rattle.clap.specs.Words.{app_of};
-ghost use Rattle.report_program.specs.CommandLine.{choosing_shape, ics_shape, json_shape, sourced_shape, sql_shape, week_shape, with_reports};
+ghost use Rattle.report_program.specs.CommandLine.{choosing_shape, due_shape, ics_shape, json_shape, sourced_shape, sql_shape, week_shape, with_reports};
 
 use clap::{Arg, ArgAction, Command};
 use program_main::{with_needed, with_source, with_subcommand, with_text};
@@ -36,7 +36,17 @@ const DAYS: &str =
     "DAY is a date, as 2025-09-15, or today, tomorrow, yesterday; monday to sunday, the
 next such day from today on; or so many days from today, as +7d or (with =) -3d.";
 
-const ANY_JUDGE: &str = "Hearings before this judge, and deadlines of the cases that have one";
+const CHOICES: &str =
+    "DAY is a date, as 2025-09-15, or today, tomorrow, yesterday; monday to sunday, the
+next such day from today on; or so many days from today, as +7d or (with =) -3d.
+A case is before the judge who has it and the one to whom it is referred; a case
+that isn't assigned, before each judge who has a hearing in it.";
+
+const ANY_JUDGE: &str = "Hearings before this judge, and deadlines of the cases before this judge";
+
+const COUNT: &str = "So many days from today on: 7 is today and the six after it";
+
+const OVERDUE: &str = "Only deadlines that ended before today, with no act recorded";
 
 const ONE_JUDGE: &str = "The judge, as the court's file names one";
 
@@ -56,12 +66,25 @@ fn sourced<'a>(alloc: Global, name: &'a str, about: &'a str) -> Result<Command<'
 fn choosing<'a>(alloc: Global, name: &'a str, about: &'a str) -> Result<Command<'a>, AllocError>
     ensures { IfOk result (λ command. app_of command ≡ record { top = choosing_shape name.now; subs = [] }) }
 {
-    let command = sourced(alloc, name, about)?.after_help(DAYS);
+    let command = sourced(alloc, name, about)?.after_help(CHOICES);
     let command = with_text(alloc, command, "from", "DAY", FROM)?;
     let command = with_text(alloc, command, "to", "DAY", TO)?;
     let command = with_text(alloc, command, "today", "DATE", TODAY)?;
     let command = with_text(alloc, command, "judge", "NAME", ANY_JUDGE)?;
     with_text(alloc, command, "case", "N", CASE)
+}
+
+/// The subcommand for what is due, which also takes how many days there are from today on, and that only what is overdue is listed.
+fn due<'a>(alloc: Global) -> Result<Command<'a>, AllocError>
+    ensures { IfOk result (λ command. app_of command ≡ record { top = due_shape; subs = [] }) }
+{
+    let command = choosing(alloc, "due", ABOUT_DUE)?;
+    let command = with_text(alloc, command, "days", "N", COUNT)?;
+    let overdue = Arg::new(alloc, "overdue")
+        .long("overdue")
+        .action(ArgAction::SetTrue)
+        .help(OVERDUE);
+    command.arg(overdue)
 }
 
 /// The subcommand for a judge's week.
@@ -99,7 +122,7 @@ fn json<'a>(alloc: Global) -> Result<Command<'a>, AllocError>
 pub fn with_reports<'a>(alloc: Global, command: Command<'a>) -> Result<Command<'a>, AllocError>
     ensures { IfOk result (λ whole. app_of whole ≡ with_reports (app_of command.entry)) }
 {
-    let due = with_subcommand(command, choosing(alloc, "due", ABOUT_DUE))?;
+    let due = with_subcommand(command, due(alloc))?;
     let week = with_subcommand(due, week(alloc))?;
     let page = with_subcommand(week, choosing(alloc, "page", ABOUT_PAGE))?;
     let ics = with_subcommand(page, ics(alloc))?;

@@ -1,4 +1,4 @@
--- The rows of deadlines, and of their extensions.
+-- The rows of deadlines, of their extensions, and of those that were ended.
 use Rattle.std.specs.Prelude.{ℕ, ◌==◌, Bool, true, false, List, [], ◌∷◌, ◌++◌, Option, Some, None, codes, if◌then◌else◌}
 use Rattle.court_clock.specs.Words.{CivilTime, ClockView, civil_of}
 use Rattle.rule6.specs.declared.service.ServiceKind.{ServiceKind}
@@ -9,11 +9,13 @@ use Rattle.rule6.specs.declared.timeliness.Means.TheVariants.{Electronic, Paper}
 use Rattle.rule6.specs.declared.timeliness.Shown.{Shown}
 use Rattle.rule6.specs.declared.timeliness.Shown.TheVariants as shown
 use Rattle.rule_periods.specs.declared.grant.Grant.{Grant}
-use Rattle.rule_periods.specs.declared.grant.Grant.TheVariants.{ByDays, ByHours, Until}
+use Rattle.rule_periods.specs.declared.grant.Grant.TheVariants.{ByDays, ByHours, Until, Reset, ResetAt}
 use Rattle.rule_periods.specs.Words.{DeadlineRowView}
+use Rattle.docket_rows.specs.declared.fact.Ending.{Ending}
 use Rattle.docket_rows.specs.declared.sheet.SheetDeadline.{SheetDeadline}
 use Rattle.docket_rows.specs.declared.sheet.State.{State}
 use Rattle.docket_rows.specs.declared.sheet.State.TheVariants.{Pending, Timely, Late, Undecided}
+use Rattle.docket_rows.specs.Words.{ending_word}
 use Rattle.report_texts.specs.Words.{period_words}
 use Rattle.report_sql.specs.Rows.{SqlValue, null, number, numbered, or_null, row_of, text, truth}
 use Rattle.report_sql.specs.Times.{day_value, instant_value, minute_value, second_value}
@@ -79,16 +81,34 @@ deadline_values clock d =
 unfoldable pub deadline_row : ClockView → (case : ℕ) → SheetDeadline → List ℕ
 deadline_row clock case d = row_of (codes "deadlines") case (deadline_values clock d)
 
--- an extension: by days, by hours, or until a day
+-- The extensions of a deadline are in one table, and the orders that set another end in another.
+abbrev pub grant_table : Grant → List ℕ
+grant_table (ByDays n) = codes "grants"
+grant_table (ByHours n) = codes "grants"
+grant_table (Until day) = codes "grants"
+grant_table (Reset day) = codes "resets"
+grant_table (ResetAt at) = codes "resets"
+
+-- an extension: by days, by hours, or until a day; and what an order set: a day, or a time of it
 abbrev pub grant_values : Grant → List SqlValue
 grant_values (ByDays n) = number n ∷ null ∷ null ∷ []
 grant_values (ByHours n) = null ∷ number n ∷ null ∷ []
 grant_values (Until day) = null ∷ null ∷ day_value day ∷ []
+grant_values (Reset day) = day_value day ∷ null ∷ []
+grant_values (ResetAt at) = day_value at.day ∷ minute_value at.minute ∷ []
 
--- the extension of that number of a deadline, counted from 1 in the order in which they were given
+-- the extension of that number of a deadline, or the order, counted from 1 in the order in which they were given
 unfoldable pub grant_row : (case deadline : ℕ) → (place : ℕ) → Grant → List ℕ
-grant_row case deadline place g = row_of (codes "grants") case (number deadline ∷ number place ∷ grant_values g)
+grant_row case deadline place g = row_of (grant_table g) case (number deadline ∷ number place ∷ grant_values g)
 
--- a deadline, and its extensions
+-- why a deadline is due no more
+unfoldable pub ending_row : (case deadline : ℕ) → Ending → List ℕ
+ending_row case deadline why = row_of (codes "endings") case (number deadline ∷ text (ending_word why) ∷ [])
+
+abbrev pub ending_row_if_any : (case deadline : ℕ) → Option Ending → List ℕ
+ending_row_if_any case deadline (Some why) = ending_row case deadline why
+ending_row_if_any case deadline None = []
+
+-- a deadline, its extensions, and why it is due no more, if it was ended
 unfoldable pub deadline_rows : ClockView → (case : ℕ) → SheetDeadline → List ℕ
-deadline_rows clock case d = deadline_row clock case d ++ numbered (grant_row case d.number) 1 d.row.grants
+deadline_rows clock case d = deadline_row clock case d ++ numbered (grant_row case d.number) 1 d.row.grants ++ ending_row_if_any case d.number d.ended

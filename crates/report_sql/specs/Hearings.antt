@@ -1,10 +1,12 @@
--- The rows of motions, of their hearings, and of the judges before whom these are.
+-- The rows of motions, of their hearings and the judges before whom these are, and of how motions were ruled on.
 use Rattle.std.specs.Prelude.{ℕ, ◌+◌, ◌*◌, List, [], ◌∷◌, ◌++◌, Option, Some, None, codes}
 use Rattle.court_days.specs.Words.{CourtView}
 use Rattle.hearing_slots.specs.declared.need.Need.{Need}
 use Rattle.hearing_slots.specs.declared.need.Need.TheVariants.{Days, ExParte}
+use Rattle.docket_rows.specs.declared.fact.DatedRuling.{DatedRuling}
 use Rattle.docket_rows.specs.declared.sheet.SheetHearing.{SheetHearing}
 use Rattle.docket_rows.specs.declared.sheet.SheetMotion.{SheetMotion}
+use Rattle.docket_rows.specs.Words.{ruling_word}
 use Rattle.office_texts.specs.Words.{name_of}
 use Rattle.report_sql.specs.Rows.{SqlValue, null, number, numbered, or_null, row_of, text}
 use Rattle.report_sql.specs.Times.{day_value, minute_value, slot_value}
@@ -56,6 +58,14 @@ abbrev pub hearing_rows_if_set : CourtView → (case motion : ℕ) → Option Sh
 hearing_rows_if_set court case motion (Some h) = hearing_rows court case motion h
 hearing_rows_if_set court case motion None = []
 
--- a motion, and its hearing
+-- how a motion was ruled on
+unfoldable pub ruling_row : (case motion : ℕ) → DatedRuling → List ℕ
+ruling_row case motion r = row_of (codes "rulings") case (number motion ∷ day_value r.dated ∷ text (ruling_word r.ruling) ∷ [])
+
+abbrev pub ruling_row_if_any : (case motion : ℕ) → Option DatedRuling → List ℕ
+ruling_row_if_any case motion (Some r) = ruling_row case motion r
+ruling_row_if_any case motion None = []
+
+-- a motion, its hearing, and how it was ruled on, if it was
 unfoldable pub motion_rows : CourtView → (case : ℕ) → SheetMotion → List ℕ
-motion_rows court case m = motion_row case m ++ hearing_rows_if_set court case m.number m.hearing
+motion_rows court case m = motion_row case m ++ hearing_rows_if_set court case m.number m.hearing ++ ruling_row_if_any case m.number m.ruling

@@ -1,4 +1,6 @@
 pub mod Answers
+pub mod Assignments
+pub mod Called
 pub mod Deadlines
 pub mod Hearings
 pub mod Literals

@@ -1,19 +1,19 @@
-//! Deadlines, and their extensions.
+//! Deadlines, their extensions, and those that were ended.
 
 ghost use Rattle.std.specs.Prelude.{◌≡◌, ◌<◌, ◌++◌, [], ◌∷◌, IfSome, OnOk};
 ghost use Rattle.court_clock.specs.Words.{civil_of};
-ghost use Rattle.report_sql.specs.Deadlines.{civil_values, deadline_row, deadline_rows, deadline_values, ends_values, event_time, filed_values, grant_row, grant_values, is_paper, service_letter, service_value, started_values, timely_value};
+ghost use Rattle.report_sql.specs.Deadlines.{civil_values, deadline_row, deadline_rows, deadline_values, ending_row, ending_row_if_any, ends_values, event_time, filed_values, grant_row, grant_table, grant_values, is_paper, service_letter, service_value, started_values, timely_value};
 ghost use Rattle.report_sql.specs.Rows.{AddsValues, null, numbered, or_null};
 ghost use Rattle.report_sql.specs.Times.{day_value, instant_value};
 
 use crate::script::Script;
 use court_clock::{Clock, Day, Instant};
-use docket_rows::{SheetDeadline, State};
+use docket_rows::{Ending, SheetDeadline, State};
 use rule_periods::{DeadlineRow, Event, Grant};
 use rule6::{Filing, Means, ServiceKind, Shown};
 use std::alloc::AllocError;
 
-/// Adds a deadline of the case, and its extensions. `Err` says that memory ran out.
+/// Adds a deadline of the case, its extensions, and why it is due no more, if it was ended. `Err` says that memory ran out.
 #[tactic(auto, unfolding(crate::specs::Deadlines::deadline_rows))]
 pub(crate) fn push_deadline(
     out: &mut Script,
@@ -24,7 +24,8 @@ pub(crate) fn push_deadline(
     ensures { OnOk result (out.new ≡ out.old ++ deadline_rows clock.now case deadline.now) }
 {
     push_row(out, clock, case, deadline)?;
-    push_grants(out, case, deadline.number, deadline.row.grants())
+    push_grants(out, case, deadline.number, deadline.row.grants())?;
+    push_ending_if_any(out, case, deadline.number, deadline.ended)
 }
 
 /// Adds the row of a deadline.
@@ -187,7 +188,7 @@ fn push_timely(out: &mut Script, state: State) -> Result<(), AllocError>
     }
 }
 
-/// Adds the extensions of a deadline, each with its number.
+/// Adds the extensions of a deadline, and the orders that set another end, each with its number.
 fn push_grants(
     out: &mut Script,
     case: u32,
@@ -198,31 +199,41 @@ fn push_grants(
 {
     let mut place = 1u64;
     for grant in grants {
-        push_grant(out, case, deadline, place, *grant)?;
+        push_grant(out, case, deadline, place, grant)?;
         place += 1;
     }
     Ok(())
 }
 
-/// Adds an extension.
+/// Adds an extension, or an order that sets another end.
 #[tactic(auto, unfolding(crate::specs::Deadlines::grant_row))]
 fn push_grant(
     out: &mut Script,
     case: u32,
     deadline: u32,
     place: u64,
-    grant: Grant,
+    grant: &Grant,
 ) -> Result<(), AllocError>
-    ensures { OnOk result (out.new ≡ out.old ++ grant_row case deadline place grant) }
+    ensures { OnOk result (out.new ≡ out.old ++ grant_row case deadline place grant.now) }
 {
-    out.begin_row("grants", u64::from(case))?;
+    out.begin_row(grant_table(*grant), u64::from(case))?;
     out.number(u64::from(deadline))?;
     out.number(place)?;
-    push_grant_values(out, grant)?;
+    push_grant_values(out, *grant)?;
     out.end_row()
 }
 
-/// Adds how long an extension is.
+/// The table of extensions, or that of the orders that set another end.
+fn grant_table(grant: Grant) -> &'static str
+    ensures { result.now ≡ grant_table grant }
+{
+    match grant {
+        Grant::ByDays(_) | Grant::ByHours(_) | Grant::Until(_) => "grants",
+        Grant::Reset(_) | Grant::ResetAt(_) => "resets",
+    }
+}
+
+/// Adds how long an extension is, or which end an order sets.
 fn push_grant_values(out: &mut Script, grant: Grant) -> Result<(), AllocError>
     ensures { OnOk result (AddsValues out.old out.new (grant_values grant)) }
 {
@@ -240,5 +251,39 @@ fn push_grant_values(out: &mut Script, grant: Grant) -> Result<(), AllocError>
             push_nulls(out)?;
             out.day(day)
         }
+        Grant::Reset(day) => {
+            out.day(day)?;
+            out.null()
+        }
+        Grant::ResetAt(at) => {
+            out.day(at.day())?;
+            out.minute(u32::from(at.minute()))
+        }
     }
+}
+
+/// Adds why a deadline is due no more, if it was ended.
+fn push_ending_if_any(
+    out: &mut Script,
+    case: u32,
+    deadline: u32,
+    ended: Option<Ending>,
+) -> Result<(), AllocError>
+    ensures { OnOk result (out.new ≡ out.old ++ ending_row_if_any case deadline ended) }
+{
+    match ended {
+        Some(why) => push_ending(out, case, deadline, why),
+        None => Ok(()),
+    }
+}
+
+/// Adds why a deadline is due no more.
+#[tactic(auto, unfolding(crate::specs::Deadlines::ending_row))]
+fn push_ending(out: &mut Script, case: u32, deadline: u32, why: Ending) -> Result<(), AllocError>
+    ensures { OnOk result (out.new ≡ out.old ++ ending_row case deadline why) }
+{
+    out.begin_row("endings", u64::from(case))?;
+    out.number(u64::from(deadline))?;
+    out.text(why.word())?;
+    out.end_row()
 }

@@ -7,6 +7,7 @@ use crate::answers::push_answers;
 use crate::schema::push_tables;
 use crate::script::Script;
 use crate::sheets::push_docketed;
+use crate::wanted::{have_assignments, have_facts, have_rulings, have_texts};
 use court_days::Court;
 use docket_core::Docket;
 use report_texts::Labels;
@@ -14,8 +15,11 @@ use row_forms::NumberedRow;
 use std::alloc::{AllocError, Global};
 
 /// One transaction of SQL: it makes the tables, and puts into them what each row was answered, by its number, and what is docketed after
-/// the last. Answers have the names of cases in place of numbers, and the table of cases has a column for them where there are any.
-/// Deadlines and motions have their numbers, while rows name them by their places. `Err` says that memory ran out.
+/// the last. Where rows record facts of cases there are tables of the cases that are closed and of the deadlines that are ended; where
+/// rows rule on motions there is one of these, and where rows assign cases one of who has them; and where rows call cases, deadlines and
+/// motions something there are tables of that. Answers have the names of cases in place of numbers, and the table of cases has a column
+/// for them where there are any. Deadlines and motions have their numbers, while rows name them by their places. `Err` says that memory
+/// ran out.
 #[tactic(auto, unfolding(crate::specs::Script::script_text))]
 pub fn sql_text(
     alloc: Global,
@@ -28,7 +32,14 @@ pub fn sql_text(
     let mut out = Script::new(alloc);
     let mut docket = Docket::new(alloc, court)?;
     push_front(&mut out)?;
-    push_tables(&mut out, labels)?;
+    push_tables(
+        &mut out,
+        labels,
+        have_facts(rows),
+        have_rulings(rows),
+        have_assignments(rows),
+        have_texts(rows),
+    )?;
     push_answers(alloc, &mut out, court, labels, &mut docket, rows)?;
     push_docketed(alloc, &mut out, court, labels, &docket)?;
     push_end(&mut out)?;

@@ -1,17 +1,17 @@
-//! Motions, their hearings, and the judges of these.
+//! Motions, their hearings and the judges of these, and how motions were ruled on.
 
 ghost use Rattle.std.specs.Prelude.{◌≡◌, ◌++◌, [], ◌∷◌, OnOk};
-ghost use Rattle.report_sql.specs.Hearings.{hearing_row, hearing_rows, hearing_rows_if_set, hearing_values, judge_row, judge_values, motion_row, motion_rows, notice_value, noticed_values, set_values};
+ghost use Rattle.report_sql.specs.Hearings.{hearing_row, hearing_rows, hearing_rows_if_set, hearing_values, judge_row, judge_values, motion_row, motion_rows, notice_value, noticed_values, ruling_row, ruling_row_if_any, set_values};
 ghost use Rattle.report_sql.specs.Rows.{AddsValues, numbered};
 
 use crate::script::Script;
 use court_days::Court;
-use docket_rows::{SheetHearing, SheetMotion};
+use docket_rows::{DatedRuling, SheetHearing, SheetMotion};
 use hearing_slots::Need;
 use office_texts::{judge_name, room_name};
 use std::alloc::AllocError;
 
-/// Adds a motion of the case, and its hearing. `Err` says that memory ran out.
+/// Adds a motion of the case, its hearing, and how it was ruled on, if it was. `Err` says that memory ran out.
 #[tactic(auto, unfolding(crate::specs::Hearings::motion_rows))]
 pub(crate) fn push_motion(
     out: &mut Script,
@@ -22,7 +22,8 @@ pub(crate) fn push_motion(
     ensures { OnOk result (out.new ≡ out.old ++ motion_rows court.now case motion.now) }
 {
     push_row(out, case, motion)?;
-    push_hearing_if_set(out, court, case, motion.number, &motion.hearing)
+    push_hearing_if_set(out, court, case, motion.number, &motion.hearing)?;
+    push_ruling_if_any(out, case, motion.number, motion.ruling)
 }
 
 /// Adds the row of a motion.
@@ -180,4 +181,36 @@ fn push_judge_values(
     out.number(u64::from(motion))?;
     out.number(place)?;
     out.text(judge_name(court, judge))
+}
+
+/// Adds how a motion was ruled on, if it was.
+fn push_ruling_if_any(
+    out: &mut Script,
+    case: u32,
+    motion: u32,
+    ruling: Option<DatedRuling>,
+) -> Result<(), AllocError>
+    ensures { OnOk result (out.new ≡ out.old ++ ruling_row_if_any case motion ruling) }
+{
+    match ruling {
+        Some(ruled) => push_ruling(out, case, motion, ruled),
+        None => Ok(()),
+    }
+}
+
+/// Adds how a motion was ruled on.
+#[tactic(auto, unfolding(crate::specs::Hearings::ruling_row))]
+fn push_ruling(
+    out: &mut Script,
+    case: u32,
+    motion: u32,
+    ruled: DatedRuling,
+) -> Result<(), AllocError>
+    ensures { OnOk result (out.new ≡ out.old ++ ruling_row case motion ruled) }
+{
+    out.begin_row("rulings", u64::from(case))?;
+    out.number(u64::from(motion))?;
+    out.day(ruled.dated)?;
+    out.text(ruled.ruling.word())?;
+    out.end_row()
 }

@@ -9,8 +9,10 @@ ghost use Rattle.desk_numbers.specs.Words.{numbered_sheet};
 ghost use Rattle.report_sql.specs.Deadlines.{deadline_rows};
 ghost use Rattle.report_sql.specs.Hearings.{motion_rows};
 ghost use Rattle.report_sql.specs.Rows.{AddsValues, numbered};
-ghost use Rattle.report_sql.specs.Script.{case_row, docketed_text, name_values, outage_row, sheet_rows};
+ghost use Rattle.report_sql.specs.Script.{case_row, closing_row, closing_row_if_any, docketed_text, name_values, outage_row, sheet_rows};
 
+use crate::assignments::push_assignment_if_any;
+use crate::called::push_called;
 use crate::deadlines::push_deadline;
 use crate::hearings::push_motion;
 use crate::script::Script;
@@ -18,7 +20,7 @@ use court_clock::Clock;
 use court_days::{Court, Outage};
 use desk_numbers::MovedNumbers;
 use docket_core::Docket;
-use docket_rows::{Sheet, SheetDeadline, SheetMotion};
+use docket_rows::{Closure, Sheet, SheetDeadline, SheetMotion};
 use docket_selection::sheets_of;
 use report_texts::{Labels, number_sheets};
 use std::alloc::{AllocError, Global};
@@ -84,7 +86,7 @@ fn push_sheets(
     labels: &Labels<'_>,
     sheets: &[Sheet],
 ) -> Result<(), AllocError>
-    ensures { OnOk result (out.new ≡ out.old ++ flat_map (sheet_rows court.now labels.now.cases) sheets.now) }
+    ensures { OnOk result (out.new ≡ out.old ++ flat_map (sheet_rows court.now labels.now) sheets.now) }
 {
     for sheet in sheets {
         push_sheet(out, court, labels, sheet)?;
@@ -99,11 +101,14 @@ fn push_sheet(
     labels: &Labels<'_>,
     sheet: &Sheet,
 ) -> Result<(), AllocError>
-    ensures { OnOk result (out.new ≡ out.old ++ sheet_rows court.now labels.now.cases sheet.now) }
+    ensures { OnOk result (out.new ≡ out.old ++ sheet_rows court.now labels.now sheet.now) }
 {
     push_case(out, labels, sheet)?;
+    push_closing_if_any(out, sheet.case, sheet.closed)?;
+    push_assignment_if_any(out, court, sheet.case, sheet.assigned)?;
     push_deadlines(out, court.clock(), sheet.case, sheet.deadlines.as_slice())?;
-    push_motions(out, court, sheet.case, sheet.motions.as_slice())
+    push_motions(out, court, sheet.case, sheet.motions.as_slice())?;
+    push_called(out, labels, sheet)
 }
 
 #[tactic(auto, unfolding(crate::specs::Script::case_row))]
@@ -113,6 +118,31 @@ fn push_case(out: &mut Script, labels: &Labels<'_>, sheet: &Sheet) -> Result<(),
     out.begin_row("cases", u64::from(sheet.case))?;
     out.day(sheet.filed)?;
     push_name(out, labels, sheet.case)?;
+    out.end_row()
+}
+
+/// Adds how a case was closed, if it was.
+fn push_closing_if_any(
+    out: &mut Script,
+    case: u32,
+    closed: Option<Closure>,
+) -> Result<(), AllocError>
+    ensures { OnOk result (out.new ≡ out.old ++ closing_row_if_any case closed) }
+{
+    match closed {
+        Some(closed) => push_closing(out, case, closed),
+        None => Ok(()),
+    }
+}
+
+/// Adds how a case was closed.
+#[tactic(auto, unfolding(crate::specs::Script::closing_row))]
+fn push_closing(out: &mut Script, case: u32, closed: Closure) -> Result<(), AllocError>
+    ensures { OnOk result (out.new ≡ out.old ++ closing_row case closed) }
+{
+    out.begin_row("closings", u64::from(case))?;
+    out.day(closed.dated)?;
+    out.text(closed.why.word())?;
     out.end_row()
 }
 

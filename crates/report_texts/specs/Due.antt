@@ -1,5 +1,6 @@
 -- What is due, by day.
-use Rattle.std.specs.Prelude.{ℕ, ℤ, Bool, false, List, [], ◌∷◌, ◌++◌, Option, Some, None, codes, if◌then◌else◌}
+use Rattle.std.specs.Prelude.{ℕ, ◌==◌, ℤ, Bool, true, false, List, [], ◌∷◌, ◌++◌, Option, Some, None, codes, if◌then◌else◌}
+use Rattle.std.specs.Fmt.{decimal}
 use Rattle.std.specs.Option.{option_map_or}
 use Rattle.std.specs.Ordering.{int_eq}
 use Rattle.case_numbers.specs.Words.{case_text}
@@ -9,7 +10,8 @@ use Rattle.docket_selection.specs.declared.choice.Choice.{Choice}
 use Rattle.docket_selection.specs.declared.item.DueItem.{DueItem}
 use Rattle.office_texts.specs.Words.{name_of}
 use Rattle.report_texts.specs.Days.{whole_day}
-use Rattle.report_texts.specs.Items.{item_line}
+use Rattle.report_texts.specs.Items.{item_lines}
+use Rattle.report_texts.specs.Labels.{LabelsView}
 use Rattle.reason_texts.specs.Words.{minute_time}
 
 abbrev pub judge_words : CourtView → Option ℕ → List ℕ
@@ -25,9 +27,14 @@ unfoldable pub chosen_words : CourtView → List NamedCase → Choice → List �
 chosen_words court named choice =
     whole_day choice.from ++ codes " to " ++ whole_day choice.to ++ judge_words court choice.judge ++ case_words named choice.case
 
+-- what is listed
+abbrev pub heading_front : (overdue : Bool) → List ℕ
+heading_front true = codes "Overdue from "
+heading_front false = codes "Due from "
+
 -- `Due from Mon 2025-09-01 to Sun 2025-09-07, judge Ames, case 3`
 unfoldable pub heading : CourtView → List NamedCase → Choice → List ℕ
-heading court named choice = codes "Due from " ++ chosen_words court named choice ++ 10 ∷ []
+heading court named choice = heading_front choice.overdue ++ chosen_words court named choice ++ 10 ∷ []
 
 unfoldable pub closing_front : List ℕ
 closing_front = codes "Filing on paper ends at "
@@ -47,15 +54,24 @@ is_day_of before day = option_map_or (λ b. int_eq b day) before false
 abbrev pub day_line_if_new : (before : Option ℤ) → (day : ℤ) → List ℕ
 day_line_if_new before day = if is_day_of before day then [] else codes "\n" ++ whole_day day ++ codes "\n"
 
--- a line for each item, in the order of the list, and one for each day before the first item of it
-unfoldable pub lines_after : CourtView → List NamedCase → (before : Option ℤ) → List DueItem → List ℕ
-lines_after court named before [] = []
-lines_after court named before (item ∷ items) = day_line_if_new before item.day ++ item_line court named item ++ lines_after court named (Some item.day) items
+-- the lines of each item, in the order of the list, and one for each day before the first item of it
+unfoldable pub lines_after : CourtView → LabelsView → (before : Option ℤ) → List DueItem → List ℕ
+lines_after court labels before [] = []
+lines_after court labels before (item ∷ items) = day_line_if_new before item.day ++ item_lines court labels item ++ lines_after court labels (Some item.day) items
 
-abbrev pub lines_or_none : CourtView → List NamedCase → List DueItem → List ℕ
-lines_or_none court named [] = codes "\nNothing is due.\n"
-lines_or_none court named (item ∷ items) = lines_after court named None (item ∷ items)
+-- that nothing is listed
+abbrev pub none_words : (overdue : Bool) → List ℕ
+none_words true = codes "\nNothing is overdue.\n"
+none_words false = codes "\nNothing is due.\n"
+
+abbrev pub lines_or_none : CourtView → LabelsView → (overdue : Bool) → List DueItem → List ℕ
+lines_or_none court labels overdue [] = none_words overdue
+lines_or_none court labels overdue (item ∷ items) = lines_after court labels None (item ∷ items)
+
+-- how many deadlines aren't listed since they are ended; nothing where there are none
+abbrev pub left_out_line : (count : ℕ) → List ℕ
+left_out_line count = if count == 0 then [] else codes "\nEnded, and so not listed: " ++ decimal count ++ codes ".\n"
 
 -- what was chosen, and then the items by day
-unfoldable pub due_text : CourtView → List NamedCase → Choice → List DueItem → List ℕ
-due_text court named choice items = heading court named choice ++ closing_line court ++ lines_or_none court named items
+unfoldable pub due_text : CourtView → LabelsView → Choice → List DueItem → List ℕ
+due_text court labels choice items = heading court labels.cases choice ++ closing_line court ++ lines_or_none court labels choice.overdue items

@@ -1,3 +1,4 @@
+pub mod Called
 pub mod Days
 pub mod Due
 pub mod Grid
@@ -8,5 +9,6 @@ pub mod Names
 pub mod Other
 pub mod Periods
 pub mod Selected
+pub mod Sheets
 pub mod Week
 pub mod Words

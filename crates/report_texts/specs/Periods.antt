@@ -9,7 +9,7 @@ use Rattle.rule_periods.specs.declared.mark.Mark.{Mark}
 use Rattle.rule_periods.specs.declared.mark.Mark.TheVariants.{Plain}
 use Rattle.rule_periods.specs.declared.period.Entered.{Entered}
 use Rattle.rule_periods.specs.declared.period.Length.{Length}
-use Rattle.rule_periods.specs.declared.period.Length.TheVariants.{Days, Hours, ToDay}
+use Rattle.rule_periods.specs.declared.period.Length.TheVariants.{Days, Hours, ToDay, ToTime}
 use Rattle.rule_periods.specs.declared.period.Period.{Period}
 use Rattle.rule_periods.specs.declared.period.Period.TheVariants as period
 use Rattle.rule_periods.specs.Words.{is_set_length, mark_code, rule_code}
@@ -21,6 +21,7 @@ abbrev pub length_words : Length → List ℕ
 length_words (Days n) = decimal n ++ unit_words n (codes " day") (codes " days")
 length_words (Hours n) = decimal n ++ unit_words n (codes " hour") (codes " hours")
 length_words ToDay = codes "set by an order"
+length_words ToTime = codes "set by an order"
 
 -- on which side of what it runs from it lies: its event, or service under Rule 5(b)(2)
 abbrev pub start_words : Direction → (served : Bool) → List ℕ
@@ -38,7 +39,7 @@ abbrev pub mark_words : Mark → List ℕ
 mark_words Plain = []
 mark_words mark = codes " (" ++ mark_code mark ++ codes ")"
 
--- from where an entered period is measured; a day that an order sets is measured from nothing
+-- from where an entered period is measured; an end that an order sets is measured from nothing
 abbrev pub from_words : Entered → List ℕ
 from_words e = if is_set_length e.length then [] else start_words e.direction e.served
 

@@ -3,20 +3,21 @@
 ghost use Rattle.std.specs.Prelude.{◌≡◌, None, OnOk};
 ghost use Rattle.office_texts.specs.Words.{AddsText};
 ghost use Rattle.reason_texts.specs.Words.{minute_time};
-ghost use Rattle.report_texts.specs.Due.{case_words, chosen_words, closing_back, closing_front, closing_line, day_line_if_new, due_text, heading, is_day_of, judge_words, lines_after, lines_or_none};
+ghost use Rattle.report_texts.specs.Due.{case_words, chosen_words, closing_back, closing_front, closing_line, day_line_if_new, due_text, heading, heading_front, is_day_of, judge_words, left_out_line, lines_after, lines_or_none, none_words};
 
 use crate::days::push_whole_day;
-use crate::items::push_item;
+use crate::items::push_item_lines;
 use crate::labels::Labels;
 use case_numbers::push_case_text;
 use court_clock::{Clock, Day};
 use court_days::Court;
 use docket_selection::{Choice, DueItem};
-use office_texts::judge_name;
+use office_texts::{judge_name, push_number};
 use reason_texts::push_minute;
 use std::alloc::AllocError;
 
-/// Adds what was chosen, and the items by day, a line each. `Err` says that memory ran out.
+/// Adds what was chosen, and the items by day: a line each, and beneath it what rows call it and its case. `Err` says that memory
+/// ran out.
 #[tactic(auto, unfolding(crate::specs::Due::due_text))]
 pub fn push_due(
     text: &mut String,
@@ -25,11 +26,11 @@ pub fn push_due(
     choice: &Choice,
     items: &[DueItem],
 ) -> Result<(), AllocError>
-    ensures { OnOk result (AddsText text.old text.new (due_text court.now labels.now.cases choice.now items.now)) }
+    ensures { OnOk result (AddsText text.old text.new (due_text court.now labels.now choice.now items.now)) }
 {
     push_heading(text, court, labels, choice)?;
     push_closing(text, court)?;
-    push_lines(text, court, labels, items)
+    push_lines(text, court, labels, choice.overdue, items)
 }
 
 /// Adds the line that says what was chosen.
@@ -42,9 +43,20 @@ fn push_heading(
 ) -> Result<(), AllocError>
     ensures { OnOk result (AddsText text.old text.new (heading court.now labels.now.cases choice.now)) }
 {
-    text.push_str("Due from ")?;
+    text.push_str(heading_front(choice.overdue))?;
     push_chosen(text, court, labels, choice)?;
     text.push_str("\n")
+}
+
+/// What is listed.
+fn heading_front(overdue: bool) -> &'static str
+    ensures { result.now ≡ heading_front overdue }
+{
+    if overdue {
+        "Overdue from "
+    } else {
+        "Due from "
+    }
 }
 
 /// Adds which days, which judge and which case were chosen. `Err` says that memory ran out.
@@ -123,14 +135,38 @@ fn push_lines(
     text: &mut String,
     court: &Court,
     labels: &Labels<'_>,
+    overdue: bool,
     items: &[DueItem],
 ) -> Result<(), AllocError>
-    ensures { OnOk result (AddsText text.old text.new (lines_or_none court.now labels.now.cases items.now)) }
+    ensures { OnOk result (AddsText text.old text.new (lines_or_none court.now labels.now overdue items.now)) }
 {
     if items.is_empty() {
-        return text.push_str("\nNothing is due.\n");
+        return text.push_str(none_words(overdue));
     }
     push_items(text, court, labels, items)
+}
+
+/// That nothing is listed.
+fn none_words(overdue: bool) -> &'static str
+    ensures { result.now ≡ none_words overdue }
+{
+    if overdue {
+        "\nNothing is overdue.\n"
+    } else {
+        "\nNothing is due.\n"
+    }
+}
+
+/// Adds how many deadlines aren't listed since they are ended, if there are some. `Err` says that memory ran out.
+pub fn push_left_out(text: &mut String, count: u64) -> Result<(), AllocError>
+    ensures { OnOk result (AddsText text.old text.new (left_out_line count)) }
+{
+    if count == 0 {
+        return Ok(());
+    }
+    text.push_str("\nEnded, and so not listed: ")?;
+    push_number(text, count)?;
+    text.push_str(".\n")
 }
 
 /// Adds each item, with the day before the first of each day.
@@ -140,12 +176,12 @@ fn push_items(
     labels: &Labels<'_>,
     items: &[DueItem],
 ) -> Result<(), AllocError>
-    ensures { OnOk result (AddsText text.old text.new (lines_after court.now labels.now.cases None items.now)) }
+    ensures { OnOk result (AddsText text.old text.new (lines_after court.now labels.now None items.now)) }
 {
     let mut before = None;
     for item in items {
         push_day_if_new(text, before, item.day)?;
-        push_item(text, court, labels, item)?;
+        push_item_lines(text, court, labels, item)?;
         before = Some(item.day);
     }
     Ok(())

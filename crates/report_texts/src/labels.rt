@@ -2,7 +2,7 @@
 
 use case_numbers::Cases;
 use court_clock::Day;
-use desk_numbers::MovedNumbers;
+use desk_numbers::{CalledTexts, MovedNumbers};
 use reason_texts::HolidayName;
 use std::marker::Model;
 
@@ -14,6 +14,8 @@ pub struct Labels<'a> {
     pub cases: &'a Cases,
     /// The deadlines and motions that have other numbers than their places.
     pub moved: &'a MovedNumbers,
+    /// What rows call cases, deadlines and motions.
+    pub called: &'a CalledTexts,
     /// The holidays that have names.
     pub holidays: &'a [HolidayName],
     /// The days of which it is in doubt whether the state declares them holidays.
@@ -25,5 +27,5 @@ impl<'a> Model for Labels<'a> {
 
     ghost Value = { LabelsView };
 
-    ghost view = { λ l. record { cases = l.cases.now.named; moved = l.moved.now; holidays = l.holidays.now; doubtful = l.doubtful.now } };
+    ghost view = { λ l. record { cases = l.cases.now.named; moved = l.moved.now; called = l.called.now; holidays = l.holidays.now; doubtful = l.doubtful.now } };
 }

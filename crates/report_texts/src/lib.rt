@@ -3,6 +3,7 @@
 //! where memory runs out, what was added so far.
 #![tactic(auto)]
 
+mod called;
 mod days;
 mod due;
 mod grid;
@@ -13,10 +14,12 @@ mod labels;
 mod other;
 mod periods;
 mod selected;
+mod sheets;
 mod week;
 
+pub use called::{push_called_after, push_label_after, push_title_after};
 pub use days::push_whole_day;
-pub use due::{is_day_of, push_chosen, push_closing, push_due};
+pub use due::{is_day_of, push_chosen, push_closing, push_due, push_left_out};
 pub use holidays::{HolidayNames, holiday_names};
 pub use items::{push_matter, push_room, push_span, push_time};
 pub use judges::push_panel;
@@ -24,6 +27,10 @@ pub use labels::Labels;
 pub use other::{push_given, push_reading};
 pub use periods::{push_period, unit_words};
 pub use selected::{
-    explained_selection, number_days, number_item, number_items, number_sheets, numbered_calendars,
+    counted_in, explained_selection, number_days, number_item, number_items, number_sheets,
+    numbered_calendars,
+};
+pub use sheets::{
+    push_case_lines, push_labelled_deadline, push_labelled_motion, push_labelled_sheet,
 };
 pub use week::push_week;

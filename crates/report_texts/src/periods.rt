@@ -43,7 +43,7 @@ fn push_length(text: &mut String, length: Length) -> Result<(), AllocError>
             push_number(text, u64::from(hours))?;
             text.push_str(unit_words(hours, " hour", " hours"))
         }
-        Length::ToDay => text.push_str("set by an order"),
+        Length::ToDay | Length::ToTime => text.push_str("set by an order"),
     }
 }
 

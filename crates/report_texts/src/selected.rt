@@ -7,5 +7,5 @@ mod sheets;
 
 pub use bookings::{number_days, numbered_calendars};
 pub use explained::explained_selection;
-pub use items::{number_item, number_items};
+pub use items::{counted_in, number_item, number_items};
 pub use sheets::number_sheets;

@@ -3,14 +3,16 @@
 ghost use Rattle.std.specs.Prelude.{◌≡◌, OnOk};
 ghost use Rattle.std.specs.List.{flat_map};
 ghost use Rattle.office_texts.specs.Words.{AddsText};
-ghost use Rattle.report_texts.specs.Week.{booked_line, booked_words, day_lines, title, week_of_words, week_text};
+ghost use Rattle.report_texts.specs.Week.{booked_line, booked_lines, booked_words, day_lines, title, week_of_words, week_text};
 
+use crate::called::push_called_beneath;
 use crate::days::push_whole_day;
 use crate::grid::push_grid;
 use crate::items::{push_room, push_span};
 use crate::labels::Labels;
 use case_numbers::push_case_text;
 use court_days::Court;
+use docket_rows::Counted;
 use docket_selection::DayBookings;
 use hearing_slots::Booking;
 use office_texts::{judge_name, push_number};
@@ -26,7 +28,7 @@ pub fn push_week(
     judge: u8,
     week: &[DayBookings],
 ) -> Result<(), AllocError>
-    ensures { OnOk result (AddsText text.old text.new (week_text court.now labels.now.cases judge week.now)) }
+    ensures { OnOk result (AddsText text.old text.new (week_text court.now labels.now judge week.now)) }
 {
     push_title(text, court, judge, week)?;
     push_grid(alloc, text, court.clock(), week)?;
@@ -63,14 +65,14 @@ fn push_week_of(text: &mut String, week: &[DayBookings]) -> Result<(), AllocErro
     }
 }
 
-/// Adds a line for each hearing, day by day.
+/// Adds the lines of each hearing, day by day.
 fn push_listing(
     text: &mut String,
     court: &Court,
     labels: &Labels<'_>,
     week: &[DayBookings],
 ) -> Result<(), AllocError>
-    ensures { OnOk result (AddsText text.old text.new (flat_map (day_lines court.now labels.now.cases) week.now)) }
+    ensures { OnOk result (AddsText text.old text.new (flat_map (day_lines court.now labels.now) week.now)) }
 {
     for day in week {
         push_bookings(text, court, labels, day.bookings.as_slice())?;
@@ -78,19 +80,33 @@ fn push_listing(
     Ok(())
 }
 
-/// Adds a line for each booking.
+/// Adds the lines of each booking.
 fn push_bookings(
     text: &mut String,
     court: &Court,
     labels: &Labels<'_>,
     bookings: &[Booking],
 ) -> Result<(), AllocError>
-    ensures { OnOk result (AddsText text.old text.new (flat_map (booked_line court.now labels.now.cases) bookings.now)) }
+    ensures { OnOk result (AddsText text.old text.new (flat_map (booked_lines court.now labels.now) bookings.now)) }
 {
     for booking in bookings {
-        push_booking(text, court, labels, booking)?;
+        push_booking_lines(text, court, labels, booking)?;
     }
     Ok(())
+}
+
+/// Adds the line of a booking, and beneath it what rows call the motion and its case.
+#[tactic(auto, unfolding(crate::specs::Week::booked_lines))]
+fn push_booking_lines(
+    text: &mut String,
+    court: &Court,
+    labels: &Labels<'_>,
+    booking: &Booking,
+) -> Result<(), AllocError>
+    ensures { OnOk result (AddsText text.old text.new (booked_lines court.now labels.now booking.now)) }
+{
+    push_booking(text, court, labels, booking)?;
+    push_called_beneath(text, labels, booking.case, Counted::Motion, booking.motion)
 }
 
 /// Adds the line of a booking.
@@ -101,7 +117,7 @@ fn push_booking(
     labels: &Labels<'_>,
     booking: &Booking,
 ) -> Result<(), AllocError>
-    ensures { OnOk result (AddsText text.old text.new (booked_line court.now labels.now.cases booking.now)) }
+    ensures { OnOk result (AddsText text.old text.new (booked_line court.now labels.now booking.now)) }
 {
     push_whole_day(text, booking.day)?;
     text.push_str("  ")?;
@@ -117,7 +133,7 @@ fn push_booked(
     labels: &Labels<'_>,
     booking: &Booking,
 ) -> Result<(), AllocError>
-    ensures { OnOk result (AddsText text.old text.new (booked_words court.now labels.now.cases booking.now)) }
+    ensures { OnOk result (AddsText text.old text.new (booked_words court.now labels.now booking.now)) }
 {
     text.push_str("  case ")?;
     push_case_text(text, labels.cases, booking.case)?;

@@ -48,6 +48,45 @@ act_said word =
     else if is_one_of word (codes "service" ∷ codes "serve" ∷ codes "toserve" ∷ []) then Clear (codes "service")
     else Unknown
 
+-- why a deadline is due no more
+unfoldable pub why_said : List ℕ → Said (List ℕ)
+why_said word =
+    if is_one_of word (codes "moot" ∷ codes "mooted" ∷ []) then Clear (codes "moot")
+    else if is_one_of word (codes "vacated" ∷ codes "vacate" ∷ []) then Clear (codes "vacated")
+    else if is_one_of word (codes "stayed" ∷ codes "stay" ∷ []) then Clear (codes "stayed")
+    else if is_one_of word (codes "suspended" ∷ codes "suspend" ∷ []) then Clear (codes "suspended")
+    else if is_one_of word (codes "withdrawn" ∷ codes "withdrew" ∷ []) then Clear (codes "withdrawn")
+    else Unknown
+
+-- how a case was closed
+unfoldable pub closing_said : List ℕ → Said (List ℕ)
+closing_said word =
+    if is_one_of word (codes "dismissed" ∷ codes "dismissal" ∷ codes "dismiss" ∷ []) then Clear (codes "dismissed")
+    else if is_one_of word (codes "judgment" ∷ codes "judgement" ∷ []) then Clear (codes "judgment")
+    else if is_one_of word (codes "settled" ∷ codes "settlement" ∷ codes "settle" ∷ []) then Clear (codes "settled")
+    else if is_one_of word (codes "transferred" ∷ codes "transfer" ∷ []) then Clear (codes "transferred")
+    else if is_one_of word (codes "remanded" ∷ codes "remand" ∷ []) then Clear (codes "remanded")
+    else if is_one_of word (codes "otherwise" ∷ codes "other" ∷ []) then Clear (codes "otherwise")
+    else Unknown
+
+-- how a motion was ruled on
+unfoldable pub ruling_said : List ℕ → Said (List ℕ)
+ruling_said word =
+    if is_one_of word (codes "granted" ∷ codes "grant" ∷ []) then Clear (codes "granted")
+    else if is_one_of word (codes "denied" ∷ codes "deny" ∷ codes "denial" ∷ []) then Clear (codes "denied")
+    else if is_one_of word (codes "inpart" ∷ codes "grantedinpart" ∷ codes "grantedinpartanddeniedinpart" ∷ []) then Clear (codes "in part")
+    else if is_one_of word (codes "moot" ∷ codes "mooted" ∷ codes "deniedasmoot" ∷ []) then Clear (codes "moot")
+    else if is_one_of word (codes "withdrawn" ∷ codes "withdrew" ∷ []) then Clear (codes "withdrawn")
+    else if is_one_of word (codes "reserved" ∷ codes "reserve" ∷ codes "underadvisement" ∷ []) then Clear (codes "reserved")
+    else Unknown
+
+-- whether a deadline or a motion is meant
+unfoldable pub counted_said : List ℕ → Said (List ℕ)
+counted_said word =
+    if is_one_of word (codes "deadline" ∷ codes "deadlines" ∷ []) then Clear (codes "deadline")
+    else if is_one_of word (codes "motion" ∷ codes "motions" ∷ []) then Clear (codes "motion")
+    else Unknown
+
 -- a Rule's number, as people cite it: `4(m)`, `Rule 4(m)`, `FRCP 4(m)`, `Fed. R. Civ. P. 4(m)`
 abbrev pub cited : List ℕ → List (List ℕ)
 cited number = number ∷ (codes "rule" ++ number) ∷ (codes "frcp" ++ number) ∷ (codes "fedrcivp" ++ number) ∷ []

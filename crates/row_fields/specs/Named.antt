@@ -9,21 +9,23 @@ use Rattle.row_fields.specs.declared.said.Said.{Said}
 use Rattle.row_fields.specs.declared.said.Said.TheVariants.{Unknown, Clear, Unclear}
 use Rattle.row_fields.specs.Choices.{cited, rule_said}
 
--- a section: in which book it is, its number when it is folded, and its period as it is entered, or the two that it sets
+-- a section: in which book it is, as it is cited, its number when it is folded, and its period as it is entered, or the two that it
+-- sets
 pub record NamedPeriodView : Type 0 where
   pub book : RuleBook
+  pub section : List ℕ
   pub number : List ℕ
   pub text : List ℕ
   pub other : Option (List ℕ)
 
-abbrev pub one_period : RuleBook → (number text : List ℕ) → NamedPeriodView
-one_period book number text = record { book = book; number = number; text = text; other = None }
+abbrev pub one_period : RuleBook → (section number text : List ℕ) → NamedPeriodView
+one_period book section number text = record { book = book; section = section; number = number; text = text; other = None }
 
-abbrev pub two_periods : RuleBook → (number text other : List ℕ) → NamedPeriodView
-two_periods book number text other = record { book = book; number = number; text = text; other = Some other }
+abbrev pub two_periods : RuleBook → (section number text other : List ℕ) → NamedPeriodView
+two_periods book section number text other = record { book = book; section = section; number = number; text = text; other = Some other }
 
 abbrev pub period_view : NamedPeriod → NamedPeriodView
-period_view p = record { book = p.book; number = p.number.now; text = p.text.now; other = option_map (λ t. t.now) p.other }
+period_view p = record { book = p.book; section = p.section.now; number = p.number.now; text = p.text.now; other = option_map (λ t. t.now) p.other }
 
 -- What comes before the number of a section, as people cite it, when it is folded. For the Federal Rules of Civil Procedure it
 -- is nothing, `Rule`, `FRCP` or `Fed. R. Civ. P.`.
@@ -43,88 +45,88 @@ is_number_after front number word = starts_with nat_eq word front && bytes_eq (d
 unfoldable pub cites : (word : List ℕ) → NamedPeriodView → Bool
 cites word p = list_any (λ front. is_number_after front p.number word) (fronts p.book)
 
--- The sections, with the text of the period that each sets. Where two numbers are next to one another a blank is between them,
--- as when a field is folded. A section that sets two periods may have parts that set one each.
+-- The sections, as they are cited and by their numbers, with the text of the period that each sets. Where two numbers are next to one
+-- another a blank is between them, as when a field is folded. A section that sets two periods may have parts that set one each.
 unfoldable pub named_periods : List NamedPeriodView
 named_periods =
-    (two_periods CivilRules (codes "4d1f") (codes "30d/after/service/event/plain") (codes "60d/after/service/event/plain")  -- 4(d)(1)(F)
-    ∷ one_period CivilRules (codes "5 1c") (codes "60d/after/filing/event/plain")  -- 5.1(c)
-    ∷ one_period CivilRules (codes "6c1") (codes "14d/before/service/event/plain")  -- 6(c)(1)
-    ∷ one_period CivilRules (codes "6c2") (codes "7d/before/service/event/plain")  -- 6(c)(2)
-    ∷ one_period CivilRules (codes "11c2") (codes "21d/after/filing/served/plain")  -- 11(c)(2)
-    ∷ one_period CivilRules (codes "12a4a") (codes "14d/after/service/event/plain")  -- 12(a)(4)(A)
-    ∷ one_period CivilRules (codes "12a4b") (codes "14d/after/service/served/plain")  -- 12(a)(4)(B)
-    ∷ one_period CivilRules (codes "12e") (codes "14d/after/service/event/plain")  -- 12(e)
-    ∷ one_period CivilRules (codes "12f2") (codes "21d/after/filing/served/plain")  -- 12(f)(2)
-    ∷ one_period CivilRules (codes "14a1") (codes "14d/after/filing/event/plain")  -- 14(a)(1)
-    ∷ one_period CivilRules (codes "15a1a") (codes "21d/after/filing/event/plain")  -- 15(a)(1)(A)
-    ∷ one_period CivilRules (codes "15a1b") (codes "21d/after/filing/served/plain")  -- 15(a)(1)(B)
-    ∷ one_period CivilRules (codes "15a3") (codes "14d/after/service/served/plain")  -- 15(a)(3)
-    ∷ two_periods CivilRules (codes "16b2") (codes "90d/after/filing/event/plain") (codes "60d/after/filing/event/plain")  -- 16(b)(2)
-    ∷ two_periods CivilRules (codes "23f") (codes "14d/after/filing/event/60b") (codes "45d/after/filing/event/60b")  -- 23(f)
-    ∷ two_periods CivilRules (codes "25a1") (codes "90d/after/filing/served/plain") (codes "90d/after/filing/event/plain")  -- 25(a)(1)
-    ∷ one_period CivilRules (codes "26a1c") (codes "14d/after/service/event/plain")  -- 26(a)(1)(C)
-    ∷ one_period CivilRules (codes "26a1d") (codes "30d/after/service/event/plain")  -- 26(a)(1)(D)
-    ∷ one_period CivilRules (codes "26a2di") (codes "90d/before/service/event/plain")  -- 26(a)(2)(D)(i)
-    ∷ one_period CivilRules (codes "26a2dii") (codes "30d/after/service/event/plain")  -- 26(a)(2)(D)(ii)
-    ∷ two_periods CivilRules (codes "26a3b") (codes "30d/before/service/event/plain") (codes "14d/after/service/event/plain")  -- 26(a)(3)(B)
-    ∷ one_period CivilRules (codes "26d2") (codes "21d/after/service/event/plain")  -- 26(d)(2)
-    ∷ one_period CivilRules (codes "26f1") (codes "21d/before/service/event/plain")  -- 26(f)(1)
-    ∷ one_period CivilRules (codes "26f2") (codes "14d/after/filing/event/plain")  -- 26(f)(2)
-    ∷ one_period CivilRules (codes "27a2") (codes "21d/before/service/event/plain")  -- 27(a)(2)
-    ∷ one_period CivilRules (codes "30e1") (codes "30d/after/service/event/plain")  -- 30(e)(1)
-    ∷ two_periods CivilRules (codes "31a5") (codes "14d/after/service/served/plain") (codes "7d/after/service/served/plain")  -- 31(a)(5)
-    ∷ one_period CivilRules (codes "33b2") (codes "30d/after/service/served/plain")  -- 33(b)(2)
-    ∷ two_periods CivilRules (codes "34b2a") (codes "30d/after/service/served/plain") (codes "30d/after/service/event/plain")  -- 34(b)(2)(A)
-    ∷ one_period CivilRules (codes "36a3") (codes "30d/after/service/served/plain")  -- 36(a)(3)
-    ∷ two_periods CivilRules (codes "38b1") (codes "14d/after/service/served/plain") (codes "14d/after/service/event/plain")  -- 38(b)(1)
-    ∷ one_period CivilRules (codes "38c") (codes "14d/after/service/served/plain")  -- 38(c)
-    ∷ one_period CivilRules (codes "45d2b") (codes "14d/after/service/event/plain")  -- 45(d)(2)(B)
-    ∷ one_period CivilRules (codes "50b") (codes "28d/after/filing/event/50b")  -- 50(b)
-    ∷ one_period CivilRules (codes "50d") (codes "28d/after/filing/event/50d")  -- 50(d)
-    ∷ one_period CivilRules (codes "52b") (codes "28d/after/filing/event/52b")  -- 52(b)
-    ∷ one_period CivilRules (codes "53f2") (codes "21d/after/filing/served/plain")  -- 53(f)(2)
-    ∷ two_periods CivilRules (codes "54d1") (codes "14d/after/filing/event/plain") (codes "7d/after/service/event/plain")  -- 54(d)(1)
-    ∷ one_period CivilRules (codes "54d2b") (codes "14d/after/filing/event/plain")  -- 54(d)(2)(B)
-    ∷ one_period CivilRules (codes "55b2") (codes "7d/before/service/event/plain")  -- 55(b)(2)
-    ∷ one_period CivilRules (codes "56b") (codes "30d/after/filing/event/plain")  -- 56(b)
-    ∷ one_period CivilRules (codes "58c2b") (codes "150d/after/filing/event/plain")  -- 58(c)(2)(B)
-    ∷ one_period CivilRules (codes "59c") (codes "14d/after/filing/served/plain")  -- 59(c)
-    ∷ one_period CivilRules (codes "59d") (codes "28d/after/filing/event/59d")  -- 59(d)
-    ∷ one_period CivilRules (codes "62a") (codes "30d/after/filing/event/plain")  -- 62(a)
-    ∷ one_period CivilRules (codes "65b2") (codes "14d/after/filing/event/plain")  -- 65(b)(2)
-    ∷ one_period CivilRules (codes "65b4") (codes "2d/before/service/event/plain")  -- 65(b)(4)
-    ∷ two_periods CivilRules (codes "68a") (codes "14d/before/service/event/plain") (codes "14d/after/service/served/plain")  -- 68(a)
-    ∷ one_period CivilRules (codes "68c") (codes "14d/before/service/event/plain")  -- 68(c)
-    ∷ one_period CivilRules (codes "71 1e2") (codes "21d/after/service/event/plain")  -- 71.1(e)(2)
-    ∷ one_period CivilRules (codes "72a") (codes "14d/after/filing/served/plain")  -- 72(a)
-    ∷ one_period CivilRules (codes "72b2") (codes "14d/after/filing/served/plain")  -- 72(b)(2)
-    ∷ two_periods CivilRules (codes "81c2") (codes "21d/after/service/event/plain") (codes "7d/after/service/event/plain")  -- 81(c)(2)
-    ∷ one_period CivilRules (codes "81c2a") (codes "21d/after/service/event/plain")  -- 81(c)(2)(A)
-    ∷ one_period CivilRules (codes "81c2b") (codes "21d/after/service/event/plain")  -- 81(c)(2)(B)
-    ∷ one_period CivilRules (codes "81c2c") (codes "7d/after/service/event/plain")  -- 81(c)(2)(C)
-    ∷ two_periods CivilRules (codes "81c3b") (codes "14d/after/service/event/plain") (codes "14d/after/service/served/plain")  -- 81(c)(3)(B)
-    ∷ one_period CivilRules (codes "81c3bi") (codes "14d/after/service/event/plain")  -- 81(c)(3)(B)(i)
-    ∷ one_period CivilRules (codes "81c3bii") (codes "14d/after/service/served/plain")  -- 81(c)(3)(B)(ii)
-    ∷ one_period ForfeitureRules (codes "g4biib") (codes "35d/after/filing/event/plain")  -- Supp. G(4)(b)(ii)(B)
-    ∷ two_periods ForfeitureRules (codes "g5aiib") (codes "30d/after/filing/event/plain") (codes "60d/after/filing/event/plain")  -- Supp. G(5)(a)(ii)(B)
-    ∷ one_period ForfeitureRules (codes "g5b") (codes "21d/after/filing/event/plain")  -- Supp. G(5)(b)
-    ∷ one_period ForfeitureRules (codes "g6b") (codes "21d/after/service/served/plain")  -- Supp. G(6)(b)
-    ∷ one_period UnitedStatesCode (codes "28usc1446b1") (codes "30d/after/filing/event/60b")  -- 28 U.S.C. 1446(b)(1)
-    ∷ one_period UnitedStatesCode (codes "28usc1446b3") (codes "30d/after/filing/event/60b")  -- 28 U.S.C. 1446(b)(3)
-    ∷ one_period UnitedStatesCode (codes "28usc1447c") (codes "30d/after/filing/event/60b")  -- 28 U.S.C. 1447(c)
-    ∷ one_period UnitedStatesCode (codes "28usc1608d") (codes "60d/after/service/event/plain")  -- 28 U.S.C. 1608(d)
-    ∷ one_period UnitedStatesCode (codes "5usc552a4c") (codes "30d/after/service/event/plain")  -- 5 U.S.C. 552(a)(4)(C)
-    ∷ one_period UnitedStatesCode (codes "42usc405g") (codes "60d/after/filing/event/60b")  -- 42 U.S.C. 405(g)
-    ∷ one_period SocialSecurityRules (codes "4") (codes "60d/after/service/event/plain")  -- Supp. Soc. Sec. 4
-    ∷ one_period SocialSecurityRules (codes "6") (codes "30d/after/filing/event/plain")  -- Supp. Soc. Sec. 6
-    ∷ one_period SocialSecurityRules (codes "7") (codes "30d/after/filing/served/plain")  -- Supp. Soc. Sec. 7
-    ∷ one_period SocialSecurityRules (codes "8") (codes "14d/after/filing/served/plain")  -- Supp. Soc. Sec. 8
-    ∷ two_periods AppellateRules (codes "4a1") (codes "30d/after/filing/event/60b") (codes "60d/after/filing/event/60b")  -- FRAP 4(a)(1)
-    ∷ one_period AppellateRules (codes "4a1a") (codes "30d/after/filing/event/60b")  -- FRAP 4(a)(1)(A)
-    ∷ one_period AppellateRules (codes "4a1b") (codes "60d/after/filing/event/60b")  -- FRAP 4(a)(1)(B)
-    ∷ two_periods AppellateRules (codes "4a4") (codes "30d/after/filing/event/60b") (codes "60d/after/filing/event/60b")  -- FRAP 4(a)(4)
-    ∷ two_periods AppellateRules (codes "4a5") (codes "30d/after/filing/event/60b") (codes "14d/after/filing/event/60b")  -- FRAP 4(a)(5)
+    (two_periods CivilRules (codes "4(d)(1)(F)") (codes "4d1f") (codes "30d/after/service/event/plain") (codes "60d/after/service/event/plain")
+    ∷ one_period CivilRules (codes "5.1(c)") (codes "5 1c") (codes "60d/after/filing/event/plain")
+    ∷ one_period CivilRules (codes "6(c)(1)") (codes "6c1") (codes "14d/before/service/event/plain")
+    ∷ one_period CivilRules (codes "6(c)(2)") (codes "6c2") (codes "7d/before/service/event/plain")
+    ∷ one_period CivilRules (codes "11(c)(2)") (codes "11c2") (codes "21d/after/filing/served/plain")
+    ∷ one_period CivilRules (codes "12(a)(4)(A)") (codes "12a4a") (codes "14d/after/service/event/plain")
+    ∷ one_period CivilRules (codes "12(a)(4)(B)") (codes "12a4b") (codes "14d/after/service/served/plain")
+    ∷ one_period CivilRules (codes "12(e)") (codes "12e") (codes "14d/after/service/event/plain")
+    ∷ one_period CivilRules (codes "12(f)(2)") (codes "12f2") (codes "21d/after/filing/served/plain")
+    ∷ one_period CivilRules (codes "14(a)(1)") (codes "14a1") (codes "14d/after/filing/event/plain")
+    ∷ one_period CivilRules (codes "15(a)(1)(A)") (codes "15a1a") (codes "21d/after/filing/event/plain")
+    ∷ one_period CivilRules (codes "15(a)(1)(B)") (codes "15a1b") (codes "21d/after/filing/served/plain")
+    ∷ one_period CivilRules (codes "15(a)(3)") (codes "15a3") (codes "14d/after/service/served/plain")
+    ∷ two_periods CivilRules (codes "16(b)(2)") (codes "16b2") (codes "90d/after/filing/event/plain") (codes "60d/after/filing/event/plain")
+    ∷ two_periods CivilRules (codes "23(f)") (codes "23f") (codes "14d/after/filing/event/60b") (codes "45d/after/filing/event/60b")
+    ∷ two_periods CivilRules (codes "25(a)(1)") (codes "25a1") (codes "90d/after/filing/served/plain") (codes "90d/after/filing/event/plain")
+    ∷ one_period CivilRules (codes "26(a)(1)(C)") (codes "26a1c") (codes "14d/after/service/event/plain")
+    ∷ one_period CivilRules (codes "26(a)(1)(D)") (codes "26a1d") (codes "30d/after/service/event/plain")
+    ∷ one_period CivilRules (codes "26(a)(2)(D)(i)") (codes "26a2di") (codes "90d/before/service/event/plain")
+    ∷ one_period CivilRules (codes "26(a)(2)(D)(ii)") (codes "26a2dii") (codes "30d/after/service/event/plain")
+    ∷ two_periods CivilRules (codes "26(a)(3)(B)") (codes "26a3b") (codes "30d/before/service/event/plain") (codes "14d/after/service/event/plain")
+    ∷ one_period CivilRules (codes "26(d)(2)") (codes "26d2") (codes "21d/after/service/event/plain")
+    ∷ one_period CivilRules (codes "26(f)(1)") (codes "26f1") (codes "21d/before/service/event/plain")
+    ∷ one_period CivilRules (codes "26(f)(2)") (codes "26f2") (codes "14d/after/filing/event/plain")
+    ∷ one_period CivilRules (codes "27(a)(2)") (codes "27a2") (codes "21d/before/service/event/plain")
+    ∷ one_period CivilRules (codes "30(e)(1)") (codes "30e1") (codes "30d/after/service/event/plain")
+    ∷ two_periods CivilRules (codes "31(a)(5)") (codes "31a5") (codes "14d/after/service/served/plain") (codes "7d/after/service/served/plain")
+    ∷ one_period CivilRules (codes "33(b)(2)") (codes "33b2") (codes "30d/after/service/served/plain")
+    ∷ two_periods CivilRules (codes "34(b)(2)(A)") (codes "34b2a") (codes "30d/after/service/served/plain") (codes "30d/after/service/event/plain")
+    ∷ one_period CivilRules (codes "36(a)(3)") (codes "36a3") (codes "30d/after/service/served/plain")
+    ∷ two_periods CivilRules (codes "38(b)(1)") (codes "38b1") (codes "14d/after/service/served/plain") (codes "14d/after/service/event/plain")
+    ∷ one_period CivilRules (codes "38(c)") (codes "38c") (codes "14d/after/service/served/plain")
+    ∷ one_period CivilRules (codes "45(d)(2)(B)") (codes "45d2b") (codes "14d/after/service/event/plain")
+    ∷ one_period CivilRules (codes "50(b)") (codes "50b") (codes "28d/after/filing/event/50b")
+    ∷ one_period CivilRules (codes "50(d)") (codes "50d") (codes "28d/after/filing/event/50d")
+    ∷ one_period CivilRules (codes "52(b)") (codes "52b") (codes "28d/after/filing/event/52b")
+    ∷ one_period CivilRules (codes "53(f)(2)") (codes "53f2") (codes "21d/after/filing/served/plain")
+    ∷ two_periods CivilRules (codes "54(d)(1)") (codes "54d1") (codes "14d/after/filing/event/plain") (codes "7d/after/service/event/plain")
+    ∷ one_period CivilRules (codes "54(d)(2)(B)") (codes "54d2b") (codes "14d/after/filing/event/plain")
+    ∷ one_period CivilRules (codes "55(b)(2)") (codes "55b2") (codes "7d/before/service/event/plain")
+    ∷ one_period CivilRules (codes "56(b)") (codes "56b") (codes "30d/after/filing/event/plain")
+    ∷ one_period CivilRules (codes "58(c)(2)(B)") (codes "58c2b") (codes "150d/after/filing/event/plain")
+    ∷ one_period CivilRules (codes "59(c)") (codes "59c") (codes "14d/after/filing/served/plain")
+    ∷ one_period CivilRules (codes "59(d)") (codes "59d") (codes "28d/after/filing/event/59d")
+    ∷ one_period CivilRules (codes "62(a)") (codes "62a") (codes "30d/after/filing/event/plain")
+    ∷ one_period CivilRules (codes "65(b)(2)") (codes "65b2") (codes "14d/after/filing/event/plain")
+    ∷ one_period CivilRules (codes "65(b)(4)") (codes "65b4") (codes "2d/before/service/event/plain")
+    ∷ two_periods CivilRules (codes "68(a)") (codes "68a") (codes "14d/before/service/event/plain") (codes "14d/after/service/served/plain")
+    ∷ one_period CivilRules (codes "68(c)") (codes "68c") (codes "14d/before/service/event/plain")
+    ∷ one_period CivilRules (codes "71.1(e)(2)") (codes "71 1e2") (codes "21d/after/service/event/plain")
+    ∷ one_period CivilRules (codes "72(a)") (codes "72a") (codes "14d/after/filing/served/plain")
+    ∷ one_period CivilRules (codes "72(b)(2)") (codes "72b2") (codes "14d/after/filing/served/plain")
+    ∷ two_periods CivilRules (codes "81(c)(2)") (codes "81c2") (codes "21d/after/service/event/plain") (codes "7d/after/service/event/plain")
+    ∷ one_period CivilRules (codes "81(c)(2)(A)") (codes "81c2a") (codes "21d/after/service/event/plain")
+    ∷ one_period CivilRules (codes "81(c)(2)(B)") (codes "81c2b") (codes "21d/after/service/event/plain")
+    ∷ one_period CivilRules (codes "81(c)(2)(C)") (codes "81c2c") (codes "7d/after/service/event/plain")
+    ∷ two_periods CivilRules (codes "81(c)(3)(B)") (codes "81c3b") (codes "14d/after/service/event/plain") (codes "14d/after/service/served/plain")
+    ∷ one_period CivilRules (codes "81(c)(3)(B)(i)") (codes "81c3bi") (codes "14d/after/service/event/plain")
+    ∷ one_period CivilRules (codes "81(c)(3)(B)(ii)") (codes "81c3bii") (codes "14d/after/service/served/plain")
+    ∷ one_period ForfeitureRules (codes "Supp. G(4)(b)(ii)(B)") (codes "g4biib") (codes "35d/after/filing/event/plain")
+    ∷ two_periods ForfeitureRules (codes "Supp. G(5)(a)(ii)(B)") (codes "g5aiib") (codes "30d/after/filing/event/plain") (codes "60d/after/filing/event/plain")
+    ∷ one_period ForfeitureRules (codes "Supp. G(5)(b)") (codes "g5b") (codes "21d/after/filing/event/plain")
+    ∷ one_period ForfeitureRules (codes "Supp. G(6)(b)") (codes "g6b") (codes "21d/after/service/served/plain")
+    ∷ one_period UnitedStatesCode (codes "28 U.S.C. 1446(b)(1)") (codes "28usc1446b1") (codes "30d/after/filing/event/60b")
+    ∷ one_period UnitedStatesCode (codes "28 U.S.C. 1446(b)(3)") (codes "28usc1446b3") (codes "30d/after/filing/event/60b")
+    ∷ one_period UnitedStatesCode (codes "28 U.S.C. 1447(c)") (codes "28usc1447c") (codes "30d/after/filing/event/60b")
+    ∷ one_period UnitedStatesCode (codes "28 U.S.C. 1608(d)") (codes "28usc1608d") (codes "60d/after/service/event/plain")
+    ∷ one_period UnitedStatesCode (codes "5 U.S.C. 552(a)(4)(C)") (codes "5usc552a4c") (codes "30d/after/service/event/plain")
+    ∷ one_period UnitedStatesCode (codes "42 U.S.C. 405(g)") (codes "42usc405g") (codes "60d/after/filing/event/60b")
+    ∷ one_period SocialSecurityRules (codes "Supp. Soc. Sec. 4") (codes "4") (codes "60d/after/service/event/plain")
+    ∷ one_period SocialSecurityRules (codes "Supp. Soc. Sec. 6") (codes "6") (codes "30d/after/filing/event/plain")
+    ∷ one_period SocialSecurityRules (codes "Supp. Soc. Sec. 7") (codes "7") (codes "30d/after/filing/served/plain")
+    ∷ one_period SocialSecurityRules (codes "Supp. Soc. Sec. 8") (codes "8") (codes "14d/after/filing/served/plain")
+    ∷ two_periods AppellateRules (codes "FRAP 4(a)(1)") (codes "4a1") (codes "30d/after/filing/event/60b") (codes "60d/after/filing/event/60b")
+    ∷ one_period AppellateRules (codes "FRAP 4(a)(1)(A)") (codes "4a1a") (codes "30d/after/filing/event/60b")
+    ∷ one_period AppellateRules (codes "FRAP 4(a)(1)(B)") (codes "4a1b") (codes "60d/after/filing/event/60b")
+    ∷ two_periods AppellateRules (codes "FRAP 4(a)(4)") (codes "4a4") (codes "30d/after/filing/event/60b") (codes "60d/after/filing/event/60b")
+    ∷ two_periods AppellateRules (codes "FRAP 4(a)(5)") (codes "4a5") (codes "30d/after/filing/event/60b") (codes "14d/after/filing/event/60b")
     ∷ [])
 
 -- the section that a word cites, if it is one of these

@@ -1,7 +1,7 @@
 //! Fields that say one of a few words. Each word is folded: in small letters, with its letters and digits alone.
 
 ghost use Rattle.std.specs.Prelude.{◌≡◌};
-ghost use Rattle.row_fields.specs.Choices.{act_said, answer_said, list_said, means_said, one_rule_said, rule_said, service_said};
+ghost use Rattle.row_fields.specs.Choices.{act_said, answer_said, closing_said, counted_said, list_said, means_said, one_rule_said, rule_said, ruling_said, service_said, why_said};
 ghost use Rattle.row_fields.specs.Said.{said_map};
 
 use crate::said::Said;
@@ -66,6 +66,65 @@ pub fn act_said(word: &str) -> Said<&'static str>
     match word {
         "filing" | "file" | "tofile" => Said::Clear("filing"),
         "service" | "serve" | "toserve" => Said::Clear("service"),
+        _ => Said::Unknown,
+    }
+}
+
+/// How a case was closed.
+#[tactic(auto, unfolding(crate::specs::Choices::closing_said))]
+pub fn closing_said(word: &str) -> Said<&'static str>
+    ensures { said_map (λ plain. plain.now) result ≡ closing_said word.now }
+{
+    match word {
+        "dismissed" | "dismissal" | "dismiss" => Said::Clear("dismissed"),
+        "judgment" | "judgement" => Said::Clear("judgment"),
+        "settled" | "settlement" | "settle" => Said::Clear("settled"),
+        "transferred" | "transfer" => Said::Clear("transferred"),
+        "remanded" | "remand" => Said::Clear("remanded"),
+        "otherwise" | "other" => Said::Clear("otherwise"),
+        _ => Said::Unknown,
+    }
+}
+
+/// How a motion was ruled on.
+#[tactic(auto, unfolding(crate::specs::Choices::ruling_said))]
+pub fn ruling_said(word: &str) -> Said<&'static str>
+    ensures { said_map (λ plain. plain.now) result ≡ ruling_said word.now }
+{
+    match word {
+        "granted" | "grant" => Said::Clear("granted"),
+        "denied" | "deny" | "denial" => Said::Clear("denied"),
+        "inpart" | "grantedinpart" | "grantedinpartanddeniedinpart" => Said::Clear("in part"),
+        "moot" | "mooted" | "deniedasmoot" => Said::Clear("moot"),
+        "withdrawn" | "withdrew" => Said::Clear("withdrawn"),
+        "reserved" | "reserve" | "underadvisement" => Said::Clear("reserved"),
+        _ => Said::Unknown,
+    }
+}
+
+/// Whether a deadline or a motion is meant.
+#[tactic(auto, unfolding(crate::specs::Choices::counted_said))]
+pub fn counted_said(word: &str) -> Said<&'static str>
+    ensures { said_map (λ plain. plain.now) result ≡ counted_said word.now }
+{
+    match word {
+        "deadline" | "deadlines" => Said::Clear("deadline"),
+        "motion" | "motions" => Said::Clear("motion"),
+        _ => Said::Unknown,
+    }
+}
+
+/// Why a deadline is due no more.
+#[tactic(auto, unfolding(crate::specs::Choices::why_said))]
+pub fn why_said(word: &str) -> Said<&'static str>
+    ensures { said_map (λ plain. plain.now) result ≡ why_said word.now }
+{
+    match word {
+        "moot" | "mooted" => Said::Clear("moot"),
+        "vacated" | "vacate" => Said::Clear("vacated"),
+        "stayed" | "stay" => Said::Clear("stayed"),
+        "suspended" | "suspend" => Said::Clear("suspended"),
+        "withdrawn" | "withdrew" => Said::Clear("withdrawn"),
         _ => Said::Unknown,
     }
 }

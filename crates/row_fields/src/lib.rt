@@ -11,7 +11,10 @@ mod named;
 mod said;
 mod times;
 
-pub use choices::{act_said, answer_said, list_said, means_said, rule_said, service_said};
+pub use choices::{
+    act_said, answer_said, closing_said, counted_said, list_said, means_said, rule_said,
+    ruling_said, service_said, why_said,
+};
 pub use dates::{DateOrder, date_said};
 pub use laws::{no_other_reading, numbers_stay_whole, order_is_kept, places_follow_their_marks};
 pub use letters::{bare, folded};

@@ -1,11 +1,10 @@
 -- What reading rows says of each record.
-use Rattle.std.proofs.Common.{◌≡◌, ◌+◌, ◌<◌, ℕ, zero, suc, List, [], ◌∷◌, length, Some, IfSome, Result, Ok, Err, MatchResult, IsOk, slice_get, cond, ltb, refl, ap, arith}
+use Rattle.std.proofs.Common.{◌≡◌, ◌+◌, ◌<◌, ℕ, zero, suc, List, [], ◌∷◌, Some, Result, Ok, Err, MatchResult, IsOk, slice_get, cond, ltb, refl, ap, arith}
 use Rattle.row_forms.specs.declared.row.Row.{Row}
 use Rattle.row_forms.specs.declared.fault.RowCause.{RowCause}
 use Rattle.row_forms.specs.declared.fault.RowCause.TheVariants.{TooManyRows}
 use Rattle.row_forms.specs.FirstFault.{AreSpelled, FirstFaultIsTold, IsFirstFault}
 use Rattle.row_forms.specs.Columns.{◌>>=◌}
-use Rattle.row_forms.specs.CourtNames.{CourtNames}
 use Rattle.row_forms.specs.Rows.{in_row, most_rows, numbered_row, office_row_of, rows_read_from}
 
 pub first_fault_is_told_lem : FirstFaultIsTold

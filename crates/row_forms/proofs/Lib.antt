@@ -3,6 +3,7 @@ pub mod EndLemmas
 pub mod CutLemmas
 pub mod PanelLemmas
 pub mod PeriodLemmas
+pub mod GrantLemmas
 pub mod FormLemmas
 pub mod TakenLemmas
 pub mod OfficeLemmas

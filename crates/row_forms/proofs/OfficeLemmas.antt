@@ -3,6 +3,7 @@ use Rattle.std.proofs.Common.{◌≡◌, ◌∙◌, ◌+◌, ◌==◌, ℕ, Bool
 use Rattle.std.specs.List.{All, list_all}
 use Rattle.std.specs.Option.{ok_or}
 use Rattle.std.specs.Str.{is_utf8}
+use Rattle.std.proofs.lemmas.Bool.{false_from_ne_true}
 use Rattle.std.proofs.lemmas.List.Elements.{All-cons, All-nil}
 use Rattle.docket_rows.specs.declared.query.Query.TheVariants as query
 use Rattle.rule_periods.specs.Words.{is_set}
@@ -10,27 +11,56 @@ use Rattle.row_forms.specs.declared.fault.RowCause.{RowCause}
 use Rattle.row_forms.specs.declared.fault.RowCause.TheVariants.{BadClerk, NotText, TooManyRows, WrongCount}
 use Rattle.row_forms.specs.declared.forms.periods.Measured.{Measured}
 use Rattle.row_forms.specs.declared.forms.table.Form.{Form}
-use Rattle.row_forms.specs.declared.forms.table.Form.TheVariants.{Compute, Set, Start}
+use Rattle.row_forms.specs.declared.forms.table.Form.TheVariants.{Assign, Close, Compute, End, Extend, Label, Reopen, Reset, Resume, Rule, Set, Start, Title}
 use Rattle.row_forms.specs.declared.row.Row.{Row}
 use Rattle.row_forms.specs.declared.row.Work.{Work}
 use Rattle.row_forms.specs.declared.row.Work.TheVariants.{Query}
 use Rattle.row_forms.specs.Columns.{◌>>=◌, column}
 use Rattle.row_forms.specs.CourtNames.{CourtNames}
-use Rattle.row_forms.specs.Forms.{compute_row, office_work_of, read_as, start_row, work_as, work_of}
+use Rattle.row_forms.specs.Forms.{compute_row, extend_row, office_work_of, read_as, start_row, work_as, work_of}
 use Rattle.row_forms.specs.Forms.Periods.{measured_from}
 use Rattle.row_forms.specs.Forms.Table.{columns_of_form, command_word, form_of, is_word_of, office_form_of, office_forms}
 use Rattle.row_forms.specs.Office.{OfficeRowsAreReadAlike, RowsAreOfficeWork, is_office_work}
 use Rattle.row_forms.specs.Rows.{clerk_of, in_row, most_rows, office_row_of, row_asking, row_of, rows_read, rows_read_from}
-use Rattle.row_forms.proofs.FormLemmas.{at_desk, named_in, start_is}
+use Rattle.row_forms.proofs.FormLemmas.{at_desk, extend_is, named_in, start_is}
 use Rattle.row_forms.proofs.PeriodLemmas.{measured_counted}
 
--- no word of clerk_office names the form of the desk
-never_set : (word : List ℕ) → office_form_of word ≡ Some Set → ⊥
-unfolding office_form_of is_word_of
-never_set word h =
-    let same : command_word Set ≡ word = named_in office_forms word Set h in
-    let found : None ≡ Some Set = subst (λ (w : List ℕ). office_form_of w ≡ Some Set) (sym same) h in
+-- the forms of the desk's own
+abbrev of_desk : Form → Bool
+of_desk Set = true
+of_desk Reset = true
+of_desk End = true
+of_desk Resume = true
+of_desk Close = true
+of_desk Reopen = true
+of_desk Rule = true
+of_desk Assign = true
+of_desk Title = true
+of_desk Label = true
+of_desk other = false
+
+-- a form whose own word clerk_office doesn't take has no word there
+none_has : (form : Form) (word : List ℕ) → office_form_of (command_word form) ≡ None → office_form_of word ≡ Some form → ⊥
+unfolding office_form_of
+none_has form word none h =
+    let same : command_word form ≡ word = named_in office_forms word form h in
+    let found : None ≡ Some form = sym none ∙ subst (λ (w : List ℕ). office_form_of w ≡ Some form) (sym same) h in
     cc found
+
+-- so no word of clerk_office names a form of the desk's own: the last line is checked for every other form
+never_of_desk : (word : List ℕ) (form : Form) → of_desk form ≡ true → office_form_of word ≡ Some form → ⊥
+unfolding office_form_of is_word_of
+never_of_desk word Set own h = none_has Set word refl h
+never_of_desk word Reset own h = none_has Reset word refl h
+never_of_desk word End own h = none_has End word refl h
+never_of_desk word Resume own h = none_has Resume word refl h
+never_of_desk word Close own h = none_has Close word refl h
+never_of_desk word Reopen own h = none_has Reopen word refl h
+never_of_desk word Rule own h = none_has Rule word refl h
+never_of_desk word Assign own h = none_has Assign word refl h
+never_of_desk word Title own h = none_has Title word refl h
+never_of_desk word Label own h = none_has Label word refl h
+never_of_desk word other own h = cc own
 
 -- what is read, if anything is, is work of clerk_office
 record IsOffice (r : Result Work RowCause) : Type 0 where
@@ -58,14 +88,25 @@ compute_is fields work h = by (measured_from fields 3) refl h
         let office : is_office_work (Query (query.Compute x.period x.event x.second x.service)) ≡ true = rw plain refl in
         rw (← is) office
 
--- of each form but that of the desk: the last line is checked for every other form
-form_is_office : (names : CourtNames) (form : Form) (fields : List (List ℕ)) → (form ≡ Set → ⊥) → IsOffice (read_as names form fields)
-form_is_office names Set fields not_set = absurd (not_set refl)
-form_is_office names Start fields not_set =
+-- of each form but those of the desk's own: the last line is checked for every other form
+form_is_office : (names : CourtNames) (form : Form) (fields : List (List ℕ)) → of_desk form ≡ false → IsOffice (read_as names form fields)
+form_is_office names Set fields office = cc office
+form_is_office names Reset fields office = cc office
+form_is_office names End fields office = cc office
+form_is_office names Resume fields office = cc office
+form_is_office names Close fields office = cc office
+form_is_office names Reopen fields office = cc office
+form_is_office names Rule fields office = cc office
+form_is_office names Assign fields office = cc office
+form_is_office names Title fields office = cc office
+form_is_office names Label fields office = cc office
+form_is_office names Extend fields office =
+    counted (not (length fields == length (columns_of_form Extend))) (extend_row fields) (record { office = λ work h. (extend_is fields work h).1 })
+form_is_office names Start fields office =
     counted (not (length fields == length (columns_of_form Start))) (start_row fields) (record { office = λ work h. (start_is fields work h).1 })
-form_is_office names Compute fields not_set =
+form_is_office names Compute fields office =
     counted (not (length fields == length (columns_of_form Compute))) (compute_row fields) (record { office = λ work h. compute_is fields work h })
-form_is_office names other fields not_set = search (rules, counted, after, done) depth 12
+form_is_office names other fields office = search (rules, counted, after, done) depth 12
 
 -- what a row that was read asks for
 row_asks : (clerks : ℕ) (asked : Result Work RowCause) (fields : List (List ℕ)) (row : Row) → row_asking clerks asked fields ≡ Ok row → asked ≡ Ok row.work
@@ -94,7 +135,7 @@ office_rows_are_read_alike_lem clerks names fields row h =
     let (form, named, reads) = work_named names (office_form_of word) fields row.work (row_asks clerks (work_as names (office_form_of word) fields) fields row h) in
     let same : form_of word ≡ office_form_of word = at_desk word form named ∙ sym named in (
       ap (λ (found : Option Form). row_asking clerks (work_as names found fields) fields) same ∙ h,
-      (form_is_office names form fields (λ is. never_set word (named ∙ ap Some is))).office row.work reads,
+      (form_is_office names form fields (false_from_ne_true _ (λ own. never_of_desk word form own named))).office row.work reads,
     )
 
 -- the rows of records

@@ -1,20 +1,20 @@
 -- A row is refused where the columns of its form don't take its fields.
-use Rattle.std.proofs.Common.{◌≡◌, ◌∙◌, ◌==◌, ℕ, Bool, true, false, List, [], ◌∷◌, Option, Some, None, Result, Ok, Err, cond, ltb, length, not, drop, refl, rules, sym, ap}
+use Rattle.std.proofs.Common.{◌≡◌, ◌∙◌, ◌==◌, ℕ, Bool, true, false, List, Option, Some, None, Result, Ok, Err, cond, ltb, length, not, drop, refl, rules, sym, ap}
 use Rattle.std.specs.List.{list_all}
 use Rattle.std.specs.Option.{is_some, ok_or, option_map}
 use Rattle.std.specs.Str.{is_utf8}
 use Rattle.row_forms.specs.declared.fault.RowCause.{RowCause}
-use Rattle.row_forms.specs.declared.fault.RowCause.TheVariants.{BadClerk, BadField, NotText, UnknownCommand, WrongCount}
+use Rattle.row_forms.specs.declared.fault.RowCause.TheVariants.{BadClerk, BadField, NotText, WrongCount}
 use Rattle.row_forms.specs.declared.forms.table.Form.{Form}
 use Rattle.row_forms.specs.declared.forms.table.Form.TheVariants as form
-use Rattle.row_forms.specs.declared.headings.columns.Column.TheVariants.{TimeOrNone, SecondOrNone, ServiceOrNone, SetTime, Clerk, Command}
+use Rattle.row_forms.specs.declared.headings.columns.Column.TheVariants.{TimeOrNone, SecondOrNone, ServiceOrNone, ResumeDay, JudgeOrNone, Clerk, Command}
 use Rattle.row_forms.specs.declared.row.Row.{Row}
 use Rattle.row_forms.specs.declared.row.Work.{Work}
 use Rattle.row_forms.specs.Columns.{◌>>=◌, column, day_in, number_in}
 use Rattle.row_forms.specs.CourtNames.{CourtNames}
 use Rattle.row_forms.specs.Fields.Choices.{kind_if_given}
-use Rattle.row_forms.specs.Fields.Times.{day_if_given, minute_of_set, minute_or_midnight}
-use Rattle.row_forms.specs.Forms.{fields_as, office_work_of, read_as, work_as, work_of}
+use Rattle.row_forms.specs.Fields.Times.{day_anew, day_if_given, minute_or_midnight}
+use Rattle.row_forms.specs.Forms.{fields_as, office_work_of, work_as, work_of}
 use Rattle.row_forms.specs.Forms.Periods.{measured_from}
 use Rattle.row_forms.specs.Forms.Settings.{setting_in}
 use Rattle.row_forms.specs.Forms.Table.{columns_of_form, form_of, office_form_of}
@@ -83,11 +83,12 @@ rows_follow_the_table_lem = record {
 }
 
 pub empty_fields_are_taken_lem : EmptyFieldsAreTaken
-unfolding minute_or_midnight day_if_given kind_if_given minute_of_set
+unfolding minute_or_midnight day_if_given kind_if_given day_anew
 empty_fields_are_taken_lem TimeOrNone clerks names e = refl
 empty_fields_are_taken_lem SecondOrNone clerks names e = refl
 empty_fields_are_taken_lem ServiceOrNone clerks names e = refl
-empty_fields_are_taken_lem SetTime clerks names e = refl
+empty_fields_are_taken_lem ResumeDay clerks names e = refl
+empty_fields_are_taken_lem JudgeOrNone clerks names e = refl
 empty_fields_are_taken_lem other clerks names e = cc e
 
 pub brackets_show_what_may_be_empty_lem : BracketsShowWhatMayBeEmpty

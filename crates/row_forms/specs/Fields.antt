@@ -4,5 +4,6 @@ pub mod Cut
 pub mod Period
 pub mod Times
 pub mod Choices
+pub mod Texts
 pub mod Grants
 pub mod Hearings

@@ -2,30 +2,33 @@
 pub mod Periods
 pub mod Settings
 pub mod Table
-use Rattle.std.specs.Prelude.{◌≡◌, ◌==◌, not, ℕ, false, List, length, Option, Some, None, Result, Ok, Err, if◌then◌else◌}
+use Rattle.std.specs.Prelude.{◌≡◌, ◌==◌, not, ℕ, false, List, [], ◌∷◌, length, Option, Some, None, Result, Ok, Err, if◌then◌else◌}
 use Rattle.std.specs.Option.{ok_or}
 use Rattle.court_clock.specs.declared.direction.Direction.TheVariants.{After}
 use Rattle.court_clock.specs.Words.{minute_of_text}
 use Rattle.rule6.specs.declared.timeliness.Act.{Act}
 use Rattle.rule_periods.specs.declared.mark.Mark.TheVariants.{Plain}
-use Rattle.rule_periods.specs.declared.period.Length.TheVariants.{ToDay}
+use Rattle.rule_periods.specs.declared.period.Length.{Length}
+use Rattle.rule_periods.specs.declared.period.Length.TheVariants.{ToDay, ToTime}
 use Rattle.rule_periods.specs.declared.period.Period.{Period}
 use Rattle.rule_periods.specs.declared.period.Period.TheVariants.{Entered}
-use Rattle.rule_periods.specs.Words.{is_set}
+use Rattle.rule_periods.specs.Words.{is_order, is_set}
 use Rattle.docket_rows.specs.declared.command.Command.TheVariants as command
+use Rattle.docket_rows.specs.declared.fact.Fact.TheVariants.{Ended, Resumed, Closed, Reopened, Ruled, Assigned, Titled, Labelled}
 use Rattle.docket_rows.specs.declared.query.Query.TheVariants as query
 use Rattle.row_forms.specs.declared.fault.RowCause.{RowCause}
 use Rattle.row_forms.specs.declared.fault.RowCause.TheVariants.{UnknownCommand, WrongCount}
 use Rattle.row_forms.specs.declared.forms.table.Form.{Form}
-use Rattle.row_forms.specs.declared.forms.table.Form.TheVariants.{Open, Start, File, Extend, Motion, Book, Move, Cancel, Holiday, Inaccessible, Compute, Sheet, Calendar, Set}
+use Rattle.row_forms.specs.declared.forms.table.Form.TheVariants.{Open, Start, File, Extend, Motion, Book, Move, Cancel, Holiday, Inaccessible, Compute, Sheet, Calendar, Set, End, Resume, Close, Reopen, Reset, Rule, Assign, Title, Label}
 use Rattle.row_forms.specs.declared.row.Work.{Work}
 use Rattle.row_forms.specs.declared.row.Work.TheVariants.{Command, Query}
 use Rattle.row_forms.specs.Columns.{◌>>=◌, column, in_column, day_in, number_in}
-use Rattle.row_forms.specs.Fields.Choices.{is_so, list_of, means_of}
-use Rattle.row_forms.specs.Fields.Grants.{grant_of, need_of}
+use Rattle.row_forms.specs.Fields.Choices.{closing_of, counted_of, ending_of, is_so, list_of, means_of, ruling_of}
+use Rattle.row_forms.specs.Fields.Grants.{grant_of, need_of, order_dated, reset_to}
 use Rattle.row_forms.specs.Fields.Period.{act_of}
-use Rattle.row_forms.specs.Fields.Times.{ending_minute, minute_of_set}
-use Rattle.row_forms.specs.CourtNames.{CourtNames, number_named}
+use Rattle.row_forms.specs.Fields.Texts.{text_length}
+use Rattle.row_forms.specs.Fields.Times.{day_anew, ending_minute, minute_or_midnight}
+use Rattle.row_forms.specs.CourtNames.{CourtNames, number_if_named, number_named}
 use Rattle.row_forms.specs.Forms.Periods.{measured_from}
 use Rattle.row_forms.specs.Forms.Settings.{setting_in}
 use Rattle.row_forms.specs.Forms.Table.{columns_of_form, form_of, office_form_of}
@@ -109,18 +112,98 @@ calendar_row names fields = do
   day ← day_in fields 4
   Ok (Query (query.JudgeDay (number_named names.judges (column fields 3)) day))
 
--- the period of an act that an order wants by the day of the event
-abbrev pub set_to : Act → Period
-set_to act = Entered (record { length = ToDay; direction = After; act = act; served = false; mark = Plain })
+-- an order sets the end to a day, or where a field says a time to that minute of it
+unfoldable pub set_length : (time : List ℕ) → Length
+set_length [] = ToDay
+set_length (b ∷ time) = ToTime
 
--- a row of `set`: an order sets a deadline for a day
+-- the period of an act that an order wants by the event
+abbrev pub set_to : Length → Act → Period
+set_to length act = Entered (record { length = length; direction = After; act = act; served = false; mark = Plain })
+
+-- a row of `set`: an order sets a deadline for a day, or for a time of it
 abbrev pub set_row : List (List ℕ) → Result Work RowCause
 set_row fields = do
   case ← number_in fields 3
   day ← day_in fields 4
-  minute ← in_column 5 (minute_of_set (column fields 5))
+  minute ← in_column 5 (minute_or_midnight (column fields 5))
   act ← in_column 6 (act_of (column fields 6))
-  Ok (Command (command.Start case (set_to act) (record { day = day; minute = minute }) None None))
+  Ok (Command (command.Start case (set_to (set_length (column fields 5)) act) (record { day = day; minute = minute }) None None))
+
+-- a row of `reset`: an order sets another end for a deadline
+abbrev pub reset_row : List (List ℕ) → Result Work RowCause
+reset_row fields = do
+  case ← number_in fields 3
+  deadline ← number_in fields 4
+  day ← day_in fields 5
+  minute ← in_column 6 (minute_or_midnight (column fields 6))
+  dated ← day_in fields 7
+  Ok (Command (command.Extend case deadline (order_dated dated (reset_to (column fields 6) (record { day = day; minute = minute })))))
+
+-- a row of `end`: a deadline is due no more
+abbrev pub end_row : List (List ℕ) → Result Work RowCause
+end_row fields = do
+  case ← number_in fields 3
+  deadline ← number_in fields 4
+  why ← in_column 5 (ending_of (column fields 5))
+  dated ← day_in fields 6
+  Ok (Command (command.Fact case (Ended deadline why dated)))
+
+-- a row of `resume`: a deadline that was ended is due again
+abbrev pub resume_row : List (List ℕ) → Result Work RowCause
+resume_row fields = do
+  case ← number_in fields 3
+  deadline ← number_in fields 4
+  _ ← in_column 5 (day_anew (column fields 5))
+  dated ← day_in fields 6
+  Ok (Command (command.Fact case (Resumed deadline dated)))
+
+-- a row of `close`: a case is closed
+abbrev pub close_row : List (List ℕ) → Result Work RowCause
+close_row fields = do
+  case ← number_in fields 3
+  why ← in_column 4 (closing_of (column fields 4))
+  dated ← day_in fields 5
+  Ok (Command (command.Fact case (Closed why dated)))
+
+-- a row of `reopen`: a case that was closed is open again
+abbrev pub reopen_row : List (List ℕ) → Result Work RowCause
+reopen_row fields = do
+  case ← number_in fields 3
+  dated ← day_in fields 4
+  Ok (Command (command.Fact case (Reopened dated)))
+
+-- a row of `rule`: a motion is ruled on
+abbrev pub rule_row : List (List ℕ) → Result Work RowCause
+rule_row fields = do
+  case ← number_in fields 3
+  motion ← number_in fields 4
+  how ← in_column 5 (ruling_of (column fields 5))
+  dated ← day_in fields 6
+  Ok (Command (command.Fact case (Ruled motion how dated)))
+
+-- a row of `assign`: a judge has a case, and it may be referred to another; any texts are read as the judges' names
+abbrev pub assign_row : CourtNames → List (List ℕ) → Result Work RowCause
+assign_row names fields = do
+  case ← number_in fields 3
+  dated ← day_in fields 6
+  Ok (Command (command.Fact case (Assigned (number_named names.judges (column fields 4)) (number_if_named names.judges (column fields 5)) dated)))
+
+-- a row of `title`: what a case is called; the text isn't part of what is asked for
+abbrev pub title_row : List (List ℕ) → Result Work RowCause
+title_row fields = do
+  case ← number_in fields 3
+  _ ← in_column 4 (text_length (column fields 4))
+  Ok (Command (command.Fact case Titled))
+
+-- a row of `label`: what a deadline or a motion is called, likewise
+abbrev pub label_row : List (List ℕ) → Result Work RowCause
+label_row fields = do
+  case ← number_in fields 3
+  kind ← in_column 4 (counted_of (column fields 4))
+  number ← number_in fields 5
+  _ ← in_column 6 (text_length (column fields 6))
+  Ok (Command (command.Fact case (Labelled kind number)))
 
 -- what the fields of a row of this form ask for
 abbrev pub fields_as : CourtNames → Form → List (List ℕ) → Result Work RowCause
@@ -144,6 +227,15 @@ fields_as names Sheet fields = do
   Ok (Query (query.Sheet case))
 fields_as names Calendar fields = calendar_row names fields
 fields_as names Set fields = set_row fields
+fields_as names Reset fields = reset_row fields
+fields_as names End fields = end_row fields
+fields_as names Resume fields = resume_row fields
+fields_as names Close fields = close_row fields
+fields_as names Reopen fields = reopen_row fields
+fields_as names Rule fields = rule_row fields
+fields_as names Assign fields = assign_row names fields
+fields_as names Title fields = title_row fields
+fields_as names Label fields = label_row fields
 
 -- what a row of this form asks for, which has a field for each column
 abbrev pub read_as : CourtNames → Form → List (List ℕ) → Result Work RowCause
@@ -169,13 +261,21 @@ abbrev pub form_asking : Work → Form
 form_asking (Command (command.OpenCase case filed)) = Open
 form_asking (Command (command.Start case period event second service)) = if is_set period then Set else Start
 form_asking (Command (command.FileAct case deadline filing)) = File
-form_asking (Command (command.Extend case deadline request)) = Extend
+form_asking (Command (command.Extend case deadline request)) = if is_order request.grant then Reset else Extend
 form_asking (Command (command.Motion case served need)) = Motion
 form_asking (Command (command.Book setting)) = Book
 form_asking (Command (command.MoveHearing setting)) = Move
 form_asking (Command (command.Cancel case motion)) = Cancel
 form_asking (Command (command.Holiday day list)) = Holiday
 form_asking (Command (command.Inaccessible day from to)) = Inaccessible
+form_asking (Command (command.Fact case (Ended deadline why dated))) = End
+form_asking (Command (command.Fact case (Resumed deadline dated))) = Resume
+form_asking (Command (command.Fact case (Closed why dated))) = Close
+form_asking (Command (command.Fact case (Reopened dated))) = Reopen
+form_asking (Command (command.Fact case (Ruled motion how dated))) = Rule
+form_asking (Command (command.Fact case (Assigned judge referred dated))) = Assign
+form_asking (Command (command.Fact case Titled)) = Title
+form_asking (Command (command.Fact case (Labelled kind number))) = Label
 form_asking (Query (query.Compute period event second service)) = Compute
 form_asking (Query (query.Sheet case)) = Sheet
 form_asking (Query (query.JudgeDay judge day)) = Calendar

@@ -8,15 +8,16 @@ use Rattle.row_forms.specs.declared.fault.RowCause.{RowCause}
 use Rattle.row_forms.specs.declared.fault.RowCause.TheVariants.{BadClerk, BadField, NotText, UnknownCommand, WrongCount}
 use Rattle.row_forms.specs.declared.forms.table.Form.{Form}
 use Rattle.row_forms.specs.declared.headings.columns.Column.{Column}
-use Rattle.row_forms.specs.declared.headings.columns.Column.TheVariants.{Clerk, Command, Case, Deadline, Motion, Period, Date, Time, Start, TimeOrNone, SecondOrNone, ServiceOrNone, Means, Grant, ByMotion, Cause, Neglect, Need, Holidays, From, To, Judge, Judges, Room, Slots, Notice, SetTime, Act}
+use Rattle.row_forms.specs.declared.headings.columns.Column.TheVariants.{Clerk, Command, Case, Deadline, Motion, Period, Date, Time, Start, TimeOrNone, SecondOrNone, ServiceOrNone, Means, Grant, ByMotion, Cause, Neglect, Need, Holidays, From, To, Judge, Judges, Room, Slots, Notice, Act, Why, Closing, ResumeDay, Ruling, JudgeOrNone, Dated, Title, Counted, Number, Label}
 use Rattle.row_forms.specs.Columns.{column}
 use Rattle.row_forms.specs.CourtNames.{CourtNames}
-use Rattle.row_forms.specs.Fields.Choices.{is_so, kind_if_given, list_of, means_of}
+use Rattle.row_forms.specs.Fields.Choices.{closing_of, counted_of, ending_of, is_so, kind_if_given, list_of, means_of, ruling_of}
 use Rattle.row_forms.specs.Fields.Grants.{grant_of, need_of}
 use Rattle.row_forms.specs.Fields.Hearings.{panel_named, slots_of}
 use Rattle.row_forms.specs.Fields.Numbers.{number_of}
 use Rattle.row_forms.specs.Fields.Period.{act_of, period_of}
-use Rattle.row_forms.specs.Fields.Times.{day_if_given, ending_minute, minute_of_set, minute_or_midnight, slot_at}
+use Rattle.row_forms.specs.Fields.Texts.{text_length}
+use Rattle.row_forms.specs.Fields.Times.{day_anew, day_if_given, ending_minute, minute_or_midnight, slot_at}
 use Rattle.row_forms.specs.Forms.Table.{columns_of_form, form_of, office_form_of}
 use Rattle.row_forms.specs.Headings.Columns.{mark_of, may_be_empty}
 use Rattle.row_forms.specs.Rows.{clerk_of, office_row_of, row_of}
@@ -49,8 +50,17 @@ takes clerks names Judges field = is_some (panel_named names.judges field)
 takes clerks names Room field = true
 takes clerks names Slots field = is_some (slots_of field)
 takes clerks names Notice field = is_some (day_of_text field)
-takes clerks names SetTime field = is_some (minute_of_set field)
 takes clerks names Act field = is_some (act_of field)
+takes clerks names Dated field = is_some (day_of_text field)
+takes clerks names Why field = is_some (ending_of field)
+takes clerks names Closing field = is_some (closing_of field)
+takes clerks names ResumeDay field = is_some (day_anew field)
+takes clerks names Ruling field = is_some (ruling_of field)
+takes clerks names JudgeOrNone field = true
+takes clerks names Title field = is_some (text_length field)
+takes clerks names Counted field = is_some (counted_of field)
+takes clerks names Number field = is_some (number_of field)
+takes clerks names Label field = is_some (text_length field)
 
 module _ (clerks : ℕ) (names : CourtNames) (fields : List (List ℕ)) where
   -- the number of the first column that doesn't take its field, of columns the first of which has this number

@@ -6,4 +6,5 @@ pub(crate) mod grants;
 pub(crate) mod hearings;
 pub(crate) mod numbers;
 pub(crate) mod period;
+pub(crate) mod texts;
 pub(crate) mod times;

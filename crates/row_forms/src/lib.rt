@@ -12,6 +12,7 @@ mod numbered;
 mod records;
 mod row;
 
+pub use columns::column;
 pub use fault::{RowCause, RowError};
 pub use fields::numbers::is_number;
 pub use forms::{COMMANDS, columns_of, commands, commands_listed};

@@ -1,7 +1,7 @@
 //! Rows.
 
 use court_clock::Day;
-use docket_rows::{Command, Query};
+use docket_rows::{Closing, Command, Counted, Ending, Fact, Query, Ruling};
 use rule_periods::{Grant, Request};
 
 /// One row: which clerk asks, and for what.
@@ -24,4 +24,14 @@ pub enum Work {
 
 /// CourtNames the types inside a row. The checker finds them only where they have names, so a function that puts rows into a
 /// `Vec` has a variable of this type.
-pub(crate) type RowTypes = Option<(Work, Command, Query, Option<Day>, Grant, Request)>;
+pub(crate) type RowTypes = Option<
+    (
+        Work,
+        Command,
+        Query,
+        Option<Day>,
+        Grant,
+        Request,
+        (Fact, Ending, Closing, Ruling, Option<u8>, Counted),
+    ),
+>;

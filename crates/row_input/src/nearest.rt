@@ -9,10 +9,11 @@ use std::alloc::{AllocError, Global};
 use strsim::osa_distance;
 
 /// The headings of columns.
-const HEADINGS: [&str; 24] = [
+const HEADINGS: [&str; 32] = [
     "clerk", "command", "case", "deadline", "motion", "period", "date", "time", "second", "kind",
-    "means", "grant", "cause", "neglect", "need", "list", "from", "to", "judge", "room", "slots",
-    "notice", "act", "note",
+    "means", "grant", "cause", "neglect", "need", "list", "from", "to", "judge", "referred",
+    "room", "slots", "notice", "act", "why", "ruling", "dated", "title", "of", "number", "label",
+    "note",
 ];
 
 /// The word from which a text that is folded differs by no more than a slip: a letter that is added, lost or another, or two
@@ -90,7 +91,7 @@ fn nearest_in(
     word: &str,
 ) -> Result<Option<String>, AllocError> {
     match column {
-        Column::Judge | Column::Judges => nearest_judge(alloc, court, found),
+        Column::Judge | Column::Judges | Column::JudgeOrNone => nearest_judge(alloc, court, found),
         Column::Room => {
             let names = rooms_of(alloc, court)?;
             nearest_of(alloc, word, &names)
@@ -109,6 +110,36 @@ fn nearest_in(
         Column::Holidays => nearest_of(alloc, word, &["federal", "state"]),
         Column::Need => nearest_of(alloc, word, &["exparte"]),
         Column::Act => nearest_of(alloc, word, &["filing", "service"]),
+        Column::Closing => nearest_of(
+            alloc,
+            word,
+            &[
+                "dismissed",
+                "judgment",
+                "settled",
+                "transferred",
+                "remanded",
+                "otherwise",
+            ],
+        ),
+        Column::Ruling => nearest_of(
+            alloc,
+            word,
+            &[
+                "granted",
+                "denied",
+                "in part",
+                "moot",
+                "withdrawn",
+                "reserved",
+            ],
+        ),
+        Column::Counted => nearest_of(alloc, word, &["deadline", "motion"]),
+        Column::Why => nearest_of(
+            alloc,
+            word,
+            &["moot", "vacated", "stayed", "suspended", "withdrawn"],
+        ),
         _ => Ok(None),
     }
 }

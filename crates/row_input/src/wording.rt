@@ -31,8 +31,19 @@ fn held(column: Column) -> &'static str {
         Column::Room => "a room of the court's file",
         Column::Slots => "half hours, as 2, or quarter hours, as 3q",
         Column::Notice => "the day on which notice was served, as 2025-09-02",
-        Column::SetTime => "nothing, since an order sets a day as a whole",
         Column::Act => "filing or service",
+        Column::Dated => "the day of the order, as 2025-09-02",
+        Column::Why => "moot, vacated, stayed, suspended or withdrawn",
+        Column::Closing => "dismissed, judgment, settled, transferred, remanded or otherwise",
+        Column::ResumeDay => "nothing, since the deadline has its days as before",
+        Column::Ruling => "granted, denied, in part, moot, withdrawn or reserved",
+        Column::JudgeOrNone => "a judge of the court's file, or nothing",
+        Column::Title =>
+            "what the case is called, in ASCII and without ?; a plain row takes other letters",
+        Column::Counted => "deadline or motion",
+        Column::Number => "the number of a deadline or a motion, as 1",
+        Column::Label =>
+            "what it is called, in ASCII and without ?; a plain row takes other letters",
     }
 }
 
@@ -44,7 +55,7 @@ pub(crate) fn expected(flaw: Flaw) -> &'static str {
         Flaw::Excess => "nothing, since the row has no column for it",
         Flaw::NoCommand => commands_listed(),
         Flaw::NoHeading => {
-            "a heading: clerk, command, case, deadline, motion, period, date, time, second, kind, means, grant, cause, neglect, need, list, from, to, judge, room, slots, notice, act or note"
+            "a heading: clerk, command, case, deadline, motion, period, date, time, second, kind, means, grant, cause, neglect, need, list, from, to, judge, referred, room, slots, notice, act, why, ruling, dated, title, of, number, label or note"
         }
         Flaw::TwiceNamed => "another heading, since a column before it has this one",
     }

@@ -8,9 +8,9 @@ use Rattle.row_forms.specs.Words.{CourtNames, is_number}
 use Rattle.row_fields.specs.declared.said.Said.{Said}
 use Rattle.row_fields.specs.declared.said.Said.TheVariants.{Unknown, Clear}
 use Rattle.row_fields.specs.declared.dates.DateOrder.{DateOrder}
-use Rattle.row_fields.specs.Words.{act_said, answer_said, bare, date_said, folded, list_said, means_said, rule_said, said_map, section_said, service_said, time_said}
+use Rattle.row_fields.specs.Words.{act_said, answer_said, bare, closing_said, counted_said, date_said, folded, list_said, means_said, rule_said, ruling_said, said_map, section_said, service_said, time_said, why_said}
 use Rattle.row_forms.specs.declared.headings.columns.Column.{Column}
-use Rattle.row_forms.specs.declared.headings.columns.Column.TheVariants.{Clerk, Command, Case, Deadline, Motion, Period, Date, Time, Start, TimeOrNone, SecondOrNone, ServiceOrNone, Means, Grant, ByMotion, Cause, Neglect, Need, Holidays, From, To, Judge, Judges, Room, Slots, Notice, SetTime, Act}
+use Rattle.row_forms.specs.declared.headings.columns.Column.TheVariants.{Clerk, Command, Case, Deadline, Motion, Period, Date, Time, Start, TimeOrNone, SecondOrNone, ServiceOrNone, Means, Grant, ByMotion, Cause, Neglect, Need, Holidays, From, To, Judge, Judges, Room, Slots, Notice, Act, Why, Closing, ResumeDay, Ruling, JudgeOrNone, Dated, Title, Counted, Number, Label}
 use Rattle.row_written.specs.Names.{name_said, panel_said}
 
 -- this, where it is so, and else nothing that is known
@@ -20,6 +20,13 @@ clear_if so text = if so then Clear text else Unknown
 -- a number: the field as it is
 abbrev pub number_said : List ℕ → Said (List ℕ)
 number_said text = clear_if (is_number text) text
+
+-- What something is called: the field as it is. It has no question mark, which may stand for a letter that plain keys don't type.
+abbrev pub has_mark : List ℕ → Bool
+has_mark text = list_any (λ b. b == 63) text
+
+abbrev pub text_said : List ℕ → Said (List ℕ)
+text_said text = if has_mark text then Unknown else Clear text
 
 -- a deadline: its number, or a Rule's number
 abbrev pub deadline_said : List ℕ → Said (List ℕ)
@@ -64,6 +71,10 @@ word_in Neglect word = answer_said word
 word_in Holidays word = list_said word
 word_in ServiceOrNone word = service_said word
 word_in Act word = act_said word
+word_in Why word = why_said word
+word_in Closing word = closing_said word
+word_in Ruling word = ruling_said word
+word_in Counted word = counted_said word
 word_in _ word = section_said word
 
 abbrev pub word_said : Column → List ℕ → Said (List ℕ)
@@ -87,7 +98,8 @@ abbrev pub may_be_empty : Column → Bool
 may_be_empty TimeOrNone = true
 may_be_empty SecondOrNone = true
 may_be_empty ServiceOrNone = true
-may_be_empty SetTime = true
+may_be_empty ResumeDay = true
+may_be_empty JudgeOrNone = true
 may_be_empty _ = false
 
 -- what a field says that isn't left empty
@@ -118,9 +130,19 @@ filled_said names order Judges text = panel_said names.judges text
 filled_said names order Room text = name_said names.rooms text
 filled_said names order Slots text = slots_said text
 filled_said names order Notice text = said_map day_text (date_said order text)
--- an order sets a day as a whole
-filled_said names order SetTime text = Unknown
 filled_said names order Act text = word_said Act text
+filled_said names order Dated text = said_map day_text (date_said order text)
+filled_said names order Why text = word_said Why text
+filled_said names order Closing text = word_said Closing text
+-- a deadline that is resumed has its days as before
+filled_said names order ResumeDay text = Unknown
+filled_said names order Ruling text = word_said Ruling text
+filled_said names order JudgeOrNone text = name_said names.judges text
+filled_said names order Counted text = word_said Counted text
+filled_said names order Number text = number_said text
+-- what something is called is the field as it is
+filled_said names order Title text = text_said text
+filled_said names order Label text = text_said text
 
 -- what a field of a column says, as a plain row writes it
 unfoldable pub field_said : CourtNames → Option DateOrder → Column → List ℕ → Said (List ℕ)

@@ -25,6 +25,25 @@ index_of name (other ∷ names) = if bytes_eq other name then 0 else index_of na
 abbrev pub has_name : List (List ℕ) → List ℕ → Bool
 has_name names name = nat_lt (index_of name names) (length names)
 
+-- the heading that is meant, of those that come after `to` in the table
+unfoldable pub later_heading : List ℕ → Option (List ℕ)
+later_heading word =
+    if is_one_of word (codes "judge" ∷ codes "judges" ∷ []) then Some (codes "judge")
+    else if is_one_of word (codes "referred" ∷ codes "referredto" ∷ codes "magistrate" ∷ codes "magistratejudge" ∷ []) then Some (codes "referred")
+    else if is_one_of word (codes "room" ∷ codes "courtroom" ∷ []) then Some (codes "room")
+    else if is_one_of word (codes "slots" ∷ []) then Some (codes "slots")
+    else if is_one_of word (codes "notice" ∷ codes "noticeserved" ∷ []) then Some (codes "notice")
+    else if is_one_of word (codes "act" ∷ []) then Some (codes "act")
+    else if is_one_of word (codes "dated" ∷ codes "orderdated" ∷ codes "orderdate" ∷ codes "dateoforder" ∷ []) then Some (codes "dated")
+    else if is_one_of word (codes "why" ∷ codes "reason" ∷ []) then Some (codes "why")
+    else if is_one_of word (codes "ruling" ∷ []) then Some (codes "ruling")
+    else if is_one_of word (codes "title" ∷ codes "caption" ∷ []) then Some (codes "title")
+    else if is_one_of word (codes "of" ∷ []) then Some (codes "of")
+    else if is_one_of word (codes "number" ∷ []) then Some (codes "number")
+    else if is_one_of word (codes "label" ∷ []) then Some (codes "label")
+    else if is_one_of word (codes "note" ∷ codes "notes" ∷ codes "remarks" ∷ codes "comment" ∷ codes "comments" ∷ []) then Some (codes "note")
+    else None
+
 -- The heading that is meant, for a text that is folded. `note` is that of a column that no row has, and that is passed over.
 unfoldable pub heading_said : List ℕ → Option (List ℕ)
 heading_said word =
@@ -46,13 +65,7 @@ heading_said word =
     else if is_one_of word (codes "list" ∷ codes "holidays" ∷ []) then Some (codes "list")
     else if is_one_of word (codes "from" ∷ []) then Some (codes "from")
     else if is_one_of word (codes "to" ∷ []) then Some (codes "to")
-    else if is_one_of word (codes "judge" ∷ codes "judges" ∷ []) then Some (codes "judge")
-    else if is_one_of word (codes "room" ∷ codes "courtroom" ∷ []) then Some (codes "room")
-    else if is_one_of word (codes "slots" ∷ []) then Some (codes "slots")
-    else if is_one_of word (codes "notice" ∷ codes "noticeserved" ∷ []) then Some (codes "notice")
-    else if is_one_of word (codes "act" ∷ []) then Some (codes "act")
-    else if is_one_of word (codes "note" ∷ codes "notes" ∷ codes "remarks" ∷ codes "comment" ∷ codes "comments" ∷ []) then Some (codes "note")
-    else None
+    else later_heading word
 
 -- the heading that a field says; empty where it says none
 abbrev pub heading_of : List ℕ → List ℕ

@@ -7,15 +7,15 @@ ghost use Rattle.jiff_fmt.specs.Text.{pad2};
 ghost use Rattle.court_clock.specs.Words.{day_text};
 ghost use Rattle.row_forms.specs.Words.{is_number, names_of};
 ghost use Rattle.row_fields.specs.Words.{date_said, said_map, time_said};
-ghost use Rattle.row_written.specs.Fields.{case_said, deadline_said, ending_said, field_said, filled_said, grant_said, is_quarters, may_be_empty, motion_said, need_said, number_said, period_said, slots_said, time_if, word_said};
+ghost use Rattle.row_written.specs.Fields.{case_said, deadline_said, ending_said, field_said, filled_said, grant_said, has_mark, is_quarters, may_be_empty, motion_said, need_said, number_said, period_said, slots_said, text_said, time_if, word_said};
 
 use crate::names::{Named, name_said, owned, panel_said};
 use case_numbers::case_read;
 use court_clock::Day;
 use court_days::Court;
 use row_fields::{
-    DateOrder, Said, act_said, answer_said, bare, date_said, folded, list_said, means_said,
-    rule_said, section_said, service_said, time_said,
+    DateOrder, Said, act_said, answer_said, bare, closing_said, counted_said, date_said, folded,
+    list_said, means_said, rule_said, ruling_said, section_said, service_said, time_said, why_said,
 };
 use row_forms::Column;
 use std::alloc::{AllocError, Global};
@@ -47,6 +47,24 @@ fn number_said(alloc: Global, text: &str) -> Result<Said<String>, AllocError>
         Ok(Said::Clear(String::from_str(alloc, text)?))
     } else {
         Ok(Said::Unknown)
+    }
+}
+
+// Whether a text has a question mark, which may stand for a letter that plain keys don't type.
+fn has_mark(text: &[u8]) -> bool
+    ensures { result ≡ has_mark text.now }
+{
+    text.iter().any(|byte| *byte == b'?')
+}
+
+// What something is called: the field as it is.
+fn text_said(alloc: Global, text: &str) -> Result<Said<String>, AllocError>
+    ensures { IfOk result (λ said. said_map string_bytes said ≡ text_said text.now) }
+{
+    if has_mark(text.as_bytes()) {
+        Ok(Said::Unknown)
+    } else {
+        Ok(Said::Clear(String::from_str(alloc, text)?))
     }
 }
 
@@ -182,6 +200,10 @@ fn word_said(alloc: Global, column: Column, text: &str) -> Result<Said<String>, 
         Column::Holidays => list_said(word.as_str()),
         Column::ServiceOrNone => service_said(word.as_str()),
         Column::Act => act_said(word.as_str()),
+        Column::Why => why_said(word.as_str()),
+        Column::Closing => closing_said(word.as_str()),
+        Column::Ruling => ruling_said(word.as_str()),
+        Column::Counted => counted_said(word.as_str()),
         _ => section_said(word.as_str()),
     };
     owned(alloc, said)
@@ -232,7 +254,11 @@ fn may_be_empty(column: Column) -> bool
 {
     matches!(
         column,
-        Column::TimeOrNone | Column::SecondOrNone | Column::ServiceOrNone | Column::SetTime
+        Column::TimeOrNone
+            | Column::SecondOrNone
+            | Column::ServiceOrNone
+            | Column::ResumeDay
+            | Column::JudgeOrNone
     )
 }
 
@@ -252,7 +278,9 @@ fn filled_said(
         Column::Deadline => deadline_said(alloc, text),
         Column::Motion => motion_said(alloc, text),
         Column::Case => case_said(alloc, text),
-        Column::Date | Column::SecondOrNone | Column::Notice => day_said(alloc, order, text),
+        Column::Date | Column::SecondOrNone | Column::Notice | Column::Dated => {
+            day_said(alloc, order, text)
+        }
         Column::Time | Column::Start | Column::TimeOrNone | Column::From => {
             minute_said(alloc, text)
         }
@@ -264,15 +292,21 @@ fn filled_said(
         | Column::Cause
         | Column::Neglect
         | Column::Holidays
-        | Column::Act => word_said(alloc, column, text),
+        | Column::Act
+        | Column::Why
+        | Column::Closing
+        | Column::Ruling
+        | Column::Counted => word_said(alloc, column, text),
         Column::Grant => grant_said(alloc, order, text),
         Column::Need => need_said(alloc, text),
-        Column::Judge => name_said(alloc, court, Named::Judges, text),
+        Column::Judge | Column::JudgeOrNone => name_said(alloc, court, Named::Judges, text),
         Column::Judges => panel_said(alloc, court, text),
         Column::Room => name_said(alloc, court, Named::Rooms, text),
         Column::Slots => slots_said(alloc, text),
-        // An order sets a day as a whole.
-        Column::SetTime => Ok(Said::Unknown),
+        // A deadline that is resumed has its days as before.
+        Column::ResumeDay => Ok(Said::Unknown),
+        Column::Number => number_said(alloc, text),
+        Column::Title | Column::Label => text_said(alloc, text),
     }
 }
 

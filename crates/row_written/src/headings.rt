@@ -3,7 +3,7 @@
 ghost use Rattle.std.specs.Prelude.{◌≡◌, ◌++◌, ◌∷◌, [], IfOk, OnOk, map, option_map, string_bytes};
 ghost use Rattle.csv.specs.Records.{fields_of};
 ghost use Rattle.row_written.specs.Fault.{fault_in};
-ghost use Rattle.row_written.specs.Headings.{has_name, heading_fault, heading_faults, heading_flaw, heading_of, heading_said, index_of, names_columns, word_at};
+ghost use Rattle.row_written.specs.Headings.{has_name, heading_fault, heading_faults, heading_flaw, heading_of, heading_said, index_of, later_heading, names_columns, word_at};
 
 use crate::fault::{Fault, Flaw, fault_at};
 use csv::StringRecord;
@@ -68,11 +68,29 @@ pub fn heading_said(word: &str) -> Option<&'static str>
         "list" | "holidays" => Some("list"),
         "from" => Some("from"),
         "to" => Some("to"),
+        _ => later_heading(word),
+    }
+}
+
+// The same, of the headings after "to".
+#[tactic(auto, unfolding(crate::specs::Headings::later_heading))]
+fn later_heading(word: &str) -> Option<&'static str>
+    ensures { option_map (λ name. name.now) result ≡ later_heading word.now }
+{
+    match word {
         "judge" | "judges" => Some("judge"),
+        "referred" | "referredto" | "magistrate" | "magistratejudge" => Some("referred"),
         "room" | "courtroom" => Some("room"),
         "slots" => Some("slots"),
         "notice" | "noticeserved" => Some("notice"),
         "act" => Some("act"),
+        "dated" | "orderdated" | "orderdate" | "dateoforder" => Some("dated"),
+        "why" | "reason" => Some("why"),
+        "ruling" => Some("ruling"),
+        "title" | "caption" => Some("title"),
+        "of" => Some("of"),
+        "number" => Some("number"),
+        "label" => Some("label"),
         "note" | "notes" | "remarks" | "comment" | "comments" => Some("note"),
         _ => None,
     }

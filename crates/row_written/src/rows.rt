@@ -23,14 +23,25 @@ use crate::known::names_known;
 use court_clock::Day;
 use court_days::Court;
 use csv::StringRecord;
-use docket_rows::{Command, Query};
+use docket_rows::{Closing, Command, Counted, Ending, Fact, Query, Ruling};
 use row_fields::{DateOrder, Said, cut_line, folded, separator_of, typed};
 use row_forms::{Column, Line, Row, RowCause, Work, column_at, columns_of, name_of, read_line};
 use rule_periods::{Grant, Request};
 use std::alloc::{AllocError, Global};
 
 // The types inside a row, which the checker finds only where they have names.
-type RowTypes = Option<(Row, Work, Command, Query, Option<Day>, Grant, Request)>;
+type RowTypes = Option<
+    (
+        Row,
+        Work,
+        Command,
+        Query,
+        Option<Day>,
+        Grant,
+        Request,
+        (Fact, Ending, Closing, Ruling, Option<u8>, Counted),
+    ),
+>;
 
 /// What a line is read as.
 #[derive(Drop)]

@@ -14,7 +14,7 @@ use Rattle.rule6.specs.declared.timeliness.Shown.{Shown}
 use Rattle.rule6.specs.declared.timeliness.Shown.TheVariants.{Last, Until, Beyond}
 use Rattle.rule6.specs.Access.{extended_end, meets_last_hour, meets_within}
 use Rattle.rule6.specs.Hours.{continued, end_of_hours_from, hours_from, same_time_on}
-use Rattle.rule6.specs.Timeliness.{is_in_time, is_within_the_day}
+use Rattle.rule6.specs.Timeliness.{is_by, is_in_time, is_within_the_day}
 
 -- functions that agree at each value give the same
 pub and_then_alike : {A B : Type 0} → (f g : A → Option B) (o : Option A) → ((x : A) → f x ≡ g x) → option_and_then f o ≡ option_and_then g o
@@ -55,7 +55,7 @@ module _ (a b : ClockView) (same : IsSameCourtClock a b) where
 
   within_the_day_alike : (act : Act) (means : Means) (minute : ℕ) → is_within_the_day a act means minute ≡ is_within_the_day b act means minute
   within_the_day_alike act.Service means minute = refl
-  within_the_day_alike act.Filing means.Electronic minute = refl
+  within_the_day_alike act.Filing means.Electronic minute = ap (λ end. is_by end minute) same.efiling_until
   within_the_day_alike act.Filing means.Paper minute = rw same.closes refl
 
   pub in_time_alike : (shown : Shown) (filing : Filing) → is_in_time a shown filing ≡ is_in_time b shown filing

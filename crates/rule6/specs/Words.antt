@@ -6,5 +6,5 @@ unfoldable pub use Rattle.rule6.specs.Hours.{end_of_hours_from}
 pub use Rattle.rule6.specs.Access.{is_inside, meets_last_hour, IsMetAt, LastHourIsBySeconds}
 unfoldable pub use Rattle.rule6.specs.Access.{extended_day, meets_within, extended_end}
 pub use Rattle.rule6.specs.Service.{electronic_service_amended, adds_three_days}
-pub use Rattle.rule6.specs.Timeliness.{is_within_the_day}
+pub use Rattle.rule6.specs.Timeliness.{day_end, is_by, is_within_the_day}
 unfoldable pub use Rattle.rule6.specs.Timeliness.{is_in_time}

@@ -13,4 +13,4 @@ pub use days::last_day;
 pub use hours::end_of_hours;
 pub use laws::{end_of_hours_is_counted, last_day_is_counted, last_hour_is_by_seconds};
 pub use service::{ServiceKind, adds_three};
-pub use timeliness::{Act, Filing, Means, Shown, is_timely};
+pub use timeliness::{Act, Filing, Means, Shown, day_end, is_timely};

@@ -1,7 +1,7 @@
 //! Whether an act was done in time.
 
-ghost use Rattle.std.specs.Prelude.{◌≡◌, ◌<◌};
-ghost use Rattle.rule6.specs.Timeliness.{is_within_the_day, is_in_time};
+ghost use Rattle.std.specs.Prelude.{◌≡◌, ◌<◌, IfSome};
+ghost use Rattle.rule6.specs.Timeliness.{day_end, is_by, is_within_the_day, is_in_time};
 
 use court_clock::{Clock, Day, Instant};
 
@@ -51,7 +51,7 @@ pub enum Shown {
 }
 
 /// Whether the act was done in time (Fed. R. Civ. P. 6(a)(4)): on an earlier day than the last, or on the last
-/// day until midnight, or, for a paper filing, until the closing minute, which is in time. For a period in hours
+/// day by the minute at which it ends, or at any minute where it ends at midnight. For a period in hours
 /// the act counts at the first second of its minute, and is in time at or before the end, by either means. Nothing
 /// is in time for `Beyond`.
 #[tactic(auto, unfolding(crate::specs::Timeliness::is_in_time))]
@@ -76,11 +76,31 @@ pub fn is_timely(clock: &Clock, shown: &Shown, filing: Filing) -> bool
 fn is_within_the_day(clock: &Clock, act: Act, filing: Filing) -> bool
     ensures { result ≡ is_within_the_day clock.now act filing.means filing.minute }
 {
+    is_by(day_end(clock, act, filing.means), filing.minute)
+}
+
+/// Whether a minute of a day is in time where the day ends at this one, or at midnight if there is none.
+fn is_by(end: Option<u16>, minute: u16) -> bool
+    ensures { result ≡ is_by end minute }
+{
+    match end {
+        Some(end) => minute <= end,
+        None => true,
+    }
+}
+
+/// The minute at which the last day ends for an act that is done by these means, counted from midnight; it is in time. For
+/// electronic filing it is the one that a local rule sets, and for other filing the one at which the clerk's office is
+/// scheduled to close (Fed. R. Civ. P. 6(a)(4)). None where the day ends at midnight.
+pub fn day_end(clock: &Clock, act: Act, means: Means) -> Option<u16>
+    ensures value { result ≡ day_end clock.now act means }
+    ensures within_the_day { IfSome result (λ minute. minute < 1440) }
+{
     match act {
-        Act::Service => true,
-        Act::Filing => match filing.means {
-            Means::Electronic => true,
-            Means::Paper => filing.minute <= clock.closes(),
+        Act::Service => None,
+        Act::Filing => match means {
+            Means::Electronic => clock.efiling_until(),
+            Means::Paper => Some(clock.closes()),
         },
     }
 }

@@ -1,5 +1,5 @@
 -- By two values that stand for one clock a deadline ends at the same time, and its time may be extended alike.
-use Rattle.std.proofs.Common.{◌≡◌, ◌∙◌, ◌*◌, ◌&&◌, ℕ, Bool, List, [], ◌∷◌, Option, None, cond, fold, option_map, refl, ap}
+use Rattle.std.proofs.Common.{◌≡◌, ◌∙◌, ◌*◌, ◌&&◌, ℕ, Bool, List, [], ◌∷◌, Option, Some, None, cond, fold, option_map, refl, ap}
 use Rattle.court_clock.specs.declared.direction.Direction.{Direction}
 use Rattle.court_clock.specs.declared.direction.Direction.TheVariants.{After}
 use Rattle.court_clock.specs.Words.{ClockView, IsSameCourtClock, instant_of}
@@ -15,7 +15,7 @@ use Rattle.rule_periods.specs.declared.grant.Grant.{Grant}
 use Rattle.rule_periods.specs.declared.grant.Grant.TheVariants as grant
 use Rattle.rule_periods.specs.declared.grant.Request.{Request}
 use Rattle.rule_periods.specs.declared.period.Length.{Length}
-use Rattle.rule_periods.specs.declared.period.Length.TheVariants.{Days, Hours, ToDay}
+use Rattle.rule_periods.specs.declared.period.Length.TheVariants.{Days, Hours, ToDay, ToTime}
 use Rattle.rule_periods.specs.declared.period.Period.{Period}
 use Rattle.rule_periods.specs.declared.period.Period.TheVariants as period
 use Rattle.rule_periods.specs.Base.{base_of_period, end_of_length, kind_adds}
@@ -23,7 +23,7 @@ use Rattle.rule_periods.specs.Deadline.{DeadlineRowView, with_grant}
 use Rattle.rule_periods.specs.Due.{act_due}
 use Rattle.rule_periods.specs.Event.{EventView}
 use Rattle.rule_periods.specs.Extended.{by_hours, extended_of, granted, granted_if_it_fits}
-use Rattle.rule_periods.specs.Extension.{extension_refusal, is_asked_in_time}
+use Rattle.rule_periods.specs.Extension.{extension_refusal, is_asked_in_time, request_refusal, reset_refusal}
 use Rattle.rule_periods.specs.Grant.{grant_fits}
 use Rattle.rule_periods.specs.Period.{direction_of, is_in_hours}
 use Rattle.rule_periods.specs.Showing.{access_direction, accessed, certain_by, is_moved_by_access, shown_after, shown_end, shown_of}
@@ -36,6 +36,7 @@ module _ (a b : ClockView) (same : IsSameCourtClock a b) where
   length_alike c event (Hours h) direction added =
       rw (instant_alike a.zone b.zone same.zone event.day (60 * event.minute), end_of_hours_alike a b same c (instant_of b.zone event.day (60 * event.minute)) h direction) refl
   length_alike c event ToDay direction added = refl
+  length_alike c event ToTime direction added = ap (λ t. Some (AtInstant t)) (instant_alike a.zone b.zone same.zone event.day (60 * event.minute))
 
   pub base_alike : (c : DaysView) (row : DeadlineRowView) (p : Period) → base_of_period c a row p ≡ base_of_period c b row p
   unfolding base_of_period
@@ -52,6 +53,8 @@ module _ (a b : ClockView) (same : IsSameCourtClock a b) where
   granted_alike c end (grant.ByDays n) = refl
   granted_alike c end (grant.ByHours h) = and_then_alike (by_hours c a h) (by_hours c b h) end (by_hours_alike c h)
   granted_alike c end (grant.Until d) = refl
+  granted_alike c end (grant.Reset d) = refl
+  granted_alike c end (grant.ResetAt at) = ap (λ t. Some (AtInstant t)) (instant_alike a.zone b.zone same.zone at.day (60 * at.minute))
 
   all_granted_alike : (c : DaysView) (hours : Bool) (end : Option Expiry) (grants : List Grant) → fold (granted_if_it_fits c a hours) end grants ≡ fold (granted_if_it_fits c b hours) end grants
   all_granted_alike c hours end [] = refl
@@ -87,7 +90,15 @@ module _ (a b : ClockView) (same : IsSameCourtClock a b) where
   pub asked_alike : (now : Shown) (asked : EventView) → is_asked_in_time a now asked ≡ is_asked_in_time b now asked
   asked_alike now asked = in_time_alike a b same now (record { day = asked.day; minute = asked.minute; means = Electronic })
 
+  request_alike : (c : DaysView) (row : DeadlineRowView) (request : Request) → request_refusal c a row request ≡ request_refusal c b row request
+  unfolding request_refusal
+  request_alike c row request =
+      rw (shown_alike c row, shown_alike c (with_grant row request.grant), asked_alike (shown_of c b row) request.asked) refl
+
+  reset_alike : (c : DaysView) (row : DeadlineRowView) (request : Request) → reset_refusal c a row request ≡ reset_refusal c b row request
+  unfolding reset_refusal
+  reset_alike c row request = rw (shown_alike c row, shown_alike c (with_grant row request.grant)) refl
+
   pub extension_alike : (c : DaysView) (row : DeadlineRowView) (request : Request) → extension_refusal c a row request ≡ extension_refusal c b row request
   unfolding extension_refusal
-  extension_alike c row request =
-      rw (shown_alike c row, shown_alike c (with_grant row request.grant), asked_alike (shown_of c b row) request.asked) refl
+  extension_alike c row request = rw (reset_alike c row request, request_alike c row request) refl

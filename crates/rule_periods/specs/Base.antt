@@ -9,7 +9,7 @@ use Rattle.rule6.specs.Words.{last_day_of, end_of_hours_from, adds_three_days}
 use Rattle.rule_periods.specs.declared.expiry.Expiry.{Expiry}
 use Rattle.rule_periods.specs.declared.expiry.Expiry.TheVariants.{OnDay, AtInstant}
 use Rattle.rule_periods.specs.declared.period.Length.{Length}
-use Rattle.rule_periods.specs.declared.period.Length.TheVariants.{Days, Hours, ToDay}
+use Rattle.rule_periods.specs.declared.period.Length.TheVariants.{Days, Hours, ToDay, ToTime}
 use Rattle.rule_periods.specs.declared.period.Period.{Period}
 use Rattle.rule_periods.specs.declared.period.Period.TheVariants as period
 use Rattle.rule_periods.specs.declared.rule.RulePeriod.{RulePeriod}
@@ -47,8 +47,10 @@ unfoldable pub end_of_length : DaysView → ClockView → EventView → Length �
 end_of_length c clock event (Days n) direction added = option_map OnDay (last_day_of c event.day n direction added)
 end_of_length c clock event (Hours h) direction added =
     option_map AtInstant (end_of_hours_from c clock (instant_of clock.zone event.day (60 * event.minute)) h direction)
--- an order sets the end on the day of the event: nothing is counted, and it isn't rolled (2009 Note to Fed. R. Civ. P. 6(a))
+-- an order sets the end on the day of the event, or at its minute by the court's clock: nothing is counted, and it isn't rolled
+-- (2009 Note to Fed. R. Civ. P. 6(a))
 end_of_length c clock event ToDay direction added = Some (OnDay event.day)
+end_of_length c clock event ToTime direction added = Some (AtInstant (instant_of clock.zone event.day (60 * event.minute)))
 
 -- when the time ends before any extension
 unfoldable pub base_of_period : DaysView → ClockView → DeadlineRowView → Period → Option Expiry

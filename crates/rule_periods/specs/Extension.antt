@@ -1,5 +1,5 @@
--- Whether the time may be extended (Fed. R. Civ. P. 6(b)).
-use Rattle.std.specs.Prelude.{Bool, true, false, ◌&&◌, not, int_lt, List, [], ◌∷◌, Option}
+-- Whether the time may be extended (Fed. R. Civ. P. 6(b)), and whether an order may set another end.
+use Rattle.std.specs.Prelude.{Bool, true, false, ◌&&◌, not, int_le, int_lt, List, [], ◌∷◌, Option, if◌then◌else◌}
 use Rattle.court_clock.specs.Words.{ClockView}
 use Rattle.court_days.specs.Words.{DaysView, is_covered}
 use Rattle.rule6.specs.declared.timeliness.Means.TheVariants.{Electronic}
@@ -7,7 +7,7 @@ use Rattle.rule6.specs.declared.timeliness.Shown.{Shown}
 use Rattle.rule6.specs.Words.{is_in_time}
 use Rattle.rule6.specs.declared.timeliness.Shown.TheVariants as shown
 use Rattle.rule_periods.specs.declared.grant.Grant.{Grant}
-use Rattle.rule_periods.specs.declared.grant.Grant.TheVariants.{ByDays, ByHours, Until}
+use Rattle.rule_periods.specs.declared.grant.Grant.TheVariants.{ByDays, ByHours, Until, Reset, ResetAt}
 use Rattle.rule_periods.specs.declared.grant.Request.{Request}
 use Rattle.rule_periods.specs.declared.refusal.PeriodRefusal.{PeriodRefusal}
 use Rattle.rule_periods.specs.declared.refusal.PeriodRefusal.TheVariants.{BadDay, BadLength, Beyond, NotExtendable, NoGoodCause, LateWithoutMotion, LateWithoutNeglect, NotLonger, WrongGrant}
@@ -17,15 +17,17 @@ use Rattle.rule_periods.specs.Deadline.{DeadlineRowView, with_grant}
 use Rattle.rule_periods.specs.Due.{extension_due}
 use Rattle.rule_periods.specs.Event.{EventView}
 use Rattle.rule_periods.specs.FirstRefusal.{when, first_of}
-use Rattle.rule_periods.specs.Grant.{grant_fits, is_grant_length}
+use Rattle.rule_periods.specs.Grant.{grant_fits, is_grant_length, is_order}
 use Rattle.rule_periods.specs.Period.{is_in_hours}
 use Rattle.rule_periods.specs.Showing.{shown_of}
 
--- the day until which an extension runs is covered
+-- the day until which an extension runs, or to which an order sets the end, is covered
 abbrev pub is_covered_grant : DaysView → Grant → Bool
 is_covered_grant c (ByDays n) = true
 is_covered_grant c (ByHours h) = true
 is_covered_grant c (Until d) = is_covered c d
+is_covered_grant c (Reset d) = is_covered c d
+is_covered_grant c (ResetAt at) = is_covered c at.day
 
 -- no covered day qualifies
 abbrev pub is_beyond : Shown → Bool
@@ -55,6 +57,12 @@ is_later (shown.Last d act) (shown.Last e act') = int_lt d e
 is_later (shown.Until t) (shown.Until u) = int_lt t u
 is_later _ _ = false
 
+-- the second end is no later than the first
+abbrev pub is_no_later : Shown → Shown → Bool
+is_no_later (shown.Last d act) (shown.Last e act') = int_le e d
+is_no_later (shown.Until t) (shown.Until u) = int_le u t
+is_no_later _ _ = false
+
 -- In this order: the day asked or that of a date certain isn't covered; the deadline is beyond; its time must not be
 -- extended; the extension is of another kind than the period; its length is out of range; there is no good cause
 -- (6(b)(1)); asked late, there is no motion, and no excusable neglect (6(b)(1)(B)); the extended deadline would be
@@ -62,7 +70,7 @@ is_later _ _ = false
 abbrev pub extension_checks : DaysView → ClockView → DeadlineRowView → Request → List (Option PeriodRefusal)
 extension_checks c clock row request =
     let now = shown_of c clock row in
-    let then = shown_of c clock (with_grant row request.grant) in
+    let anew = shown_of c clock (with_grant row request.grant) in
     let rule = extension_due row in
     let late = not (is_asked_in_time clock now request.asked) in
     (when (not (is_covered c request.asked.day && is_covered_grant c request.grant)) BadDay
@@ -73,10 +81,30 @@ extension_checks c clock row request =
     ∷ when (asks_findings rule && not request.cause) NoGoodCause
     ∷ when (asks_findings rule && late && not request.motion) LateWithoutMotion
     ∷ when (asks_findings rule && late && not request.neglect) LateWithoutNeglect
-    ∷ when (is_beyond then) Beyond
-    ∷ when (not (is_later now then)) NotLonger
+    ∷ when (is_beyond anew) Beyond
+    ∷ when (not (is_later now anew)) NotLonger
     ∷ [])
 
--- the first refusal of an extension, or none
+-- An order needs no findings, and the end may be sooner. In this order: the day of the order or that of the end isn't covered; the
+-- time must not be extended (6(b)(2)) and the end would be later, or can't be told to be no later; the end is of another kind than
+-- the period.
+abbrev pub reset_checks : DaysView → ClockView → DeadlineRowView → Request → List (Option PeriodRefusal)
+reset_checks c clock row request =
+    let now = shown_of c clock row in
+    let anew = shown_of c clock (with_grant row request.grant) in
+    (when (not (is_covered c request.asked.day && is_covered_grant c request.grant)) BadDay
+    ∷ when (is_never (extension_due row) && not (is_no_later now anew)) NotExtendable
+    ∷ when (not (grant_fits (is_in_hours row.period) request.grant)) WrongGrant
+    ∷ [])
+
+-- the first refusal of what was asked for, and of what an order sets, or none
+unfoldable pub request_refusal : DaysView → ClockView → DeadlineRowView → Request → Option PeriodRefusal
+request_refusal c clock row request = first_of (extension_checks c clock row request)
+
+unfoldable pub reset_refusal : DaysView → ClockView → DeadlineRowView → Request → Option PeriodRefusal
+reset_refusal c clock row request = first_of (reset_checks c clock row request)
+
+-- the first refusal of either, or none
 unfoldable pub extension_refusal : DaysView → ClockView → DeadlineRowView → Request → Option PeriodRefusal
-extension_refusal c clock row request = first_of (extension_checks c clock row request)
+extension_refusal c clock row request =
+    if is_order request.grant then reset_refusal c clock row request else request_refusal c clock row request

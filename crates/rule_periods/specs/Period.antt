@@ -6,7 +6,7 @@ use Rattle.rule6.specs.declared.timeliness.Act.{Act}
 use Rattle.rule6.specs.declared.service.ServiceKind.{ServiceKind}
 use Rattle.rule_periods.specs.declared.period.Entered.{Entered}
 use Rattle.rule_periods.specs.declared.period.Length.{Length}
-use Rattle.rule_periods.specs.declared.period.Length.TheVariants.{Days, Hours, ToDay}
+use Rattle.rule_periods.specs.declared.period.Length.TheVariants.{Days, Hours, ToDay, ToTime}
 use Rattle.rule_periods.specs.declared.mark.Mark.{Mark}
 use Rattle.rule_periods.specs.declared.mark.Mark.TheVariants as mark
 use Rattle.rule_periods.specs.declared.period.Period.{Period}
@@ -43,25 +43,28 @@ abbrev pub extension_of : Period → ℤ → ExtensionRule
 extension_of (period.Rule rule) day = (terms_of rule day).extension
 extension_of (period.Entered entered) day = extension_of_mark entered.mark
 
--- a length in hours
+-- a length that ends at an instant: one in hours, or up to a time of day that an order sets
 abbrev pub is_hour_length : Length → Bool
 is_hour_length (Days n) = false
 is_hour_length (Hours h) = true
 is_hour_length ToDay = false
+is_hour_length ToTime = true
 
 -- a length in days, which are counted
 abbrev pub is_day_length : Length → Bool
 is_day_length (Days n) = true
 is_day_length (Hours h) = false
 is_day_length ToDay = false
+is_day_length ToTime = false
 
 -- an order sets the end: a date certain, up to which nothing is counted
 abbrev pub is_set_length : Length → Bool
 is_set_length (Days n) = false
 is_set_length (Hours h) = false
 is_set_length ToDay = true
+is_set_length ToTime = true
 
--- a period counted in hours
+-- a period that ends at an instant
 abbrev pub is_in_hours : Period → Bool
 is_in_hours (period.Rule rule) = false
 is_in_hours (period.Entered entered) = is_hour_length entered.length
@@ -82,6 +85,7 @@ abbrev pub is_length : Length → Bool
 is_length (Days n) = is_days n
 is_length (Hours h) = is_hour_count h
 is_length ToDay = true
+is_length ToTime = true
 
 abbrev pub has_length : Period → Bool
 has_length (period.Rule rule) = true

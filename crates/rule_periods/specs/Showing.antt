@@ -1,9 +1,9 @@
 -- What is shown of a deadline.
-use Rattle.std.specs.Prelude.{◌≡◌, ◌-◌, length, slice_get, Bool, true, false, not, List, [], ◌∷◌, option_map, Option, Some, None, if◌then◌else◌}
+use Rattle.std.specs.Prelude.{◌≡◌, ℤ, ◌-◌, ◌*◌, length, slice_get, Bool, true, false, not, List, [], ◌∷◌, option_map, Option, Some, None, if◌then◌else◌}
 use Rattle.std.specs.Option.{option_and_then, option_map_or}
 use Rattle.court_clock.specs.declared.direction.Direction.{Direction}
 use Rattle.court_clock.specs.declared.direction.Direction.TheVariants.{After}
-use Rattle.court_clock.specs.Words.{ClockView}
+use Rattle.court_clock.specs.Words.{ClockView, instant_of}
 use Rattle.court_days.specs.Words.{DaysView}
 use Rattle.rule6.specs.declared.timeliness.Act.{Act}
 use Rattle.rule6.specs.declared.timeliness.Act.TheVariants.{Filing as ByFiling, Service as ByService}
@@ -13,12 +13,14 @@ use Rattle.rule6.specs.Words.{extended_day, extended_end}
 use Rattle.rule_periods.specs.declared.expiry.Expiry.{Expiry}
 use Rattle.rule_periods.specs.declared.expiry.Expiry.TheVariants.{OnDay, AtInstant}
 use Rattle.rule_periods.specs.declared.grant.Grant.{Grant}
+use Rattle.rule_periods.specs.declared.grant.Grant.TheVariants.{Reset, ResetAt}
 use Rattle.rule_periods.specs.declared.period.Period.{Period}
-use Rattle.rule_periods.specs.Deadline.{DeadlineRowView}
+use Rattle.rule_periods.specs.Deadline.{DeadlineRowView, with_grant}
 use Rattle.rule_periods.specs.Due.{act_due}
+use Rattle.rule_periods.specs.Event.{EventView}
 use Rattle.rule_periods.specs.Extended.{extended_of}
 use Rattle.rule_periods.specs.Grant.{is_certain}
-use Rattle.rule_periods.specs.Period.{direction_of, is_set}
+use Rattle.rule_periods.specs.Period.{direction_of, is_in_hours, is_set}
 
 -- the end is a date certain: the last extension is to one, or there is none and an order set the end
 abbrev pub certain_by : Period → List Grant → Bool
@@ -57,7 +59,18 @@ unfoldable pub shown_of : DaysView → ClockView → DeadlineRowView → Shown
 shown_of c clock row =
     shown_after c clock (act_due row) (certain_by row.period row.grants) (access_direction (direction_of row.period) row.grants) (extended_of c clock row)
 
--- A deadline that an order set, and that wasn't extended, ends on the day that was set: whatever days are open, and whenever the
+-- the end that an order set: a day, or that minute of it by the court's clock
+abbrev pub end_as_set : ClockView → DeadlineRowView → Shown
+end_as_set clock row =
+    if is_in_hours row.period then shown.Until (instant_of clock.zone row.event.day (60 * row.event.minute)) else shown.Last row.event.day (act_due row)
+
+-- A deadline that an order set, and that wasn't extended, ends where the order set it: whatever days are open, and whenever the
 -- clerk's office was inaccessible.
-abbrev pub SetDaysStay : Type 0
-SetDaysStay = (c : DaysView) (clock : ClockView) (row : DeadlineRowView) → is_set row.period ≡ true → row.grants ≡ [] → shown_of c clock row ≡ shown.Last row.event.day (act_due row)
+abbrev pub SetEndsStay : Type 0
+SetEndsStay = (c : DaysView) (clock : ClockView) (row : DeadlineRowView) → is_set row.period ≡ true → row.grants ≡ [] → shown_of c clock row ≡ end_as_set clock row
+
+-- So does the end that an order sets in place of another: a day where the period ends with a day, and a minute of one where it ends
+-- at an instant.
+pub record ResetEndsStay : Type 0 where
+  pub on_day : (c : DaysView) (clock : ClockView) (row : DeadlineRowView) (day : ℤ) → is_in_hours row.period ≡ false → shown_of c clock (with_grant row (Reset day)) ≡ shown.Last day (act_due row)
+  pub at_time : (c : DaysView) (clock : ClockView) (row : DeadlineRowView) (at : EventView) → is_in_hours row.period ≡ true → shown_of c clock (with_grant row (ResetAt at)) ≡ shown.Until (instant_of clock.zone at.day (60 * at.minute))

@@ -72,6 +72,10 @@ fn end_of_length(
         }
         // A date certain, which an order sets, isn't rolled.
         Length::ToDay => Some(Expiry::OnDay(event.day())),
+        Length::ToTime => {
+            let end = clock.instant_of(event.day(), 60 * u32::from(event.minute()));
+            Some(Expiry::AtInstant(end))
+        }
     }
 }
 

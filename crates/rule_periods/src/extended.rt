@@ -46,6 +46,11 @@ pub(crate) fn granted(
         Grant::ByDays(n) => by_days(days, end?, n),
         Grant::ByHours(h) => by_hours(days, clock, end?, h),
         Grant::Until(day) => Some(Expiry::OnDay(day)),
+        Grant::Reset(day) => Some(Expiry::OnDay(day)),
+        Grant::ResetAt(at) => {
+            let end = clock.instant_of(at.day(), 60 * u32::from(at.minute()));
+            Some(Expiry::AtInstant(end))
+        }
     }
 }
 

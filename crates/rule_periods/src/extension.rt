@@ -1,9 +1,9 @@
-//! Whether the time may be extended (Fed. R. Civ. P. 6(b)).
+//! Whether the time may be extended (Fed. R. Civ. P. 6(b)), and whether an order may set another end.
 
 ghost use Rattle.std.specs.Prelude.{◌≡◌, true, OnOk};
 ghost use Rattle.std.specs.Result.{result_err};
 ghost use Rattle.rule_periods.specs.Deadline.{with_grant};
-ghost use Rattle.rule_periods.specs.Extension.{extension_refusal, is_covered_grant, is_beyond, is_never, asks_findings, is_asked_in_time, is_later};
+ghost use Rattle.rule_periods.specs.Extension.{extension_refusal, request_refusal, reset_refusal, is_covered_grant, is_beyond, is_never, asks_findings, is_asked_in_time, is_later, is_no_later};
 ghost use Rattle.rule_periods.specs.Grant.{grant_fits, is_grant_length};
 ghost use Rattle.rule_periods.specs.Period.{is_in_hours};
 ghost use Rattle.rule_periods.specs.Showing.{shown_of};
@@ -20,12 +20,7 @@ use court_clock::{Clock, Day, Direction, Instant};
 use court_days::Days;
 use rule6::{Act, Filing, Means, Shown, is_timely};
 
-/// Whether the request may be granted (Fed. R. Civ. P. 6(b); 4(m) for a period of that Rule). The first refusal that
-/// applies: `BadDay` where the day asked, or that of a date certain, isn't covered; `Beyond` where the deadline is;
-/// `NotExtendable`; `WrongGrant`; `BadLength`; then, unless the period is one of Rule 4(m), `NoGoodCause`, and, where
-/// the request came after the time had expired, `LateWithoutMotion` and `LateWithoutNeglect`; `Beyond` where the
-/// extended deadline would be; `NotLonger` where it wouldn't be later. A request is in time where an electronic filing
-/// at its moment would be timely.
+/// Whether the request may be granted, or an order's end set, by the first refusal that applies to it.
 #[tactic(auto, unfolding(crate::specs::Extension::extension_refusal))]
 pub fn may_extend(
     days: &Days,
@@ -35,6 +30,58 @@ pub fn may_extend(
 ) -> Result<(), PeriodRefusal>
     ensures refusal { result_err result ≡ extension_refusal days.now clock.now row.now request.now }
     // A deadline with the extension requires these.
+    ensures length { OnOk result (is_grant_length request.now.grant ≡ true) }
+    ensures fits { OnOk result (grant_fits (is_in_hours row.now.period) request.now.grant ≡ true) }
+{
+    if request.grant.is_order() {
+        check_order(days, clock, row, request)
+    } else {
+        check_request(days, clock, row, request)
+    }
+}
+
+/// Whether an order may set the end (2009 Note to Fed. R. Civ. P. 6(a)). The first refusal that applies: `BadDay` where the day of
+/// the order or that of the end isn't covered; `NotExtendable` where the time must not be extended, and the end would be later or
+/// can't be compared; `WrongGrant`.
+#[tactic(auto, unfolding(crate::specs::Extension::reset_refusal))]
+fn check_order(
+    days: &Days,
+    clock: &Clock,
+    row: &DeadlineRow,
+    request: &Request,
+) -> Result<(), PeriodRefusal>
+    requires { is_grant_length request.now.grant ≡ true }
+    ensures refusal { result_err result ≡ reset_refusal days.now clock.now row.now request.now }
+    ensures fits { OnOk result (grant_fits (is_in_hours row.now.period) request.now.grant ≡ true) }
+{
+    let now = shown(days, clock, row);
+    let then = shown_with(days, clock, row, request.grant);
+    if !(days.covered(request.asked.day()) && is_covered_grant(days, request.grant)) {
+        return Err(PeriodRefusal::BadDay);
+    }
+    if is_never(extension_due(row)) && !is_no_later(&now, &then) {
+        return Err(PeriodRefusal::NotExtendable);
+    }
+    if !grant_fits(row.period().is_in_hours(), request.grant) {
+        return Err(PeriodRefusal::WrongGrant);
+    }
+    Ok(())
+}
+
+/// Whether the request may be granted (Fed. R. Civ. P. 6(b); 4(m) for a period of that Rule). The first refusal that
+/// applies: `BadDay` where the day asked, or that of a date certain, isn't covered; `Beyond` where the deadline is;
+/// `NotExtendable`; `WrongGrant`; `BadLength`; then, unless the period is one of Rule 4(m), `NoGoodCause`, and, where
+/// the request came after the time had expired, `LateWithoutMotion` and `LateWithoutNeglect`; `Beyond` where the
+/// extended deadline would be; `NotLonger` where it wouldn't be later. A request is in time where an electronic filing
+/// at its moment would be timely.
+#[tactic(auto, unfolding(crate::specs::Extension::request_refusal))]
+fn check_request(
+    days: &Days,
+    clock: &Clock,
+    row: &DeadlineRow,
+    request: &Request,
+) -> Result<(), PeriodRefusal>
+    ensures refusal { result_err result ≡ request_refusal days.now clock.now row.now request.now }
     ensures length { OnOk result (is_grant_length request.now.grant ≡ true) }
     ensures fits { OnOk result (grant_fits (is_in_hours row.now.period) request.now.grant ≡ true) }
 {
@@ -131,6 +178,35 @@ fn is_instant_before(now: Instant, then: &Shown) -> bool
     }
 }
 
+/// Whether the second end is no later than the first.
+fn is_no_later(now: &Shown, then: &Shown) -> bool
+    ensures { result ≡ is_no_later now.now then.now }
+{
+    match *now {
+        Shown::Last { day, act } => is_no_later_day(day, act, then),
+        Shown::Until(instant) => is_no_later_instant(instant, then),
+        Shown::Beyond => false,
+    }
+}
+
+fn is_no_later_day(now: Day, _act: Act, then: &Shown) -> bool
+    ensures { result ≡ is_no_later (Shown.Last now _act) then.now }
+{
+    match *then {
+        Shown::Last { day, .. } => day.number() <= now.number(),
+        _ => false,
+    }
+}
+
+fn is_no_later_instant(now: Instant, then: &Shown) -> bool
+    ensures { result ≡ is_no_later (Shown.Until now) then.now }
+{
+    match *then {
+        Shown::Until(instant) => instant.seconds() <= now.seconds(),
+        _ => false,
+    }
+}
+
 /// Whether an electronic filing at the moment of the request would be timely.
 fn is_asked_in_time(clock: &Clock, now: &Shown, asked: Event) -> bool
     ensures { result ≡ is_asked_in_time clock.now now.now asked }
@@ -149,6 +225,8 @@ fn is_covered_grant(days: &Days, grant: Grant) -> bool
     match grant {
         Grant::ByDays(_) | Grant::ByHours(_) => true,
         Grant::Until(day) => days.covered(day),
+        Grant::Reset(day) => days.covered(day),
+        Grant::ResetAt(at) => days.covered(at.day()),
     }
 }
 

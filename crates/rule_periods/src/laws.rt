@@ -2,7 +2,7 @@
 
 ghost use Rattle.rule_periods.specs.Mark.{CodesNameMarks};
 ghost use Rattle.rule_periods.specs.Rule.{CodesNamePeriods};
-ghost use Rattle.rule_periods.specs.Showing.{SetDaysStay};
+ghost use Rattle.rule_periods.specs.Showing.{ResetEndsStay, SetEndsStay};
 
 /// A text is read as the one period of the Rules that has it for its code, and as none where there is none.
 pub fn codes_name_periods()
@@ -15,8 +15,15 @@ pub fn codes_name_marks()
     ensures { CodesNameMarks }
 {}
 
-/// A deadline that an order set, and that wasn't extended, ends on the day that was set: it isn't rolled, and no outage moves it.
-#[tactic(auto, using(crate::proofs::SetLemmas::set_days_stay_lem))]
-pub fn set_days_stay()
-    ensures { SetDaysStay }
+/// A deadline that an order set, and that wasn't extended, ends on the day or at the minute that was set: it isn't rolled, and no
+/// outage moves it.
+#[tactic(auto, using(crate::proofs::SetLemmas::set_ends_stay_lem))]
+pub fn set_ends_stay()
+    ensures { SetEndsStay }
+{}
+
+/// So does a deadline for which an order set another end, whatever it was before.
+#[tactic(auto, using(crate::proofs::SetLemmas::reset_ends_stay_lem))]
+pub fn reset_ends_stay()
+    ensures { ResetEndsStay }
 {}

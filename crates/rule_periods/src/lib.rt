@@ -27,7 +27,7 @@ pub use event::Event;
 pub use expiry::Expiry;
 pub use extension::{may_extend, shown_with};
 pub use grant::{Grant, Request};
-pub use laws::{codes_name_marks, codes_name_periods, set_days_stay};
+pub use laws::{codes_name_marks, codes_name_periods, reset_ends_stay, set_ends_stay};
 pub use mark::Mark;
 pub use notice::{affidavit_day, notice_day};
 pub use period::{Entered, Length, Period};

@@ -18,6 +18,8 @@ pub enum Length {
     /// None: an order sets the end, a date certain, which is the day of the event. Rule 6(a) doesn't apply to it
     /// (2009 Committee Note).
     ToDay,
+    /// The same, where the order sets a time of day too, which is the minute of the event.
+    ToTime,
 }
 
 impl Length {
@@ -27,7 +29,7 @@ impl Length {
     {
         match self {
             Length::Days(_) | Length::Hours(_) => false,
-            Length::ToDay => true,
+            Length::ToDay | Length::ToTime => true,
         }
     }
 }
@@ -90,7 +92,7 @@ impl Period {
         }
     }
 
-    /// Whether the period is counted in hours.
+    /// Whether the period ends at an instant: it is counted in hours, or an order sets a time of day.
     pub fn is_in_hours(self) -> bool
         ensures { result ≡ is_in_hours self }
     {
@@ -98,7 +100,7 @@ impl Period {
             Period::Rule(_) => false,
             Period::Entered(entered) => match entered.length {
                 Length::Days(_) | Length::ToDay => false,
-                Length::Hours(_) => true,
+                Length::Hours(_) | Length::ToTime => true,
             },
         }
     }

@@ -17,7 +17,7 @@ pub enum PeriodRefusal {
     /// 8: no covered day qualifies.
     #[error("no covered day qualifies")]
     Beyond,
-    /// 10: the time must not be extended (Fed. R. Civ. P. 6(b)(2)).
+    /// 10: the time must not be extended (Fed. R. Civ. P. 6(b)(2)), nor be reset to a later end.
     #[error("the time must not be extended")]
     NotExtendable,
     /// 11: there is no good cause (Fed. R. Civ. P. 6(b)(1)).
@@ -32,7 +32,8 @@ pub enum PeriodRefusal {
     /// 14: the deadline wouldn't be later.
     #[error("the deadline wouldn't be later")]
     NotLonger,
-    /// 28: an extension by days or to a date of a period in hours, or by hours of one in days.
+    /// 28: an extension by days or to a date of a period that ends at an instant, or by hours or to a time of one that ends with
+    /// a day.
     #[error("the extension is of another kind than the period")]
     WrongGrant,
 }

@@ -92,7 +92,7 @@ fn has_length(period: &Period) -> bool
         Period::Entered(entered) => match entered.length {
             Length::Days(n) => 1 <= n && n <= 3_650,
             Length::Hours(h) => 1 <= h && h <= 8_760,
-            Length::ToDay => true,
+            Length::ToDay | Length::ToTime => true,
         },
     }
 }

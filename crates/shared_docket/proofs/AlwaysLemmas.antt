@@ -1,15 +1,13 @@
 -- What holds of a docket that clerks share after each step.
-use Rattle.std.proofs.Common.{◌≡◌, ℕ, true, List, sym, ◌∙◌}
+use Rattle.std.proofs.Common.{ℕ, List, sym, ◌∙◌}
 use Rattle.docket_rows.specs.declared.answer.Answer.{Answer}
 use Rattle.docket_rows.specs.declared.command.Command.{Command}
 use Rattle.docket_rows.specs.declared.query.Query.TheVariants as query
 use Rattle.docket_rows.specs.Words.{CourtSetup, Rows, parts_of}
 use Rattle.docket_laws.specs.Words.{SheetShowsDeadlines}
 use Rattle.docket_laws.proofs.CallerLemmas.{same_view}
-use Rattle.versioned_steps.specs.Words.{is_legal}
 use Rattle.versioned_steps.specs.declared.entry.Entry.{Entry}
 use Rattle.shared_docket.specs.Always.{AlwaysHolds, Holds, HoldsOfLegal, IsOneDocket, ShowDeadlines}
-use Rattle.shared_docket.specs.DocketRules.{docket_rules}
 use Rattle.shared_docket.specs.Sequential.{rows_of}
 use Rattle.shared_docket.proofs.SequentialLemmas.{holds_after, legal_sequential, legal_values}
 

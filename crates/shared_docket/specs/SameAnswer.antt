@@ -1,14 +1,14 @@
 -- When two answers are the same.
-use Rattle.std.specs.Prelude.{◌==◌, Bool, true, false, ◌&&◌}
+use Rattle.std.specs.Prelude.{◌==◌, ℤ, Bool, true, false, ◌&&◌, Option, Some, None}
 use Rattle.std.specs.Ordering.{int_eq}
 use Rattle.rule6.specs.declared.timeliness.Act.{Act}
 use Rattle.rule6.specs.declared.timeliness.Act.TheVariants as act
 use Rattle.rule6.specs.declared.timeliness.Shown.{Shown}
 use Rattle.rule6.specs.declared.timeliness.Shown.TheVariants as shown
 use Rattle.docket_rows.specs.declared.answer.Answer.{Answer}
-use Rattle.docket_rows.specs.declared.answer.Answer.TheVariants.{Opened, Started, Filed, Extended, MotionEntered, Booked, Moved, Cancelled, HolidayEntered, OutageEntered, Refused}
+use Rattle.docket_rows.specs.declared.answer.Answer.TheVariants.{Opened, Started, Filed, Extended, Reset, MotionEntered, Booked, Moved, Cancelled, HolidayEntered, OutageEntered, Ended, Resumed, Closed, Reopened, Ruled, Assigned, Titled, Labelled, Refused}
 use Rattle.docket_rows.specs.declared.refusal.Refusal.{Refusal}
-use Rattle.docket_rows.specs.declared.refusal.Refusal.TheVariants.{NoSuchCase, CaseIsOpen, NoSuchDeadline, NoSuchMotion, BadDay, BadLength, WrongService, Beyond, AlreadyMet, NotExtendable, NoGoodCause, LateWithoutMotion, LateWithoutNeglect, NotLonger, AlreadySet, NotSet, NotACourtDay, OutsideHours, ShortNotice, JudgeBusy, RoomBusy, AlreadyHoliday, HearingThatDay, NoticeLost, Full, NoSuchJudge, NoSuchRoom, WrongGrant, BadPanel}
+use Rattle.docket_rows.specs.declared.refusal.Refusal.TheVariants.{NoSuchCase, CaseIsOpen, NoSuchDeadline, NoSuchMotion, BadDay, BadLength, WrongService, Beyond, AlreadyMet, NotExtendable, NoGoodCause, LateWithoutMotion, LateWithoutNeglect, NotLonger, AlreadySet, NotSet, NotACourtDay, OutsideHours, ShortNotice, JudgeBusy, RoomBusy, AlreadyHoliday, HearingThatDay, NoticeLost, Full, NoSuchJudge, NoSuchRoom, WrongGrant, BadPanel, CaseIsClosed, NotClosed, HearingAhead, AlreadyEnded, NotEnded}
 
 abbrev pub same_act : (x y : Act) → Bool
 same_act act.Filing act.Filing = true
@@ -25,6 +25,11 @@ abbrev pub same_truth : (x y : Bool) → Bool
 same_truth true true = true
 same_truth false false = true
 same_truth _ _ = false
+
+abbrev pub same_day : (x y : Option ℤ) → Bool
+same_day None None = true
+same_day (Some day) (Some other) = int_eq day other
+same_day _ _ = false
 
 abbrev pub same_refusal : (x y : Refusal) → Bool
 same_refusal NoSuchCase NoSuchCase = true
@@ -56,6 +61,11 @@ same_refusal NoSuchJudge NoSuchJudge = true
 same_refusal NoSuchRoom NoSuchRoom = true
 same_refusal WrongGrant WrongGrant = true
 same_refusal BadPanel BadPanel = true
+same_refusal CaseIsClosed CaseIsClosed = true
+same_refusal NotClosed NotClosed = true
+same_refusal (HearingAhead case motion) (HearingAhead other too) = case == other && motion == too
+same_refusal AlreadyEnded AlreadyEnded = true
+same_refusal NotEnded NotEnded = true
 same_refusal _ _ = false
 
 abbrev pub same_answer : (x y : Answer) → Bool
@@ -63,11 +73,20 @@ same_answer Opened Opened = true
 same_answer (Started number ends) (Started other too) = number == other && same_shown ends too
 same_answer (Filed timely) (Filed other) = same_truth timely other
 same_answer (Extended ends) (Extended other) = same_shown ends other
+same_answer (Reset ends) (Reset other) = same_shown ends other
 same_answer (MotionEntered number) (MotionEntered other) = number == other
 same_answer Booked Booked = true
 same_answer Moved Moved = true
 same_answer Cancelled Cancelled = true
 same_answer HolidayEntered HolidayEntered = true
 same_answer OutageEntered OutageEntered = true
+same_answer Ended Ended = true
+same_answer Closed Closed = true
+same_answer Reopened Reopened = true
+same_answer (Ruled day) (Ruled other) = same_day day other
+same_answer Assigned Assigned = true
+same_answer Titled Titled = true
+same_answer Labelled Labelled = true
+same_answer (Resumed ends) (Resumed other) = same_shown ends other
 same_answer (Refused refusal) (Refused other) = same_refusal refusal other
 same_answer _ _ = false

@@ -2,13 +2,23 @@
 use anyhow::{Context, Result, bail};
 use court_clock::Day;
 use court_days::Court;
-use docket_rows::{Command, Query};
+use docket_rows::{Closing, Command, Counted, Ending, Fact, Query, Ruling};
 use row_forms::{Row, RowError, Work, read_rows};
 use rule_periods::{Grant, Request};
 use std::alloc::Global;
 
 // The checker finds these types only where they have names, so a function that takes a row apart names them.
-type RowTypes = Option<(Work, Command, Query, Option<Day>, Grant, Request)>;
+type RowTypes = Option<
+    (
+        Work,
+        Command,
+        Query,
+        Option<Day>,
+        Grant,
+        Request,
+        (Fact, Ending, Closing, Ruling, Option<u8>, Counted),
+    ),
+>;
 
 /// One call. Seats are named by their numbers.
 #[derive(Clone, Copy)]

@@ -7,7 +7,7 @@ use clerk_seats::{Done, Journal};
 use court_clock::Day;
 use court_days::Court;
 use docket_core::Docket;
-use docket_rows::{Answer, Command};
+use docket_rows::{Answer, Closing, Command, Counted, Ending, Fact, Ruling};
 use office_texts::push_number;
 use rule_periods::{Grant, Request};
 use rule6::Shown;
@@ -15,7 +15,16 @@ use std::alloc::{AllocError, Global};
 use versioned_steps::Entry;
 
 // The checker finds these types only where they have names, so a function that gives a docket commands names them.
-type AnswerTypes = Option<(Option<Day>, Grant, Request, Shown)>;
+type AnswerTypes = Option<
+    (
+        Option<Day>,
+        Grant,
+        Request,
+        Shown,
+        Fact,
+        (Ending, Closing, Ruling, Option<u8>, Counted),
+    ),
+>;
 
 /// An entry of a journal.
 type Filed = Entry<Command, Answer>;

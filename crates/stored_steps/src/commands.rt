@@ -6,13 +6,21 @@ ghost use Rattle.stored_steps.specs.Commands.{AreAsked, AreCommands};
 use anyhow::{Result, bail};
 use court_clock::Day;
 use court_days::Court;
-use docket_rows::Command;
+use docket_rows::{Closing, Command, Counted, Ending, Fact, Ruling};
 use row_forms::{Row, RowError, Work, read_rows};
 use rule_periods::{Grant, Request};
 use std::alloc::Global;
 
 // The checker finds these types only where they have names, so a function that puts commands into a list names them.
-type CommandTypes = Option<(Option<Day>, Grant, Request)>;
+type CommandTypes = Option<
+    (
+        Option<Day>,
+        Grant,
+        Request,
+        Fact,
+        (Ending, Closing, Ruling, Option<u8>, Counted),
+    ),
+>;
 
 /// The commands of these rows, in their order. An error says which row can't be read or is no command, or that memory ran
 /// out.

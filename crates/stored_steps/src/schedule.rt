@@ -6,14 +6,22 @@ ghost use Rattle.stored_steps.specs.Inside.Spelling.{IsSpelled};
 
 use anyhow::{Result, bail};
 use court_clock::Day;
-use docket_rows::Command;
+use docket_rows::{Closing, Command, Counted, Ending, Fact, Ruling};
 use itoa::Buffer;
 use rule_periods::{Grant, Request};
 use std::alloc::Global;
 use versioned_steps::Step;
 
 // The checker finds these types only where they have names, so a function that puts steps into a list names them.
-type StepTypes = Option<(Option<Day>, Grant, Request)>;
+type StepTypes = Option<
+    (
+        Option<Day>,
+        Grant,
+        Request,
+        Fact,
+        (Ending, Closing, Ruling, Option<u8>, Counted),
+    ),
+>;
 
 /// How many clerks there are, and their steps in the order in which they are made.
 #[derive(Drop)]

@@ -43,11 +43,13 @@ pub record IsSameClock (a b : TimeZone) : Type 0 where
   pub standard : standard_offset a ≡ standard_offset b
   pub daylight : daylight_offset a ≡ daylight_offset b
 
--- two values of one court's clock: it shows the same, and the clerk's office opens and closes at the same minutes
+-- two values of one court's clock: it shows the same, and the clerk's office opens and closes, and electronic filing ends, at the same
+-- minutes
 pub record IsSameCourtClock (a b : ClockView) : Type 0 where
   pub zone : IsSameClock a.zone b.zone
   pub opens : a.opens ≡ b.opens
   pub closes : a.closes ≡ b.closes
+  pub efiling_until : a.efiling_until ≡ b.efiling_until
 
 -- what it means that a text names a zone: all values that stand for it are one clock
 abbrev pub TextsNameClocks : Type 0

@@ -25,7 +25,7 @@ read_zone members zone e = by (text_at key.Zone members) e
     by (Err fault) e = absurd (cc e)
 
 abbrev court : Zone → ℕ × ℕ → DaysView → List (List ℕ) → List (List ℕ) → CourtFile
-court zone hours days judges rooms = record { zone = zone; opens = hours.0; closes = hours.1; days = days; judges = judges; rooms = rooms }
+court zone hours days judges rooms = record { zone = zone; opens = hours.0; closes = hours.1; efiling_until = None; days = days; judges = judges; rooms = rooms }
 
 read_court : (members : _) (file : CourtFile) → court_of members ≡ Ok file → IsNamed file.zone
 unfolding court_of
@@ -61,6 +61,7 @@ same_court clocks bytes file said a b one other =
         zone = clocks zone.text a.clock.zone b.clock.zone (named a one) (named b other);
         opens = ap (λ f. f.opens) same;
         closes = ap (λ f. f.closes) same;
+        efiling_until = ap (λ f. f.efiling_until) same;
       };
       days = ap (λ f. f.days) same;
       judges = ap (λ f. f.judges) same;

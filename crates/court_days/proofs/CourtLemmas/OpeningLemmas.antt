@@ -1,5 +1,5 @@
 -- A court's file names no outages.
-use Rattle.std.proofs.Common.{◌≡◌, ℕ, List, [], Result, Ok, Err, refl, sym, ap, ◌∙◌, ok_or}
+use Rattle.std.proofs.Common.{◌≡◌, ℕ, List, [], None, Result, Ok, Err, refl, sym, ap, ◌∙◌, ok_or}
 use Rattle.court_file_text.specs.declared.fault.CourtFault.{CourtFault}
 use Rattle.court_file_text.specs.declared.fault.CourtFault.TheVariants.{BadSpan, NotToml}
 use Rattle.court_file_text.specs.declared.key.Key.TheVariants as key
@@ -9,7 +9,7 @@ use Rattle.court_days.specs.Court.Reading.{dates_at}
 use Rattle.court_days.specs.Days.{DaysView}
 
 -- a reading in steps succeeds where its first step gives something and the rest succeeds with that
-steps : {A B : Type 0} (r : Result A CourtFault) (more : A → Result B CourtFault) (y : B) → (r >>= more) ≡ Ok y → (x : A) × (r ≡ Ok x) × (more x ≡ Ok y)
+pub steps : {A B : Type 0} (r : Result A CourtFault) (more : A → Result B CourtFault) (y : B) → (r >>= more) ≡ Ok y → (x : A) × (r ≡ Ok x) × (more x ≡ Ok y)
 steps (Ok x) more y e = (x, refl, e)
 steps (Err fault) more y e = absurd (cc e)
 
@@ -33,7 +33,7 @@ read_court members file e =
     let days = steps (days_at members) _ file hours.2 in
     let judges = steps (names_at key.Judges members) _ file days.2 in
     let rooms = steps (names_at key.Rooms members) _ file judges.2 in
-    let read : CourtFile = record { zone = zone.0; opens = hours.0.0; closes = hours.0.1; days = days.0; judges = judges.0; rooms = rooms.0 } in
+    let read : CourtFile = record { zone = zone.0; opens = hours.0.0; closes = hours.0.1; efiling_until = None; days = days.0; judges = judges.0; rooms = rooms.0 } in
     let same : read ≡ file = cc rooms.2 in
     sym (ap (λ (f : CourtFile). f.days.outages) same) ∙ read_days members days.0 days.1
 

@@ -1,5 +1,5 @@
 -- How the search for the least or the greatest covered day goes on from one day to the next.
-use Rattle.std.proofs.Common.{◌≡◌, ◌<◌, ℕ, suc, ℤ, pos, ◌+ℤ◌, ◌-ℤ◌, ◌≤ℤ◌, ◌<ℤ◌, Bool, true, false, Some, None, refl, sym, ◌∙◌, arith}
+use Rattle.std.proofs.Common.{◌≡◌, ◌<◌, ℤ, pos, ◌+ℤ◌, ◌-ℤ◌, ◌≤ℤ◌, ◌<ℤ◌, Bool, true, false, Some, None, refl, sym, ◌∙◌, arith}
 use Rattle.std.proofs.lemmas.Int.{ints}
 use Rattle.court_clock.specs.Words.{first_passing, last_passing, days_through, later_day}
 use Rattle.court_clock.proofs.CallerLemmas.{later_day-same, earlier_day-same, days_through-first, days_through-last, days_through-none, first_passing-fails, first_passing-passes, last_passing-fails, last_passing-passes}

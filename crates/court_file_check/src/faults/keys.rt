@@ -7,11 +7,11 @@ ghost use Rattle.jiff.specs.Words.{plain_zone};
 ghost use Rattle.court_clock.specs.Words.{zone_view};
 ghost use Rattle.court_days.specs.Court.{is_span, zone_at};
 ghost use Rattle.court_file_text.specs.Words.{Gives, date_at, minute_at};
-ghost use Rattle.court_file_check.specs.Faults.{extent_faults, faulty, hours_faults, order_faults, span_faults, zone_faults};
+ghost use Rattle.court_file_check.specs.Faults.{efiling_faults, extent_faults, faulty, hours_faults, order_faults, span_faults, zone_faults};
 
 use crate::faults::Faults;
 use court_clock::{Day, zone_from_text};
-use court_file_text::{CourtFault, Key, date_at, minute_at, text_at};
+use court_file_text::{CourtFault, Key, date_at, minute_at, minute_if_there, text_at};
 use jiff::tz::TimeZone;
 use std::alloc::{AllocError, Global};
 use toml::Table;
@@ -64,6 +64,17 @@ fn hour_of(file: &Table, key: Key, faults: &mut Faults) -> Result<Option<u16>, A
             faults.add_read(key, None, fault)?;
             Ok(None)
         }
+    }
+}
+
+/// Adds the fault of the minute to which electronic filing runs, if it has one.
+#[tactic(auto, using(crate::proofs::ReadLemmas::fails_is), unfolding(crate::specs::Faults::efiling_faults))]
+pub(crate) fn check_efiling(file: &Table, faults: &mut Faults) -> Result<(), AllocError>
+    ensures { OnOk result (faults.new ≡ faults.old ++ efiling_faults (table_view file.now)) }
+{
+    match minute_if_there(file, Key::EfilingUntil) {
+        Ok(_) => Ok(()),
+        Err(fault) => faults.add_read(Key::EfilingUntil, None, fault),
     }
 }
 

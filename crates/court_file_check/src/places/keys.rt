@@ -3,7 +3,7 @@
 use court_file_text::Key;
 
 /// The keys, in the order in which they are read.
-const ALL: [Key; 9] = [
+const ALL: [Key; 10] = [
     Key::Zone,
     Key::Opens,
     Key::Closes,
@@ -13,6 +13,7 @@ const ALL: [Key; 9] = [
     Key::State,
     Key::Judges,
     Key::Rooms,
+    Key::EfilingUntil,
 ];
 
 /// The key that the bytes write, with or without quotes and blanks around it.

@@ -10,7 +10,7 @@ use court_file_text::{CourtFault, Key, NumberedFault};
 use std::alloc::{AllocError, Global};
 use toml::{Table, Value};
 
-/// Adds a line for each fault, and how clerk_office tells the first.
+/// Adds a line for each fault, and how a program tells the first.
 pub(crate) fn push_faults(
     alloc: Global,
     sheet: &mut Sheet<'_>,
@@ -23,13 +23,21 @@ pub(crate) fn push_faults(
     match faults.first() {
         Some(first) => {
             let told = told(alloc, first)?;
-            sheet.end_faults(told.as_str())
+            sheet.end_faults(teller(first.key), told.as_str())
         }
         None => Ok(()),
     }
 }
 
-/// The fault as clerk_office tells it.
+/// The program that refuses a file whose first fault is at this key: the key that the desk alone reads, or another one.
+fn teller(key: Key) -> &'static str {
+    match key {
+        Key::EfilingUntil => "docket",
+        _ => "clerk_office",
+    }
+}
+
+/// The fault as it is told.
 fn told(alloc: Global, fault: &Fault) -> Result<String, AllocError> {
     match &fault.what {
         What::Read(fault) => {

@@ -14,6 +14,7 @@ pub(crate) fn example_of(key: Key) -> &'static str {
         Key::State => "[]",
         Key::Judges => "[\"Ames\", \"Brandt\"]",
         Key::Rooms => "[\"11A\", \"11B\"]",
+        Key::EfilingUntil => "\"18:00\"",
     }
 }
 

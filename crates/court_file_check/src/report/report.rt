@@ -32,7 +32,7 @@ pub fn report_of(
     match checked {
         Checked::NotToml(error) => {
             push_syntax(&mut sheet, error)?;
-            sheet.end_faults("1 NotToml")?;
+            sheet.end_faults("clerk_office", "1 NotToml")?;
             Ok(sheet.faulty())
         }
         Checked::Faulty(file, faults) => {

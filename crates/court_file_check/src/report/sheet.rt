@@ -44,6 +44,11 @@ impl<'a> Sheet<'a> {
         })
     }
 
+    /// What gives memory.
+    pub fn alloc(&self) -> Global {
+        self.alloc
+    }
+
     /// The bytes of the file.
     pub fn bytes(&self) -> &'a [u8] {
         self.bytes
@@ -141,14 +146,14 @@ impl<'a> Sheet<'a> {
         self.text.push_str("\n")
     }
 
-    /// The last lines of a file with faults, of which this is the first, as clerk_office tells it.
-    pub fn end_faults(&mut self, first: &str) -> Result<(), AllocError> {
+    /// The last lines of a file with faults, of which this is the first, as this program tells it.
+    pub fn end_faults(&mut self, program: &str, first: &str) -> Result<(), AllocError> {
         let count = self.count;
         let faults = if count == 1 { "fault" } else { "faults" };
         self.text.push_str(self.name)?;
         write!(
             self.text,
-            ": {count} {faults}. clerk_office refuses the file with: court fault {first}\n"
+            ": {count} {faults}. {program} refuses the file with: court fault {first}\n"
         )?;
         self.text.push_str(
             "Mend what is named above and check again. Warnings come once there is no fault.\n",

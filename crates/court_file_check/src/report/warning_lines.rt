@@ -1,6 +1,7 @@
 //! The lines of warnings.
 
 use crate::places::{Mark, Part};
+use crate::report::near_key::near_key;
 use crate::report::sheet::{Sheet, item_after, item_of};
 use crate::review::{Due, due_on};
 use crate::{Alike, Asked, Slip, Warnings, ZoneDoubt};
@@ -19,7 +20,7 @@ pub(crate) fn push_warnings(
     asked: &Asked,
     warnings: &Warnings,
 ) -> Result<(), AllocError> {
-    push_of_keys(sheet, asked, warnings)?;
+    push_of_keys(sheet, file, asked, warnings)?;
     for year in &warnings.bare_years {
         push_bare_year(sheet, *year)?;
     }
@@ -51,6 +52,7 @@ pub(crate) fn push_warnings(
 /// Those of the zone, the hours and the span.
 fn push_of_keys(
     sheet: &mut Sheet<'_>,
+    file: &Table,
     asked: &Asked,
     warnings: &Warnings,
 ) -> Result<(), AllocError> {
@@ -62,6 +64,12 @@ fn push_of_keys(
     }
     if warnings.long_day {
         push_long_day(sheet)?;
+    }
+    if warnings.efiling_early {
+        push_efiling_early(sheet)?;
+    }
+    if file.get(Key::EfilingUntil.name()).is_none() {
+        push_efiling_astray(sheet, file)?;
     }
     if warnings.short_span {
         push_short_span(sheet)?;
@@ -102,6 +110,34 @@ fn push_long_day(sheet: &mut Sheet<'_>) -> Result<(), AllocError> {
         "from {opens} to {shown} the office is open for more than twelve hours"
     )?;
     sheet.end("; see that both times are right")
+}
+
+fn push_efiling_early(sheet: &mut Sheet<'_>) -> Result<(), AllocError> {
+    let shown = sheet.warning_at(Key::EfilingUntil, None)?;
+    let closes = sheet.shown(sheet.value_mark(Key::Closes)?);
+    write!(
+        sheet.text,
+        "electronic filing ends at {shown}, before the office closes, at {closes}"
+    )?;
+    sheet.end("; see that the time is right: hours go to 23, so 6 p.m. is \"18:00\"")
+}
+
+/// The key is in a table, or misspelled, where nothing reads it.
+fn push_efiling_astray(sheet: &mut Sheet<'_>, file: &Table) -> Result<(), AllocError> {
+    if let Some(mark) = sheet.find(Key::EfilingUntil, Part::InTable) {
+        sheet.begin_warning(Key::EfilingUntil, Some(mark))?;
+        return sheet.end(
+            "this line is below a line in brackets, such as [holiday_names], and so belongs to that table, where nothing reads it; move it above the first of these",
+        );
+    }
+    if let Some(near) = near_key(sheet.alloc(), file, Key::EfilingUntil)? {
+        sheet.begin_warning(Key::EfilingUntil, None)?;
+        write!(sheet.text, "the file has a key {near}, which nothing reads")?;
+        return sheet.end(
+            "; if it is this key, mend its letters, else electronic filing runs to midnight",
+        );
+    }
+    Ok(())
 }
 
 fn push_short_span(sheet: &mut Sheet<'_>) -> Result<(), AllocError> {

@@ -1,7 +1,7 @@
 //! Hours and spans that look wrong.
 
 ghost use Rattle.std.specs.Prelude.{◌≡◌, true};
-ghost use Rattle.court_file_check.specs.Warnings.{closes_early, ends_by_next_year, ends_soon, ends_within_a_year, is_autumn, is_long_day, is_short_span, next_year_end};
+ghost use Rattle.court_file_check.specs.Warnings.{closes_early, ends_by_next_year, ends_soon, ends_within_a_year, is_autumn, is_efiling_early, is_long_day, is_short_span, next_year_end};
 
 use court_clock::{Clock, Day};
 use court_days::Days;
@@ -20,6 +20,16 @@ pub(crate) fn is_long_day(clock: &Clock) -> bool
 {
     let closes = clock.closes();
     clock.opens() + 720 < closes
+}
+
+/// Whether electronic filing ends before the office closes.
+pub(crate) fn is_efiling_early(closes: u16, until: Option<u16>) -> bool
+    ensures { result ≡ is_efiling_early closes until }
+{
+    match until {
+        Some(until) => until < closes,
+        None => false,
+    }
 }
 
 /// Whether the span has less than the longest period of the table of periods after its first day: 90 days.

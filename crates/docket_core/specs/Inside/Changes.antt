@@ -1,10 +1,10 @@
 -- What a command that isn't refused makes of a docket.
-use Rattle.std.specs.Prelude.{◌≡◌, ℕ, List, Option, None, IfSome, option_map, unwrap_or, get_or, set}
+use Rattle.std.specs.Prelude.{◌≡◌, None, IfSome, unwrap_or, get_or, set}
 use Rattle.std.specs.Option.{option_and_then}
 use Rattle.docket_rows.specs.declared.command.Command.{Command}
 use Rattle.docket_rows.specs.declared.part.PartId.{PartId}
 use Rattle.docket_rows.specs.declared.rebooking.Rebooking.{Rebooking}
-use Rattle.docket_rows.specs.Words.{CaseRecordView, Parts, part_value, changed, case_of, hearing_after, judge_change, room_change}
+use Rattle.docket_rows.specs.Words.{Parts, part_value, changed, case_of, case_after, judge_change, room_change}
 use Rattle.docket_decisions.specs.Words.{CanChangeRecord}
 use Rattle.docket_core.specs.Docket.{DocketView, parts_held}
 use Rattle.docket_core.specs.Inside.Rebooking.{calendars_after}
@@ -14,18 +14,14 @@ abbrev pub IsAfter : (before : DocketView) → Command → (after : DocketView) 
 IsAfter before command after =
     (part : PartId) → part_value (parts_held after) part ≡ unwrap_or (changed (parts_held before) command part) (part_value (parts_held before) part)
 
--- some cases with a change of the one of that number, if it is open
-abbrev pub with_case : (number : ℕ) → (CaseRecordView → CaseRecordView) → List (Option CaseRecordView) → List (Option CaseRecordView)
-with_case number change cases = set cases number (option_map change (get_or cases number None))
-
 -- the case that the command is about can be changed so
 abbrev pub CanChangeCase : Parts → Command → Type 0
 CanChangeCase parts command = IfSome (option_and_then parts.case (case_of command)) (CanChangeRecord command)
 
--- the docket after a command about a hearing, which does this to the calendars
+-- the docket after a command that changes its case, and does this to the calendars
 abbrev pub rebooked_docket : Rebooking → Command → DocketView → DocketView
 rebooked_docket r command d = record d {
-  cases = with_case r.case (hearing_after command) d.cases;
+  cases = set d.cases r.case (case_after command (get_or d.cases r.case None));
   judges = calendars_after 0 (judge_change r) d.judges;
   rooms = calendars_after 0 (room_change r) d.rooms;
 }

@@ -66,7 +66,7 @@ impl Holdings {
         }
     }
 
-    /// Changes the calendars, and then the case, which takes no memory. An error leaves the docket as it was.
+    /// Changes the calendars and the case. An error leaves the docket as it was.
     fn rebook(
         &mut self,
         alloc: Global,
@@ -79,8 +79,15 @@ impl Holdings {
         ensures ok { OnOk result (self.new ≡ rebooked_docket rebooking.now command.now self.old) }
         ensures err { OnErr result (self.new ≡ self.old) }
     {
-        calendars::rebook(alloc, rebooking, 0, &mut self.judges, &mut self.rooms)?;
-        cases::change_hearing_of(&mut self.cases, rebooking.case, command);
+        calendars::rebook(
+            alloc,
+            rebooking,
+            0,
+            &mut self.judges,
+            &mut self.rooms,
+            &mut self.cases,
+            command,
+        )?;
         Ok(())
     }
 

@@ -1,11 +1,10 @@
 //! The cases of a docket, changed in place.
 
 ghost use Rattle.std.specs.Prelude.{◌≡◌, true, None, set, get_or, IfSome, OnOk, OnErr};
-ghost use Rattle.docket_rows.specs.Words.{case_after, hearing_after};
+ghost use Rattle.docket_rows.specs.Words.{case_after};
 ghost use Rattle.docket_decisions.specs.Words.{CanChangeRecord, takes_memory};
-ghost use Rattle.docket_core.specs.Inside.Changes.{with_case};
 
-use docket_decisions::{change_case, change_hearing};
+use docket_decisions::change_case;
 use docket_rows::{CaseRecord, Command};
 use std::alloc::{AllocError, Global};
 
@@ -26,18 +25,4 @@ pub(crate) fn change(
     }
     let case = &mut cases[number as usize];
     change_case(alloc, case, command)
-}
-
-/// Changes the case of that number as a command about a hearing of it says. It takes no memory.
-pub(crate) fn change_hearing_of(cases: &mut [Option<CaseRecord>], number: u32, command: &Command)
-    requires { IfSome (get_or cases.old number None) (CanChangeRecord command.now) }
-    ensures { cases.new ≡ with_case number (hearing_after command.now) cases.old }
-{
-    if number as usize >= cases.len() {
-        return;
-    }
-    let case = &mut cases[number as usize];
-    if let Some(case) = case {
-        change_hearing(case, command);
-    }
 }

@@ -7,8 +7,8 @@ use court_clock::Clock;
 use court_days::Days;
 use docket_decisions::{DocketRules, Sight, is_beyond, shown_now};
 use docket_rows::{
-    CaseRecord, Hearing, MotionRecord, Sheet, SheetDeadline, SheetDeadlines, SheetHearing,
-    SheetMotion, SheetMotions, State,
+    CaseRecord, Fact, Hearing, MotionRecord, Sheet, SheetDeadline, SheetDeadlines, SheetHearing,
+    SheetMotion, SheetMotions, State, assigned_in, closing_in, ending_in, ruling_in,
 };
 use rule_periods::{DocketRow, affidavit_day};
 use rule6::{Filing, Shown, is_timely};
@@ -32,15 +32,16 @@ fn state_of(clock: &Clock, shown: &Shown, filed: Option<Filing>) -> State
     }
 }
 
-/// The deadline of that number, as its sheet shows it.
+/// The deadline of that number, as its sheet shows it, where these facts are recorded of its case.
 fn sheet_deadline<S: Sight>(
     alloc: Global,
     rules: &DocketRules,
     sight: &S,
+    facts: &[Fact],
     number: u32,
     row: &DocketRow,
 ) -> Result<SheetDeadline, AllocError>
-    ensures { IfOk result (λ d. d ≡ sheet_deadline rules.now (S.parts sight.now) (record { number = number; row = row.now })) }
+    ensures { IfOk result (λ d. d ≡ sheet_deadline rules.now (S.parts sight.now) facts.now (record { number = number; row = row.now })) }
 {
     let row = row.row();
     let shown = shown_now(rules, sight, row);
@@ -50,6 +51,7 @@ fn sheet_deadline<S: Sight>(
         row: row.copy(alloc)?,
         shown,
         state,
+        ended: ending_in(facts, number),
     })
 }
 
@@ -58,15 +60,16 @@ fn sheet_deadlines<S: Sight>(
     alloc: Global,
     rules: &DocketRules,
     sight: &S,
+    facts: &[Fact],
     rows: &[DocketRow],
 ) -> Result<Vec<SheetDeadline>, AllocError>
     requires { length rows.now ≤ most_deadlines }
-    ensures { IfOk result (λ list. list.items ≡ map (sheet_deadline rules.now (S.parts sight.now)) (numbered_deadlines 1 rows.now)) }
+    ensures { IfOk result (λ list. list.items ≡ map (sheet_deadline rules.now (S.parts sight.now) facts.now) (numbered_deadlines 1 rows.now)) }
 {
     let mut list = Vec::new(alloc);
     for row in rows {
         let number = list.len() as u32 + 1;
-        let deadline = sheet_deadline(alloc, rules, sight, number, row)?;
+        let deadline = sheet_deadline(alloc, rules, sight, facts, number, row)?;
         list.push(deadline)?;
     }
     Ok(list)
@@ -85,24 +88,27 @@ fn sheet_hearing(days: &Days, hearing: Option<Hearing>) -> Option<SheetHearing>
     }
 }
 
-/// The motions of a case, numbered from 1.
+/// The motions of a case of which these facts are recorded, numbered from 1.
 fn sheet_motions(
     alloc: Global,
     days: &Days,
+    facts: &[Fact],
     motions: &[MotionRecord],
 ) -> Result<Vec<SheetMotion>, AllocError>
     requires { length motions.now ≤ most_motions }
-    ensures { IfOk result (λ list. list.items ≡ map (sheet_motion days.now) (numbered_motions 1 motions.now)) }
+    ensures { IfOk result (λ list. list.items ≡ map (sheet_motion days.now facts.now) (numbered_motions 1 motions.now)) }
 {
     let mut list = Vec::new(alloc);
     for motion in motions {
         let number = list.len() as u32 + 1;
         let hearing = sheet_hearing(days, motion.hearing);
+        let ruling = ruling_in(facts, number);
         list.push(SheetMotion {
             number,
             served: motion.served,
             need: motion.need,
             hearing,
+            ruling,
         })?;
     }
     Ok(list)
@@ -118,11 +124,13 @@ pub(crate) fn sheet_of<S: Sight>(
 ) -> Result<Sheet, AllocError>
     ensures { IfOk result (λ sheet. sheet ≡ sheet_of rules.now (S.parts sight.now) number case.now) }
 {
-    let deadlines = sheet_deadlines(alloc, rules, sight, case.deadlines())?;
-    let motions = sheet_motions(alloc, sight.days(), case.motions())?;
+    let deadlines = sheet_deadlines(alloc, rules, sight, case.facts(), case.deadlines())?;
+    let motions = sheet_motions(alloc, sight.days(), case.facts(), case.motions())?;
     Ok(Sheet {
         case: number,
         filed: case.filed(),
+        closed: closing_in(case.facts()),
+        assigned: assigned_in(case.facts()),
         deadlines: SheetDeadlines::from_vec(deadlines),
         motions: SheetMotions::from_vec(motions),
     })

@@ -5,7 +5,7 @@ use Rattle.std.proofs.lemmas.Bool.Decides.{nat_tests}
 use Rattle.std.proofs.lemmas.List.Elements.{All-push, All-weaker}
 use Rattle.std.proofs.lemmas.List.Quantifiers.{all_pairs_push}
 use Rattle.docket_rows.specs.declared.command.Command.TheVariants.{OpenCase}
-use Rattle.docket_rows.specs.Words.{CourtSetup, Rows, DocketedCase, DocketedDeadline, DocketedMotion, AreSound, AreLawful, parts_of, is_case, is_case_number, open_case_refusal, open_case_checks, rows_after}
+use Rattle.docket_rows.specs.Words.{CourtSetup, Rows, DocketedCase, DocketedDeadline, DocketedMotion, DocketedFact, AreSound, AreLawful, parts_of, is_case, is_case_number, open_case_refusal, open_case_checks, rows_after}
 use Rattle.docket_laws.proofs.MadeLemmas.{none_of, when-None, when-not-None}
 use Rattle.docket_laws.proofs.LawfulLemmas.ListLemmas.{found_in_more}
 use Rattle.docket_laws.proofs.LawfulLemmas.SeenLemmas.{closed_in_rows}
@@ -33,6 +33,7 @@ sound_open_case setup rows case filed s h =
       hearings_of_motions = s.hearings_of_motions;
       hearing_once = s.hearing_once;
       hearings_settable = s.hearings_settable;
+      facts_of_cases = All-weaker (λ (f : DocketedFact). IsSome (find (is_case f.case) rows.cases)) _ (λ f some. found_in_more (is_case f.case) rows.cases (c ∷ []) some) rows.facts s.facts_of_cases;
     }
 
 -- a docket stays lawful, as no hearing, no motion and no day changes

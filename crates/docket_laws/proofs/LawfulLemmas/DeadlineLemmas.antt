@@ -39,6 +39,7 @@ sound_start setup rows case period event second service s h =
       hearings_of_motions = s.hearings_of_motions;
       hearing_once = s.hearing_once;
       hearings_settable = s.hearings_settable;
+      facts_of_cases = s.facts_of_cases;
     }
 
 -- a change of a deadline's row leaves its case and its number
@@ -71,6 +72,7 @@ sound_changed setup rows case number change s =
       hearings_of_motions = s.hearings_of_motions;
       hearing_once = s.hearing_once;
       hearings_settable = s.hearings_settable;
+      facts_of_cases = s.facts_of_cases;
     }
 
 -- a docket stays lawful, as no hearing, no motion and no day changes

@@ -44,6 +44,7 @@ sound_without setup rows case motion s =
       hearings_of_motions = All-filter kept (λ (h : DocketedHearing). IsSome (find (is_motion h.case h.motion) rows.motions)) rows.hearings s.hearings_of_motions;
       hearing_once = AllPairs-filter (λ (a b : DocketedHearing). is_hearing a.case a.motion b ≡ false) kept rows.hearings s.hearing_once;
       hearings_settable = All-filter kept (λ (h : DocketedHearing). IsSettable setup h.hearing) rows.hearings s.hearings_settable;
+      facts_of_cases = s.facts_of_cases;
     }
 
 pub lawful_without : (setup : CourtSetup) (rows : Rows) (case motion : ℕ) → AreLawful setup rows → AreLawful setup (without_hearing case motion rows)
@@ -80,7 +81,7 @@ some_of (Some x) h = refl
 -- the lines of the table, in its order
 placeable : (setup : CourtSetup) (rows : Rows) (s : Setting) (set : Option Refusal) (except : Option (ℕ × ℕ)) → NoneOf (hearing_checks setup (parts_of rows) s set except) → CanSet (parts_of rows) s → IsPlaceable setup rows s
 unfolding parts_of
-placeable setup rows s set except (no_case, (no_motion, (no_judge, (no_room, (bad_panel, (bad_day, (bad_length, (already, (no_court_day, (outside_hours, (beyond, (short, clashes)))))))))))) free =
+placeable setup rows s set except (no_case, (closed, (no_motion, (no_judge, (no_room, (bad_panel, (bad_day, (bad_length, (already, (no_court_day, (outside_hours, (beyond, (short, clashes))))))))))))) free =
     let opened = is_open_of rows s.case (when-not-None _ _ no_case) in
     let found = is_found_of rows s.case s.motion opened.stands (some_of _ (when-None _ _ no_motion)) in
     let m = motion_shown rows found.motion in
@@ -157,6 +158,7 @@ sound_placed setup rows s placed sound =
       hearings_of_motions = All-push (λ (x : DocketedHearing). IsSome (find (is_motion x.case x.motion) rows.motions)) (others rows s) h w.hearings_of_motions (ap is_some placed.found.found);
       hearing_once = all_pairs_push (λ (a b : DocketedHearing). is_hearing a.case a.motion b ≡ false) (others rows s) h w.hearing_once (λ k d within. is_hearing-sym s.case s.motion (get_or (others rows s) k d) h refl refl (are_others rows s k d within));
       hearings_settable = All-push (λ (x : DocketedHearing). IsSettable setup x.hearing) (others rows s) h w.hearings_settable placed.settable;
+      facts_of_cases = w.facts_of_cases;
     }
 
 -- the motion of that number is the one whose notice was looked at
@@ -185,8 +187,8 @@ unfolding book_refusal
 none_older setup rows s h =
     let n = none_of (book_checks setup (parts_of rows) s) h in
     let opened = is_open_of rows s.case (when-not-None _ _ n.0) in
-    let found = is_found_of rows s.case s.motion opened.stands (some_of _ (when-None _ _ n.1.0)) in
-    let unset = unset_in_rows rows s.case s.motion found (when-None _ _ n.1.1.1.1.1.1.1.0) in
+    let found = is_found_of rows s.case s.motion opened.stands (some_of _ (when-None _ _ n.1.1.0)) in
+    let unset = unset_in_rows rows s.case s.motion found (when-None _ _ n.1.1.1.1.1.1.1.1.0) in
     let all = filter_all (λ x. not (is_hearing s.case s.motion x)) rows.hearings (All-weaker (λ x. is_hearing s.case s.motion x ≡ false) _ (λ x other. not_from_false _ other) rows.hearings unset) in
     ap (λ hs. with_hearing s (record rows { hearings = hs })) all
 

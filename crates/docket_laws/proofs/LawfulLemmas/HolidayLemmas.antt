@@ -43,6 +43,7 @@ sound_days setup rows days first last s = record {
   hearings_of_motions = s.hearings_of_motions;
   hearing_once = s.hearing_once;
   hearings_settable = s.hearings_settable;
+  facts_of_cases = s.facts_of_cases;
 }
 
 add_holiday-from : (c : DaysView) (list : HolidayList) (day : ℤ) → (add_holiday c list day).from ≡ c.from

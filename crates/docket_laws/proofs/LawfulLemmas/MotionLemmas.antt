@@ -36,10 +36,11 @@ sound_motion setup rows case served need s h =
       deadlines_numbered = s.deadlines_numbered;
       motions_of_cases = All-push (λ (x : DocketedMotion). IsSome (find (is_case x.case) rows.cases)) rows.motions m s.motions_of_cases opened.stands;
       motions_numbered = λ c. numbered_in_more (λ (x : DocketedMotion). x.number) (is_motion_in c) rows.motions m (s.motions_numbered c) (next_in rows case c opened);
-      needs = All-push (λ (x : DocketedMotion). is_need x.need ≡ true) rows.motions m s.needs (when-not-None _ _ n.1.1.0);
+      needs = All-push (λ (x : DocketedMotion). is_need x.need ≡ true) rows.motions m s.needs (when-not-None _ _ n.1.1.1.0);
       hearings_of_motions = All-weaker (λ (x : DocketedHearing). IsSome (find (is_motion x.case x.motion) rows.motions)) _ (λ x some. found_in_more (is_motion x.case x.motion) rows.motions (m ∷ []) some) rows.hearings s.hearings_of_motions;
       hearing_once = s.hearing_once;
       hearings_settable = s.hearings_settable;
+      facts_of_cases = s.facts_of_cases;
     }
 
 -- a motion is among those of its case

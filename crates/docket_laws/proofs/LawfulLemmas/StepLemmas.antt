@@ -2,12 +2,13 @@
 use Rattle.std.proofs.Common.{◌≡◌, List, [], ◌∷◌, Option, Some, None, refl, arith}
 use Rattle.std.specs.Option.{option_map_or}
 use Rattle.docket_rows.specs.declared.command.Command.{Command}
-use Rattle.docket_rows.specs.declared.command.Command.TheVariants.{OpenCase, Start, FileAct, Extend, Motion, Book, MoveHearing, Cancel, Holiday, Inaccessible}
+use Rattle.docket_rows.specs.declared.command.Command.TheVariants.{OpenCase, Start, FileAct, Extend, Motion, Book, MoveHearing, Cancel, Holiday, Inaccessible, Fact}
 use Rattle.docket_rows.specs.declared.refusal.Refusal.{Refusal}
 use Rattle.rule_periods.specs.Words.{with_filing, with_grant}
 use Rattle.docket_rows.specs.Words.{CourtSetup, Rows, AreSound, AreLawful, parts_of, opening_rows, refusal, rows_after, step, rows_from}
 use Rattle.docket_laws.proofs.LawfulLemmas.CaseLemmas.{sound_open_case, lawful_open_case}
 use Rattle.docket_laws.proofs.LawfulLemmas.DeadlineLemmas.{sound_start, sound_changed, lawful_deadlines}
+use Rattle.docket_laws.proofs.LawfulLemmas.FactLemmas.{sound_fact, lawful_fact}
 use Rattle.docket_laws.proofs.LawfulLemmas.MotionLemmas.{sound_motion, lawful_motion}
 use Rattle.docket_laws.proofs.LawfulLemmas.HearingLemmas.{sound_without, lawful_without, movable, sound_placed, lawful_placed, sound_book, lawful_book}
 use Rattle.docket_laws.proofs.LawfulLemmas.HolidayLemmas.{sound_holiday, lawful_holiday, sound_outage, lawful_outage}
@@ -27,6 +28,7 @@ sound_opening setup = record {
   hearings_of_motions = λ k d within. absurd (omega arith);
   hearing_once = λ i j d before within. absurd (omega arith);
   hearings_settable = λ k d within. absurd (omega arith);
+  facts_of_cases = λ k d within. absurd (omega arith);
 }
 
 pub lawful_opening : (setup : CourtSetup) → AreLawful setup (opening_rows setup)
@@ -49,6 +51,7 @@ sound_after setup rows (MoveHearing setting) s h = sound_placed setup rows setti
 sound_after setup rows (Cancel case motion) s h = sound_without setup rows case motion s
 sound_after setup rows (Holiday day list) s h = sound_holiday setup rows day list s
 sound_after setup rows (Inaccessible day from to) s h = sound_outage setup rows day from to s
+sound_after setup rows (Fact case fact) s h = sound_fact setup rows case fact s h
 
 pub lawful_after : (setup : CourtSetup) (rows : Rows) (command : Command) → AreSound setup rows → AreLawful setup rows → refusal setup (parts_of rows) command ≡ None → AreLawful setup (rows_after rows command)
 lawful_after setup rows (OpenCase case filed) s l h = lawful_open_case setup rows case filed l
@@ -61,6 +64,7 @@ lawful_after setup rows (MoveHearing setting) s l h = lawful_placed setup rows s
 lawful_after setup rows (Cancel case motion) s l h = lawful_without setup rows case motion l
 lawful_after setup rows (Holiday day list) s l h = lawful_holiday setup rows day list s l h
 lawful_after setup rows (Inaccessible day from to) s l h = lawful_outage setup rows day from to l
+lawful_after setup rows (Fact case fact) s l h = lawful_fact setup rows case fact l
 
 -- a refused command leaves the rows, and what holds of them
 refused_or_made : (P : Rows → Type 0) (rows after : Rows) (o : Option Refusal) → P rows → (o ≡ None → P after) → P (option_map_or (λ r. rows) o after)

@@ -3,10 +3,12 @@
 ghost use Rattle.std.specs.Prelude.{◌≡◌, ◌<◌, ◌==◌, ◌+◌, true, None, length, find, map, is_ok, option_map, IfSome, IfOk, if◌then◌else◌};
 ghost use Rattle.rule_periods.specs.Words.{grant_fits, is_grant_length, is_in_hours, with_grant, with_filing};
 ghost use Rattle.docket_rows.specs.Cases.{NumberedDeadline, NumberedMotion, numbered_deadlines, numbered_motions};
-ghost use Rattle.docket_rows.specs.Limits.{most_deadlines, most_motions};
+ghost use Rattle.docket_rows.specs.Facts.{add_fact, is_kept, keep_fact};
+ghost use Rattle.docket_rows.specs.Limits.{most_deadlines, most_facts, most_motions};
 ghost use Rattle.docket_rows.specs.Writes.{add_deadline, change_deadline, add_motion, set_hearing};
 
 use super::CaseRecord;
+use crate::fact::Fact;
 use crate::hearing::Hearing;
 use crate::motion::MotionRecord;
 use court_clock::Day;
@@ -63,7 +65,28 @@ impl CaseRecord {
         set_hearing(&mut self.motions, motion, hearing);
     }
 
-    /// A copy, with deadlines and motions of its own. An error says that memory ran out.
+    /// Records a fact, if it is one that is kept. An error leaves the case as it was.
+    pub fn add_fact(&mut self, fact: Fact) -> Result<(), AllocError>
+        requires { is_kept fact ≡ true → length self.old.facts < most_facts }
+        ensures { self.new ≡ (if is_ok result then add_fact fact self.old else self.old) }
+    {
+        if fact.is_kept() {
+            self.keep_fact(fact)
+        } else {
+            Ok(())
+        }
+    }
+
+    // Keeps a fact.
+    fn keep_fact(&mut self, fact: Fact) -> Result<(), AllocError>
+        requires { length self.old.facts < most_facts }
+        ensures { self.new ≡ (if is_ok result then keep_fact fact self.old else self.old) }
+    {
+        self.facts.push(fact)?;
+        Ok(())
+    }
+
+    /// A copy, with deadlines, motions and facts of its own. An error says that memory ran out.
     pub fn copy(&self, alloc: Global) -> Result<CaseRecord, AllocError>
         ensures { IfOk result (λ case. case ≡ self.now) }
     {
@@ -71,6 +94,7 @@ impl CaseRecord {
             filed: self.filed,
             deadlines: copy_deadlines(alloc, &self.deadlines)?,
             motions: Vec::from_slice(alloc, &self.motions)?,
+            facts: Vec::from_slice(alloc, &self.facts)?,
         })
     }
 }

@@ -1,5 +1,5 @@
 -- The history of a motion ends in the hearing that the docket has for it.
-use Rattle.std.proofs.Common.{◌≡◌, ◌<◌, ◌+◌, ◌∙◌, ◌==◌, ◌&&◌, ℕ, true, false, not, List, [], ◌∷◌, ◌++◌, length, nat_le, get_or, fold, find, filter, All, AllPairs, Option, Some, None, option_map, option_to_list, if◌then◌else◌, append-nil, refl, sym, ap, arith, inl, inr}
+use Rattle.std.proofs.Common.{◌≡◌, ◌<◌, ◌+◌, ◌∙◌, ◌==◌, ◌&&◌, ℕ, ℤ, Bool, true, false, not, is_some, List, [], ◌∷◌, ◌++◌, length, nat_le, get_or, fold, find, filter, All, AllPairs, Option, Some, None, option_map, option_to_list, if◌then◌else◌, append-nil, refl, sym, ap, subst, arith, inl, inr}
 use Rattle.std.specs.Option.{option_map_or}
 use Rattle.std.proofs.Math.Seq.{get_or-append_seam}
 use Rattle.std.proofs.lemmas.Bool.Decides.{nat_tests}
@@ -8,14 +8,19 @@ use Rattle.std.proofs.lemmas.List.{get_or_append_left, length-append}
 use Rattle.std.proofs.lemmas.List.Elements.{filter_passes}
 use Rattle.std.proofs.lemmas.List.Sums.{fold-append}
 use Rattle.hearing_slots.proofs.CallerLemmas.{find_absent, find_here, find_other, find-filter}
+use Rattle.rule6.specs.declared.timeliness.Shown.{Shown}
+use Rattle.rule_periods.specs.declared.grant.Request.{Request}
+use Rattle.rule_periods.specs.Words.{is_order}
 use Rattle.docket_rows.specs.declared.answer.Answer.TheVariants as answer
 use Rattle.docket_rows.specs.declared.command.Command.{Command}
-use Rattle.docket_rows.specs.declared.command.Command.TheVariants.{OpenCase, Start, FileAct, Extend, Motion, Book, MoveHearing, Cancel, Holiday, Inaccessible}
+use Rattle.docket_rows.specs.declared.command.Command.TheVariants.{OpenCase, Start, FileAct, Extend, Motion, Book, MoveHearing, Cancel, Holiday, Inaccessible, Fact}
+use Rattle.docket_rows.specs.declared.fact.Fact.TheVariants.{Ended, Resumed, Closed, Reopened, Ruled, Assigned, Titled, Labelled}
+use Rattle.docket_rows.specs.declared.fact.Ruling.{Ruling}
 use Rattle.docket_rows.specs.declared.hearing.Hearing.{Hearing}
 use Rattle.docket_rows.specs.declared.hearing.Setting.{Setting}
 use Rattle.docket_rows.specs.declared.refusal.Refusal.{Refusal}
-use Rattle.docket_rows.specs.Words.{AreSound, CourtSetup, DocketedHearing, Rows, answered, answer_if_made, hearing_asked, hearing_of, is_hearing, opening_rows, parts_of, refusal, rows_after, rows_from, step}
-use Rattle.docket_laws.proofs.CallerLemmas.{can_book, can_move, count_of, sound_after, sound_opening, sound_step}
+use Rattle.docket_rows.specs.Words.{AreSound, CourtSetup, DocketedHearing, Rows, answered, answer_if_made, ended_answer, hearing_asked, hearing_of, if_ahead, is_hearing, opening_rows, parts_of, refusal, rows_after, rows_from, step, without_hearing}
+use Rattle.docket_laws.proofs.CallerLemmas.{can_book, can_move, count_of, hearing_seen, sound_after, sound_opening, sound_step}
 use Rattle.docket_selection.specs.declared.changes.change.HearingChange.{HearingChange}
 use Rattle.docket_selection.specs.declared.changes.change.RowChange.{RowChange}
 use Rattle.docket_selection.specs.declared.changes.history.HearingHistory.{HearingHistory}
@@ -122,13 +127,27 @@ module _ (judge : Option ℕ) (case motion : ℕ) where
   abbrev next_history : Option HearingHistory → RowChange → Option HearingHistory
   next_history before c = follow judge case motion before c.change
 
+  -- after an extension, or an order that sets another end
+  extended_ends : (row : ℕ) (before : Option HearingHistory) (of deadline : ℕ) (request : Request) (order : Bool) (end : Shown) (docketed : Option Hearing) → last_hearing before ≡ hearing_before judge docketed
+      → last_hearing (fold next_history before (option_to_list (change_made row (Extend of deadline request) (ended_answer order end)))) ≡ hearing_before judge docketed
+  extended_ends row before of deadline request true end docketed ends = ends
+  extended_ends row before of deadline request false end docketed ends = ends
+
+  -- after a ruling, which takes this hearing of its motion off, if any
+  ruled_ends : (rows : Rows) (row : ℕ) (before : Option HearingHistory) (of of_motion : ℕ) (how : Ruling) (dated : ℤ) → last_hearing before ≡ hearing_before judge (hearing_of rows case motion) → (taken : Option Hearing)
+      → last_hearing (fold next_history before (option_to_list (change_made row (Fact of (Ruled of_motion how dated)) (answer.Ruled (option_map (λ (h : Hearing). h.day) taken))))) ≡ hearing_before judge (hearing_of (record rows { hearings = if is_some taken then (without_hearing of of_motion rows).hearings else rows.hearings }) case motion)
+  ruled_ends rows row before of of_motion how dated ends None = ends
+  ruled_ends rows row before of of_motion how dated ends (Some h) =
+      followed_ends before (record { case = of; motion = of_motion; hearing = None }) (hearing_of rows case motion) _ (after_taking rows.hearings of of_motion case motion) ends
+
   -- after a command that isn't refused, and after any
   made_ends : (setup : CourtSetup) (rows : Rows) (row : ℕ) (before : Option HearingHistory) → AreSound setup rows → last_hearing before ≡ hearing_before judge (hearing_of rows case motion) → (command : Command) → refusal setup (parts_of rows) command ≡ None
       → last_hearing (fold next_history before (option_to_list (change_made row command (answer_if_made setup (parts_of rows) command)))) ≡ hearing_before judge (hearing_of (rows_after rows command) case motion)
   made_ends setup rows row before sound ends (OpenCase of filed) free = ends
   made_ends setup rows row before sound ends (Start of period event second service) free = ends
   made_ends setup rows row before sound ends (FileAct of deadline filing) free = ends
-  made_ends setup rows row before sound ends (Extend of deadline request) free = ends
+  made_ends setup rows row before sound ends (Extend of deadline request) free =
+      extended_ends row before of deadline request (is_order request.grant) _ (hearing_of rows case motion) ends
   made_ends setup rows row before sound ends (Motion of served need) free = ends
   made_ends setup rows row before sound ends (Book s) free =
       let few = count_of s.first s.count (can_book setup (parts_of rows) s free).fits in
@@ -142,6 +161,16 @@ module _ (judge : Option ℕ) (case motion : ℕ) where
       followed_ends before (record { case = of_case; motion = of_motion; hearing = None }) (hearing_of rows case motion) _ (after_taking rows.hearings of_case of_motion case motion) ends
   made_ends setup rows row before sound ends (Holiday day list) free = ends
   made_ends setup rows row before sound ends (Inaccessible day from to) free = ends
+  made_ends setup rows row before sound ends (Fact of (Ended deadline why dated)) free = ends
+  made_ends setup rows row before sound ends (Fact of (Resumed deadline dated)) free = ends
+  made_ends setup rows row before sound ends (Fact of (Closed why dated)) free = ends
+  made_ends setup rows row before sound ends (Fact of (Reopened dated)) free = ends
+  made_ends setup rows row before sound ends (Fact of (Ruled of_motion how dated)) free =
+      let P : Option Hearing → Type 0 = λ set. last_hearing (fold next_history before (option_to_list (change_made row (Fact of (Ruled of_motion how dated)) (answer.Ruled (option_map (λ (h : Hearing). h.day) (if_ahead dated set)))))) ≡ hearing_before judge (hearing_of (rows_after rows (Fact of (Ruled of_motion how dated))) case motion) in
+      subst P (sym (hearing_seen setup rows sound of of_motion)) (ruled_ends rows row before of of_motion how dated ends (if_ahead dated (hearing_of rows of of_motion)))
+  made_ends setup rows row before sound ends (Fact of (Assigned to referred dated)) free = ends
+  made_ends setup rows row before sound ends (Fact of Titled) free = ends
+  made_ends setup rows row before sound ends (Fact of (Labelled counted number)) free = ends
 
   step_ends : (setup : CourtSetup) (rows : Rows) (row : ℕ) (before : Option HearingHistory) → AreSound setup rows → last_hearing before ≡ hearing_before judge (hearing_of rows case motion) → (command : Command)
       → last_hearing (fold next_history before (option_to_list (change_made row command (step setup rows command).1))) ≡ hearing_before judge (hearing_of (step setup rows command).0 case motion)

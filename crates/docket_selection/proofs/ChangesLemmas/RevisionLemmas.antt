@@ -1,5 +1,5 @@
 -- One command more raises the revision of a case's events, or leaves all on which they rest.
-use Rattle.std.proofs.Common.{◌≡◌, ◌<◌, ◌≤◌, ◌+◌, ◌∙◌, ◌==◌, ◌&&◌, ◌||◌, ℕ, suc, max, Bool, true, false, List, [], ◌∷◌, ◌++◌, length, nat_le, map, fold, filter, All, Option, Some, None, option_map, option_to_list, if◌then◌else◌, append_assoc, append-nil, refl, sym, ap, subst, arith, inl, inr}
+use Rattle.std.proofs.Common.{◌≡◌, ◌<◌, ◌≤◌, ◌+◌, ◌∙◌, ◌==◌, ◌&&◌, ◌||◌, ℕ, ℤ, suc, max, Bool, true, false, is_some, cond, List, [], ◌∷◌, ◌++◌, length, nat_le, map, fold, filter, All, Option, Some, None, option_map, option_to_list, if◌then◌else◌, append_assoc, append-nil, refl, sym, ap, subst, arith, inl, inr}
 use Rattle.std.specs.Option.{option_map_or}
 use Rattle.std.proofs.Math.Nat.{le-max_left, le-max_right, max-le}
 use Rattle.std.proofs.lemmas.Bool.{cases_Bool, eqb-true, and_parts, false≢true}
@@ -9,15 +9,21 @@ use Rattle.std.proofs.lemmas.List.Sums.{fold-append}
 use Rattle.docket_rows.specs.declared.answer.Answer.{Answer}
 use Rattle.docket_rows.specs.declared.answer.Answer.TheVariants as answer
 use Rattle.docket_rows.specs.declared.command.Command.{Command}
-use Rattle.docket_rows.specs.declared.command.Command.TheVariants.{OpenCase, Start, FileAct, Extend, Motion, Book, MoveHearing, Cancel, Holiday, Inaccessible}
+use Rattle.docket_rows.specs.declared.command.Command.TheVariants.{OpenCase, Start, FileAct, Extend, Motion, Book, MoveHearing, Cancel, Holiday, Inaccessible, Fact}
+use Rattle.docket_rows.specs.declared.fact.Fact.{Fact as FactOf}
+use Rattle.docket_rows.specs.declared.fact.Fact.TheVariants.{Ended, Resumed, Closed, Reopened, Ruled, Assigned, Titled, Labelled}
+use Rattle.docket_rows.specs.declared.fact.Ruling.{Ruling}
+use Rattle.docket_rows.specs.declared.hearing.Hearing.{Hearing}
 use Rattle.docket_rows.specs.declared.refusal.Refusal.{Refusal}
-use Rattle.docket_rows.specs.Words.{AreSound, CourtSetup, DocketedDeadline, Rows, answer_if_made, answered, is_deadline_in, next_deadline, opening_rows, parts_of, refusal, rows_after, rows_from, started, step, with_deadline}
-use Rattle.rule_periods.specs.Words.{DeadlineRowView}
+use Rattle.docket_rows.specs.Words.{AreSound, CourtSetup, DocketedDeadline, DocketedFact, Rows, answer_if_made, answered, ended_answer, hearing_of, if_ahead, is_deadline_in, is_fact_in, is_kept, next_deadline, opening_rows, parts_of, refusal, rows_after, rows_from, started, step, with_deadline, with_fact, without_hearing}
+use Rattle.rule6.specs.declared.timeliness.Shown.{Shown}
+use Rattle.rule_periods.specs.declared.grant.Request.{Request}
+use Rattle.rule_periods.specs.Words.{DeadlineRowView, is_order}
 use Rattle.docket_laws.specs.Words.{docket_after}
-use Rattle.docket_laws.proofs.CallerLemmas.{can_book, can_move, count_of, sound_docket}
+use Rattle.docket_laws.proofs.CallerLemmas.{can_book, can_move, count_of, hearing_seen, sound_docket}
 use Rattle.docket_selection.specs.declared.changes.change.Change.{Change}
 use Rattle.docket_selection.specs.declared.changes.change.RowChange.{RowChange}
-use Rattle.docket_selection.specs.Changes.Change.{change_asked, change_made}
+use Rattle.docket_selection.specs.Changes.Change.{change_asked, change_by, change_made}
 use Rattle.docket_selection.specs.Changes.Laws.{KeepsEvents, RevisionsRiseWithEvents, changes_by, changes_from}
 use Rattle.docket_selection.specs.Changes.Revision.{changes_case, changes_days, last_row, revision_of}
 use Rattle.docket_selection.proofs.ChangesLemmas.DocketLemmas.{after_taking, moved_docketed, set_docketed}
@@ -48,12 +54,21 @@ module _ (Holds : ℕ → Type 0) (row : ℕ) (command : Command) (holds : Holds
   made_at (answer.Started number shown) = asked_at (change_asked command)
   made_at (answer.Filed timely) = asked_at (change_asked command)
   made_at (answer.Extended shown) = asked_at (change_asked command)
+  made_at (answer.Reset shown) = asked_at (change_asked command)
   made_at (answer.MotionEntered number) = asked_at (change_asked command)
   made_at answer.Booked = asked_at (change_asked command)
   made_at answer.Moved = asked_at (change_asked command)
   made_at answer.Cancelled = asked_at (change_asked command)
   made_at answer.HolidayEntered = asked_at (change_asked command)
   made_at answer.OutageEntered = asked_at (change_asked command)
+  made_at answer.Ended = asked_at (change_asked command)
+  made_at answer.Closed = asked_at (change_asked command)
+  made_at answer.Reopened = asked_at (change_asked command)
+  made_at (answer.Ruled day) = asked_at (change_by command day)
+  made_at answer.Assigned = asked_at (change_asked command)
+  made_at answer.Titled = asked_at (change_asked command)
+  made_at answer.Labelled = asked_at (change_asked command)
+  made_at (answer.Resumed shown) = asked_at (change_asked command)
   made_at (answer.Refused refusal) = All-nil (λ (c : RowChange). Holds c.row)
 
 rows_within : (setup : CourtSetup) (rows : Rows) (row n : ℕ) (commands : List Command) → row + length commands ≤ n + 1 → All (λ (c : RowChange). c.row ≤ n) (changes_from setup rows row commands)
@@ -104,44 +119,87 @@ touches case change = changes_days change || changes_case case change
 abbrev made_touches : (case : ℕ) → Option RowChange → Bool
 made_touches case made = option_map_or (λ (c : RowChange). touches case c.change) made false
 
+-- whichever way a time is extended, it touches its own case
+extension_touches : (case row of deadline : ℕ) (request : Request) (order : Bool) (end : Shown) → made_touches case (change_made row (Extend of deadline request) (ended_answer order end)) ≡ false → (of == case) ≡ false
+extension_touches case row of deadline request true end other = other
+extension_touches case row of deadline request false end other = other
+
+-- one more fact of another case, which is kept or isn't
+kept_elsewhere : (facts : List DocketedFact) (case : ℕ) (f : DocketedFact) (kept : Bool) → (f.case == case) ≡ false → filter (is_fact_in case) (facts ++ cond kept (f ∷ []) []) ≡ filter (is_fact_in case) facts
+kept_elsewhere facts case f true other = filter-append (is_fact_in case) facts (f ∷ []) ∙ rw other (append-nil (filter (is_fact_in case) facts))
+kept_elsewhere facts case f false other = ap (filter (is_fact_in case)) (append-nil facts)
+
+-- a fact of another case
+recorded_elsewhere : (rows : Rows) (case of : ℕ) (fact : FactOf) → (of == case) ≡ false → KeepsEvents case rows (with_fact of fact rows)
+recorded_elsewhere rows case of fact other = record {
+  days = refl;
+  deadlines = refl;
+  hearings = λ motion. refl;
+  facts = kept_elsewhere rows.facts case (record { case = of; fact = fact }) (is_kept fact) other;
+}
+
+-- a ruling in another case, which takes this hearing of its motion off, if any
+ruled_elsewhere : (rows : Rows) (case row of of_motion : ℕ) (how : Ruling) (dated : ℤ) (taken : Option Hearing) → made_touches case (change_made row (Fact of (Ruled of_motion how dated)) (answer.Ruled (option_map (λ (h : Hearing). h.day) taken))) ≡ false
+    → KeepsEvents case rows (record (with_fact of (Ruled of_motion how dated) rows) { hearings = if is_some taken then (without_hearing of of_motion rows).hearings else rows.hearings })
+ruled_elsewhere rows case row of of_motion how dated None other = recorded_elsewhere rows case of (Ruled of_motion how dated) other
+ruled_elsewhere rows case row of of_motion how dated (Some h) other = record {
+  days = refl;
+  deadlines = refl;
+  hearings = λ motion. rw other at (after_taking rows.hearings of of_motion case motion);
+  facts = (recorded_elsewhere rows case of (Ruled of_motion how dated) other).facts;
+}
+
 made_keeps : (setup : CourtSetup) (rows : Rows) (case row : ℕ) → AreSound setup rows → (command : Command) → refusal setup (parts_of rows) command ≡ None → made_touches case (change_made row command (answer_if_made setup (parts_of rows) command)) ≡ false → KeepsEvents case rows (rows_after rows command)
-made_keeps setup rows case row sound (OpenCase of filed) free other = record { days = refl; deadlines = refl; hearings = λ motion. refl }
+made_keeps setup rows case row sound (OpenCase of filed) free other = record { days = refl; deadlines = refl; hearings = λ motion. refl; facts = refl }
 made_keeps setup rows case row sound (Start of period event second service) free other = record {
   days = refl;
   deadlines = filter-append (is_deadline_in case) rows.deadlines (record { case = of; number = next_deadline (parts_of rows) of; row = started period event second service } ∷ []) ∙ rw other (append-nil (filter (is_deadline_in case) rows.deadlines));
   hearings = λ motion. refl;
+  facts = refl;
 }
 made_keeps setup rows case row sound (FileAct of deadline filing) free other = record {
   days = refl;
   deadlines = other_deadline case of deadline _ other rows.deadlines;
   hearings = λ motion. refl;
+  facts = refl;
 }
 made_keeps setup rows case row sound (Extend of deadline request) free other = record {
   days = refl;
-  deadlines = other_deadline case of deadline _ other rows.deadlines;
+  deadlines = other_deadline case of deadline _ (extension_touches case row of deadline request (is_order request.grant) _ other) rows.deadlines;
   hearings = λ motion. refl;
+  facts = refl;
 }
-made_keeps setup rows case row sound (Motion of served need) free other = record { days = refl; deadlines = refl; hearings = λ motion. refl }
+made_keeps setup rows case row sound (Motion of served need) free other = record { days = refl; deadlines = refl; hearings = λ motion. refl; facts = refl }
 made_keeps setup rows case row sound (Book s) free other =
     let few = count_of s.first s.count (can_book setup (parts_of rows) s free).fits in
     let short : nat_le s.count 96 ≡ true = grind (arith, nat_tests) in
     let differ : (s.case == case) ≡ false = rw short at other in
-    record { days = refl; deadlines = refl; hearings = λ motion. rw differ at (set_docketed setup rows s sound free case motion) }
+    record { days = refl; deadlines = refl; hearings = λ motion. rw differ at (set_docketed setup rows s sound free case motion); facts = refl }
 made_keeps setup rows case row sound (MoveHearing s) free other =
     let few = count_of s.first s.count (can_move setup (parts_of rows) s free).fits in
     let short : nat_le s.count 96 ≡ true = grind (arith, nat_tests) in
     let differ : (s.case == case) ≡ false = rw short at other in
-    record { days = refl; deadlines = refl; hearings = λ motion. rw differ at (moved_docketed rows s case motion) }
+    record { days = refl; deadlines = refl; hearings = λ motion. rw differ at (moved_docketed rows s case motion); facts = refl }
 made_keeps setup rows case row sound (Cancel of of_motion) free other =
-    record { days = refl; deadlines = refl; hearings = λ motion. rw other at (after_taking rows.hearings of of_motion case motion) }
+    record { days = refl; deadlines = refl; hearings = λ motion. rw other at (after_taking rows.hearings of of_motion case motion); facts = refl }
 made_keeps setup rows case row sound (Holiday day list) free other = absurd (false≢true (sym other))
 made_keeps setup rows case row sound (Inaccessible day from to) free other = absurd (false≢true (sym other))
+made_keeps setup rows case row sound (Fact of (Ended deadline why dated)) free other = recorded_elsewhere rows case of (Ended deadline why dated) other
+made_keeps setup rows case row sound (Fact of (Resumed deadline dated)) free other = recorded_elsewhere rows case of (Resumed deadline dated) other
+made_keeps setup rows case row sound (Fact of (Closed why dated)) free other = recorded_elsewhere rows case of (Closed why dated) other
+made_keeps setup rows case row sound (Fact of (Reopened dated)) free other = recorded_elsewhere rows case of (Reopened dated) other
+made_keeps setup rows case row sound (Fact of (Ruled of_motion how dated)) free other =
+    let P : Option Hearing → Type 0 = λ set. made_touches case (change_made row (Fact of (Ruled of_motion how dated)) (answer.Ruled (option_map (λ (h : Hearing). h.day) (if_ahead dated set)))) ≡ false in
+    ruled_elsewhere rows case row of of_motion how dated (if_ahead dated (hearing_of rows of of_motion)) (subst P (hearing_seen setup rows sound of of_motion) other)
+made_keeps setup rows case row sound (Fact of (Assigned judge referred dated)) free other = recorded_elsewhere rows case of (Assigned judge referred dated) other
+made_keeps setup rows case row sound (Fact of Titled) free other = recorded_elsewhere rows case of Titled other
+made_keeps setup rows case row sound (Fact of (Labelled counted number)) free other = recorded_elsewhere rows case of (Labelled counted number) other
 
 step_keeps : (setup : CourtSetup) (rows : Rows) (case row : ℕ) → AreSound setup rows → (command : Command) → made_touches case (change_made row command (step setup rows command).1) ≡ false → KeepsEvents case rows (step setup rows command).0
 unfolding step answered
 step_keeps setup rows case row sound command other = by_refusal (refusal setup (parts_of rows) command) refl other where
   by_refusal : (r : Option Refusal) → refusal setup (parts_of rows) command ≡ r → made_touches case (change_made row command (option_map_or answer.Refused r (answer_if_made setup (parts_of rows) command))) ≡ false → KeepsEvents case rows (option_map_or (λ refused. rows) r (rows_after rows command))
-  by_refusal (Some refused) is other = record { days = refl; deadlines = refl; hearings = λ motion. refl }
+  by_refusal (Some refused) is other = record { days = refl; deadlines = refl; hearings = λ motion. refl; facts = refl }
   by_refusal None free other = made_keeps setup rows case row sound command free other
 
 -- the last row of some changes, and of one more that may be none

@@ -34,6 +34,7 @@ followed judge case motion before change = if is_of case motion change then chan
 abbrev pub follow : (judge : Option ℕ) → (case motion : ℕ) → Option HearingHistory → Change → Option HearingHistory
 follow judge case motion before (change.Hearing h) = followed judge case motion before h
 follow judge case motion before (change.Deadline of) = before
+follow judge case motion before (change.Judges of to referred) = before
 follow judge case motion before change.Days = before
 
 -- the hearing of that motion after some changes, in their order: none if it was never set before the judge

@@ -3,7 +3,7 @@ use Rattle.std.specs.Prelude.{◌≡◌, ◌⊎◌, ℕ, ◌+◌, ◌<◌, List,
 use Rattle.docket_laws.specs.Words.{docket_after}
 use Rattle.docket_rows.specs.declared.command.Command.{Command}
 use Rattle.docket_rows.specs.declared.hearing.Hearing.{Hearing}
-use Rattle.docket_rows.specs.Words.{CourtSetup, Rows, hearing_of, is_deadline_in, opening_rows, step}
+use Rattle.docket_rows.specs.Words.{CourtSetup, Rows, hearing_of, is_deadline_in, is_fact_in, opening_rows, step}
 use Rattle.docket_selection.specs.declared.changes.change.RowChange.{RowChange}
 use Rattle.docket_selection.specs.declared.changes.history.HearingHistory.{HearingHistory}
 use Rattle.docket_selection.specs.Changes.Change.{change_made}
@@ -37,11 +37,13 @@ HistoriesEndInTheDocket =
     (setup : CourtSetup) (commands : List Command) (judge : Option ℕ) (case motion : ℕ)
     → last_hearing (history_of judge case motion (changes_by setup commands)) ≡ hearing_before judge (hearing_of (docket_after setup commands) case motion)
 
--- all on which the events of a case rest is as it was before: the court's days, the deadlines of the case, and its hearings
+-- all on which the events of a case rest is as it was before: the court's days, the deadlines of the case, its hearings, and what is
+-- recorded of it
 pub record KeepsEvents (case : ℕ) (before after : Rows) : Type 0 where
   pub days : after.days ≡ before.days
   pub deadlines : filter (is_deadline_in case) after.deadlines ≡ filter (is_deadline_in case) before.deadlines
   pub hearings : (motion : ℕ) → hearing_of after case motion ≡ hearing_of before case motion
+  pub facts : filter (is_fact_in case) after.facts ≡ filter (is_fact_in case) before.facts
 
 -- a command, after these, leaves the revision of the case's events, and all on which they rest
 pub record KeepsRevision (setup : CourtSetup) (commands : List Command) (command : Command) (case : ℕ) : Type 0 where

@@ -20,6 +20,7 @@ and_motion_of case changed motion motions = if changed == case then and_motion m
 abbrev pub with_named : (case : ℕ) → List ℕ → Change → List ℕ
 with_named case motions (change.Hearing h) = and_motion_of case h.case h.motion motions
 with_named case motions (change.Deadline of) = motions
+with_named case motions (change.Judges of to referred) = motions
 with_named case motions change.Days = motions
 
 -- those of the case, each once, in the order in which the changes name them first

@@ -27,6 +27,8 @@ pub record IsExplained (days : DaysByReadingView) (clock : ClockView) (d : Sheet
 pub record IsSheetExplained (days : DaysByReadingView) (clock : ClockView) (s : Sheet) (e : ExplainedSheet) : Type 0 where
   pub case : e.case ≡ s.case
   pub filed : e.filed ≡ s.filed
+  pub closed : e.closed ≡ s.closed
+  pub assigned : e.assigned ≡ s.assigned
   pub deadlines : AreAlike (IsExplained days clock) s.deadlines e.deadlines.items
   pub motions : e.motions ≡ s.motions
 

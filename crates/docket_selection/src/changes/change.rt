@@ -1,9 +1,10 @@
 //! What a row changed of what calendars show.
 
 ghost use Rattle.std.specs.Prelude.{◌≡◌, None};
-ghost use Rattle.docket_selection.specs.Changes.Change.{change_asked, change_made, hearing_change, setting_made};
+ghost use Rattle.docket_selection.specs.Changes.Change.{change_asked, change_by, change_made, day_taken, fact_change, hearing_change, setting_made};
 
-use docket_rows::{Answer, Command, Hearing, Setting};
+use court_clock::Day;
+use docket_rows::{Answer, Command, Fact, Hearing, Setting};
 
 /// A change of the hearing of a motion.
 #[derive(Clone, Copy, Debug, PartialEq, Eq)]
@@ -21,10 +22,12 @@ pub struct HearingChange {
 pub enum Change {
     /// The court's days: a holiday or an outage was entered.
     Days,
-    /// A deadline of the case of that number: it was started or extended, or an act was recorded for it.
+    /// A deadline of the case of that number: it was started, extended, ended or resumed, or an act or a fact of the case was recorded.
     Deadline(u32),
     /// The hearing of a motion.
     Hearing(HearingChange),
+    /// The judges of the case of that number: it was assigned to the first, and may be referred to the second.
+    Judges(u32, u8, Option<u8>),
 }
 
 /// A change, with the row that made it.
@@ -43,8 +46,28 @@ pub fn change_made(row: u64, command: &Command, answer: &Answer) -> Option<RowCh
     if let Answer::Refused(_) = answer {
         return None;
     }
-    let change = change_asked(command)?;
+    let change = change_by(command, day_taken(answer))?;
     Some(RowChange { row, change })
+}
+
+/// The day of the hearing that a ruling took off the calendar, by what it was answered.
+fn day_taken(answer: &Answer) -> Option<Day>
+    ensures { result ≡ day_taken answer.now }
+{
+    match answer {
+        Answer::Ruled(day) => *day,
+        _ => None,
+    }
+}
+
+/// What a command changed that isn't refused: what it asks for, or where it took a later hearing off as a ruling that hearing.
+fn change_by(command: &Command, taken: Option<Day>) -> Option<Change>
+    ensures { result ≡ change_by command.now taken }
+{
+    match taken {
+        Some(_) => Some(Change::Hearing(hearing_change(command)?)),
+        None => change_asked(command),
+    }
 }
 
 /// What a command asks for changes.
@@ -55,11 +78,30 @@ fn change_asked(command: &Command) -> Option<Change>
         Command::Start { case, .. }
         | Command::FileAct { case, .. }
         | Command::Extend { case, .. } => Some(Change::Deadline(*case)),
+        Command::Fact { case, fact } => Some(fact_change(*case, fact)),
         Command::Holiday { .. } | Command::Inaccessible { .. } => Some(Change::Days),
         Command::OpenCase { .. } | Command::Motion { .. } => None,
         Command::Book(_) | Command::MoveHearing(_) | Command::Cancel { .. } => {
             Some(Change::Hearing(hearing_change(command)?))
         }
+    }
+}
+
+/// What a fact of a case changes.
+fn fact_change(case: u32, fact: &Fact) -> Change
+    ensures { result ≡ fact_change case fact.now }
+{
+    match *fact {
+        Fact::Ended { .. } | Fact::Resumed { .. } => Change::Deadline(case),
+        Fact::Closed { .. } | Fact::Reopened { .. } => Change::Deadline(case),
+        Fact::Ruled { .. } => Change::Deadline(case),
+        Fact::Assigned {
+            judge,
+            referred,
+            ..
+        } => Change::Judges(case, judge, referred),
+        Fact::Titled => Change::Deadline(case),
+        Fact::Labelled { .. } => Change::Deadline(case),
     }
 }
 

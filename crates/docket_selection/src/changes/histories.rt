@@ -1,11 +1,13 @@
 //! The histories of all hearings, and the rows that changed cases last.
 
 ghost use Rattle.std.specs.Prelude.{◌≡◌, ℕ, IfOk, OnOk};
+ghost use Rattle.docket_selection.specs.Changes.Assigned.{was_assigned};
 ghost use Rattle.docket_selection.specs.Changes.History.{follow, followed, history_of};
 ghost use Rattle.docket_selection.specs.Changes.Named.{motions_named};
 ghost use Rattle.docket_selection.specs.Changes.Noted.{NotesHistories, noted};
 ghost use Rattle.docket_selection.specs.Changes.Revision.{revision_of};
 
+use crate::changes::assigned::{CasesAssigned, cases_assigned, is_noted};
 use crate::changes::change::{Change, HearingChange, RowChange};
 use crate::changes::history::{HearingHistory, changed_to};
 use crate::changes::named::{CaseMotions, motions_by, motions_of};
@@ -18,19 +20,21 @@ use std::marker::Model;
 type Noted = HashMap<(u32, u32), HearingHistory>;
 
 /// Some changes, in their order: what became of each hearing by them, as one judge saw it or as all did; of which motions of a
-/// case that is known; and which row changed each case last.
+/// case that is known; which cases were assigned or referred to that judge; and which row changed each case last.
 #[derive(Debug, Drop)]
 pub struct HearingHistories {
     judge: Option<u8>,
     changes: Vec<RowChange>,
     noted: Noted,
     motions: CaseMotions,
+    assigned: CasesAssigned,
     cases: CaseRows,
     days: u64,
 }
 
 impl Model for HearingHistories {
     ghost use Rattle.std.specs.Prelude.{◌≡◌};
+    ghost use Rattle.docket_selection.specs.Changes.Assigned.{NotesAssigned};
     ghost use Rattle.docket_selection.specs.Changes.Named.{NotesMotions};
     ghost use Rattle.docket_selection.specs.Changes.Noted.{FollowedChanges, NotesHistories, NotesRows};
     ghost use Rattle.docket_selection.specs.Changes.Revision.{changes_days, last_row};
@@ -39,7 +43,7 @@ impl Model for HearingHistories {
 
     ghost view = { λ h. record { judge = h.judge; changes = h.changes.items } };
 
-    ghost invariant = { λ h. NotesHistories h.judge h.changes.items h.noted × NotesMotions h.changes.items h.motions × NotesRows h.changes.items h.cases × (h.days ≡ last_row changes_days h.changes.items) };
+    ghost invariant = { λ h. NotesHistories h.judge h.changes.items h.noted × NotesMotions h.changes.items h.motions × NotesAssigned h.judge h.changes.items h.assigned × NotesRows h.changes.items h.cases × (h.days ≡ last_row changes_days h.changes.items) };
 }
 
 impl HearingHistories {
@@ -53,6 +57,7 @@ impl HearingHistories {
     {
         let noted = noted_by(alloc, judge, &changes)?;
         let motions = motions_by(alloc, &changes)?;
+        let assigned = cases_assigned(alloc, judge, &changes)?;
         let cases = rows_by(alloc, &changes)?;
         let days = days_row(&changes);
         Ok(HearingHistories {
@@ -60,6 +65,7 @@ impl HearingHistories {
             changes,
             noted,
             motions,
+            assigned,
             cases,
             days,
         })
@@ -86,8 +92,15 @@ impl HearingHistories {
         motions_of(&self.motions, case)
     }
 
-    /// The revision of the events of a case: the number of the last row that changed a deadline or a hearing of it, or the
-    /// court's days; 0 where none did.
+    /// Whether a row assigned or referred the case to the judge.
+    pub fn was_assigned(&self, case: u32) -> bool
+        ensures { result ≡ was_assigned self.now.judge case self.now.changes }
+    {
+        is_noted(&self.assigned, case)
+    }
+
+    /// The revision of the events of a case: the number of the last row that changed a deadline, a hearing or the judges of it, or
+    /// the court's days; 0 where none did.
     pub fn revision(&self, case: u32) -> u64
         ensures { result ≡ revision_of case self.now.changes }
     {

@@ -46,7 +46,7 @@ fn note_row(rows: &mut CaseRows, change: &RowChange) -> Result<(), AllocError>
     Ok(())
 }
 
-/// The case of the deadline or the hearing that is changed.
+/// The case of the deadline, the hearing or the judges that are changed.
 fn case_changed(change: &Change) -> Option<u32>
     ensures { result ≡ case_changed change.now }
 {
@@ -54,6 +54,7 @@ fn case_changed(change: &Change) -> Option<u32>
         Change::Days => None,
         Change::Deadline(case) => Some(*case),
         Change::Hearing(hearing) => Some(hearing.case),
+        Change::Judges(case, _, _) => Some(*case),
     }
 }
 

@@ -6,7 +6,7 @@ ghost use Rattle.docket_selection.specs.Explained.Explained.{AreAlike, AreExplai
 use court_clock::{Clock, Day};
 use court_days::Days;
 use deadline_reasons::{Reason, reasons_of};
-use docket_rows::{Sheet, SheetDeadline, SheetMotions};
+use docket_rows::{Assignment, Closure, Sheet, SheetDeadline, SheetMotions};
 use reason_notes::{DaysByReading, other_end};
 use rule6::Shown;
 use std::alloc::{AllocError, Global};
@@ -29,6 +29,10 @@ pub struct ExplainedSheet {
     pub case: u32,
     /// The day on which it was filed.
     pub filed: Day,
+    /// How it was closed, if it was and wasn't reopened.
+    pub closed: Option<Closure>,
+    /// Who has it, if it was assigned.
+    pub assigned: Option<Assignment>,
     /// Its deadlines, in the order in which they were started or entered.
     pub deadlines: Vec<ExplainedDeadline>,
     /// Its motions.
@@ -80,12 +84,16 @@ fn explained_sheet(
     let Sheet {
         case,
         filed,
+        closed,
+        assigned,
         deadlines,
         motions,
     } = sheet;
     Ok(ExplainedSheet {
         case,
         filed,
+        closed,
+        assigned,
         deadlines: explained_deadlines(alloc, days, clock, deadlines.into_vec())?,
         motions,
     })

@@ -9,7 +9,7 @@ use Rattle.hearing_slots.specs.declared.booking.Booking.{Booking}
 use Rattle.docket_rows.specs.declared.answer.Answer.{Answer}
 use Rattle.docket_rows.specs.declared.answer.Answer.TheVariants as answer
 use Rattle.docket_rows.specs.declared.refusal.Refusal.{Refusal}
-use Rattle.docket_rows.specs.declared.refusal.Refusal.TheVariants.{JudgeBusy, RoomBusy, HearingThatDay, NoticeLost}
+use Rattle.docket_rows.specs.declared.refusal.Refusal.TheVariants.{JudgeBusy, RoomBusy, HearingThatDay, NoticeLost, HearingAhead}
 use Rattle.docket_rows.specs.declared.sheet.Sheet.{Sheet}
 use Rattle.docket_rows.specs.declared.view.View.{View}
 use Rattle.docket_rows.specs.declared.view.View.TheVariants as view
@@ -31,6 +31,7 @@ same_detail (JudgeBusy case motion) = refl
 same_detail (RoomBusy case motion) = refl
 same_detail (HearingThatDay case motion) = refl
 same_detail (NoticeLost case motion) = refl
+same_detail (HearingAhead case motion) = refl
 same_detail refusal = refl
 
 same_refusal : (refusal : Refusal) → named_refusal [] refusal ≡ refusal_text refusal

@@ -82,7 +82,7 @@ module _ (a b : CourtView) (same : IsSameCourt a b) where
       ∙ ap (λ s. sheets_from b parts 1 last_case ++ s) (calendars_alike parts 0 (length a.judges) ∙ ap (λ judges. calendars_from b parts 0 (length judges)) same.judges)
 
   opening_alike : opening_rows (setup_of a) ≡ opening_rows (setup_of b)
-  opening_alike = ap (λ days. record { days = days; cases = []; deadlines = []; motions = []; hearings = [] }) same.days
+  opening_alike = ap (λ days. record { days = days; cases = []; deadlines = []; motions = []; hearings = []; facts = [] }) same.days
 
 pub run_text_alike : (a b : CourtView) (rows : List Row) → IsSameCourt a b → run_text a rows ≡ run_text b rows
 unfolding run_text

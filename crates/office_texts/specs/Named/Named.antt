@@ -10,12 +10,12 @@ use Rattle.hearing_slots.specs.declared.booking.Booking.{Booking}
 use Rattle.docket_rows.specs.declared.answer.Answer.{Answer}
 use Rattle.docket_rows.specs.declared.answer.Answer.TheVariants as answer
 use Rattle.docket_rows.specs.declared.refusal.Refusal.{Refusal}
-use Rattle.docket_rows.specs.declared.refusal.Refusal.TheVariants.{JudgeBusy, RoomBusy, HearingThatDay, NoticeLost}
+use Rattle.docket_rows.specs.declared.refusal.Refusal.TheVariants.{JudgeBusy, RoomBusy, HearingThatDay, NoticeLost, HearingAhead}
 use Rattle.docket_rows.specs.declared.sheet.Sheet.{Sheet}
 use Rattle.docket_rows.specs.declared.view.View.{View}
 use Rattle.docket_rows.specs.declared.view.View.TheVariants as view
 use Rattle.docket_rows.specs.Words.{refusal_number, refusal_name}
-use Rattle.office_texts.specs.Words.{answer_text, deadline_line, motion_lines, name_of, refusal_detail, span_text, view_lines}
+use Rattle.office_texts.specs.Words.{and_closed_text, answer_text, assigned_line, deadline_line, motion_lines, name_of, refusal_detail, span_text, view_lines}
 use Rattle.office_texts.specs.Run.Words.{row_numbers}
 use Rattle.office_texts.specs.declared.run.reply.Reply.{Reply}
 use Rattle.office_texts.specs.declared.run.reply.Reply.TheVariants.{Made, Viewed}
@@ -35,6 +35,7 @@ named_detail named (JudgeBusy case motion) = named_motion named case motion
 named_detail named (RoomBusy case motion) = named_motion named case motion
 named_detail named (HearingThatDay case motion) = named_motion named case motion
 named_detail named (NoticeLost case motion) = named_motion named case motion
+named_detail named (HearingAhead case motion) = named_motion named case motion
 named_detail named refusal = refusal_detail refusal
 
 -- `15 JudgeBusy 1:25-cv-01234-ABC 2`
@@ -57,11 +58,12 @@ named_calendar court named judge bookings = codes "judge " ++ name_of court.judg
 
 -- `case 1:25-cv-01234-ABC filed 2025-03-03`
 abbrev pub named_case_line : List NamedCase → Sheet → List ℕ
-named_case_line named s = codes "case " ++ case_text named s.case ++ codes " filed " ++ day_text s.filed ++ (10 ∷ [])
+named_case_line named s = codes "case " ++ case_text named s.case ++ codes " filed " ++ day_text s.filed ++ and_closed_text s.closed ++ (10 ∷ [])
 
--- the line of the case, then its deadlines, then its motions
+-- the line of the case, then who has it, then its deadlines, then its motions
 unfoldable pub named_sheet : CourtView → List NamedCase → Sheet → List ℕ
-named_sheet court named s = named_case_line named s ++ flat_map (deadline_line court.clock) s.deadlines ++ flat_map (motion_lines court) s.motions
+named_sheet court named s =
+    named_case_line named s ++ assigned_line court.judges s.assigned ++ flat_map (deadline_line court.clock) s.deadlines ++ flat_map (motion_lines court) s.motions
 
 -- what a query shows
 abbrev pub named_view : CourtView → List NamedCase → View → List ℕ

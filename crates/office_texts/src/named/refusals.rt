@@ -53,6 +53,7 @@ fn push_detail(text: &mut String, cases: &Cases, refusal: &Refusal) -> Result<()
         Refusal::RoomBusy(case, motion) => push_motion(text, cases, *case, *motion),
         Refusal::HearingThatDay(case, motion) => push_motion(text, cases, *case, *motion),
         Refusal::NoticeLost(case, motion) => push_motion(text, cases, *case, *motion),
+        Refusal::HearingAhead(case, motion) => push_motion(text, cases, *case, *motion),
         _ => Ok(()),
     }
 }

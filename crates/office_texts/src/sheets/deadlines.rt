@@ -1,14 +1,14 @@
 //! A deadline of a sheet.
 
-ghost use Rattle.std.specs.Prelude.{◌≡◌, ◌<◌, OnOk, IfSome};
+ghost use Rattle.std.specs.Prelude.{◌≡◌, ◌<◌, ◌++◌, OnOk, IfSome};
 ghost use Rattle.office_texts.specs.Added.{AddsText};
-ghost use Rattle.office_texts.specs.Sheets.{act_done_text, deadline_line, means_text, state_text, state_word};
+ghost use Rattle.office_texts.specs.Sheets.{act_done_text, and_ended_text, deadline_line, ended_text, means_text, state_text, state_word};
 
 use crate::numbers::push_minute;
 use crate::periods::push_period;
 use crate::shown::push_shown;
 use court_clock::Clock;
-use docket_rows::{SheetDeadline, State};
+use docket_rows::{Ending, SheetDeadline, State};
 use rule6::{Filing, Means};
 use std::alloc::AllocError;
 use std::fmt::Write;
@@ -30,17 +30,60 @@ pub fn push_deadline(
     text.push_str(" ")?;
     push_shown(text, clock, &deadline.shown)?;
     text.push_str(" ")?;
-    push_state(text, deadline.state, deadline.row.filed())?;
+    push_state(text, deadline.state, deadline.row.filed(), deadline.ended)?;
     text.push_str("\n")
 }
 
-/// Adds whether the deadline was met, and by which act.
-fn push_state(text: &mut String, state: State, filed: Option<Filing>) -> Result<(), AllocError>
+/// Adds whether the deadline was met, and by which act, and why it is due no more.
+fn push_state(
+    text: &mut String,
+    state: State,
+    filed: Option<Filing>,
+    ended: Option<Ending>,
+) -> Result<(), AllocError>
     requires { IfSome filed (λ f. f.minute < 1440) }
-    ensures { OnOk result (AddsText text.old text.new (state_text state filed)) }
+    ensures { OnOk result (AddsText text.old text.new (state_text state filed ended)) }
+{
+    match (state, ended) {
+        (State::Pending, Some(why)) => push_ended(text, why),
+        _ => push_act(text, state, filed, ended),
+    }
+}
+
+/// Adds whether the deadline was met, by which act, and why it is due no more after that.
+fn push_act(
+    text: &mut String,
+    state: State,
+    filed: Option<Filing>,
+    ended: Option<Ending>,
+) -> Result<(), AllocError>
+    requires { IfSome filed (λ f. f.minute < 1440) }
+    ensures { OnOk result (AddsText text.old text.new (state_word state ++ act_done_text filed ++ and_ended_text ended)) }
 {
     text.push_str(state_word(state))?;
-    push_act_done(text, filed)
+    push_act_done(text, filed)?;
+    push_and_ended(text, ended)
+}
+
+/// Adds why a deadline is due no more. `Err` says that memory ran out.
+pub fn push_ended(text: &mut String, why: Ending) -> Result<(), AllocError>
+    ensures { OnOk result (AddsText text.old text.new (ended_text why)) }
+{
+    text.push_str("ended ")?;
+    text.push_str(why.word())
+}
+
+/// Adds why a deadline is due no more after what is said of it, if it was ended. `Err` says that memory ran out.
+pub fn push_and_ended(text: &mut String, ended: Option<Ending>) -> Result<(), AllocError>
+    ensures { OnOk result (AddsText text.old text.new (and_ended_text ended)) }
+{
+    match ended {
+        None => Ok(()),
+        Some(why) => {
+            text.push_str(", ")?;
+            push_ended(text, why)
+        }
+    }
 }
 
 /// Whether the deadline was met.

@@ -2,30 +2,27 @@
 
 ghost use Rattle.std.specs.Prelude.{OnOk};
 ghost use Rattle.office_texts.specs.Added.{AddsText};
-ghost use Rattle.office_texts.specs.Sheets.{affidavits_text, hearing_line_if_set, hearing_text, motion_lines, need_text, panel_text, service_text};
+ghost use Rattle.office_texts.specs.Sheets.{affidavits_text, and_ruled_text, hearing_line_if_set, hearing_text, motion_lines, need_text, panel_text, ruled_text, service_text};
 
 use crate::calendars::{judge_name, push_span, room_name};
 use crate::numbers::push_number;
 use court_clock::Day;
 use court_days::Court;
-use docket_rows::{SheetHearing, SheetMotion};
+use docket_rows::{DatedRuling, SheetHearing, SheetMotion};
 use hearing_slots::Need;
 use std::alloc::AllocError;
 use std::fmt::Write;
 
-/// Adds the line of a motion, and that of its hearing, if one is set.
+/// Adds the line of a motion, and that of its hearing, if one is set. `Err` says that memory ran out.
 #[tactic(auto, unfolding(crate::specs::Sheets::motion_lines))]
-pub(super) fn push_motion(
-    text: &mut String,
-    court: &Court,
-    motion: &SheetMotion,
-) -> Result<(), AllocError>
+pub fn push_motion(text: &mut String, court: &Court, motion: &SheetMotion) -> Result<(), AllocError>
     ensures { OnOk result (AddsText text.old text.new (motion_lines court.now motion.now)) }
 {
     let served = motion.served;
     let number = motion.number;
     write!(text, "motion {number} served {served} need ")?;
     push_need(text, motion.need)?;
+    push_and_ruled(text, motion.ruling)?;
     text.push_str("\n")?;
     push_hearing_if_set(text, court, motion.hearing)
 }
@@ -37,6 +34,28 @@ fn push_need(text: &mut String, need: Need) -> Result<(), AllocError>
     match need {
         Need::ExParte => text.push_str("exparte"),
         Need::Days(days) => push_number(text, u64::from(days)),
+    }
+}
+
+/// Adds how a motion was ruled on. `Err` says that memory ran out.
+pub fn push_ruled(text: &mut String, ruled: DatedRuling) -> Result<(), AllocError>
+    ensures { OnOk result (AddsText text.old text.new (ruled_text ruled)) }
+{
+    let dated = ruled.dated;
+    text.push_str(ruled.ruling.word())?;
+    write!(text, " {dated}")
+}
+
+/// Adds how a motion was ruled on after what is said of it, if it was. `Err` says that memory ran out.
+pub fn push_and_ruled(text: &mut String, ruled: Option<DatedRuling>) -> Result<(), AllocError>
+    ensures { OnOk result (AddsText text.old text.new (and_ruled_text ruled)) }
+{
+    match ruled {
+        None => Ok(()),
+        Some(ruled) => {
+            text.push_str(", ")?;
+            push_ruled(text, ruled)
+        }
     }
 }
 

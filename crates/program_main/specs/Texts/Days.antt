@@ -1,7 +1,8 @@
 -- A day as the text of an option says it, and which day that is.
-use Rattle.std.specs.Prelude.{◌≡◌, ◌<◌, ◌≤ℤ◌, ℕ, ℤ, pos, neg_ℤ, ◌-◌, ◌+ℤ◌, ◌-ℤ◌, int_lt, List, [], ◌∷◌, Option, Some, None, codes, drop, length, nat_eq, option_map, take, unwrap_or, if◌then◌else◌}
+use Rattle.std.specs.Prelude.{◌≡◌, ◌<◌, ◌≤ℤ◌, ℕ, ◌==◌, ℤ, pos, neg_ℤ, ◌-◌, ◌+ℤ◌, ◌-ℤ◌, int_lt, List, [], ◌∷◌, Option, Some, None, codes, drop, length, nat_eq, option_map, take, unwrap_or, if◌then◌else◌}
 use Rattle.std.specs.Int.{int_rem_euclid}
 use Rattle.std.specs.List.{ends_with, starts_with}
+use Rattle.std.specs.Option.{option_and_then}
 use Rattle.std.specs.Str.{bytes_eq}
 use Rattle.clap.specs.Words.{Text}
 use Rattle.court_clock.specs.Words.{ClockView, civil_of, day_of_text, weekday_of}
@@ -37,6 +38,10 @@ day_said text =
     else if bytes_eq text (codes "saturday") then Some (Next 5)
     else if bytes_eq text (codes "sunday") then Some (Next 6)
     else counted text
+
+-- the last of so many days, of which today is the first: `7` says the sixth after today
+abbrev pub last_of_days : Text → Option DaySaid
+last_of_days text = option_and_then (λ count. if count == 0 then None else Some (After (count - 1))) (number_of text)
 
 -- ---- which day that is
 

@@ -1,7 +1,7 @@
 //! A day as an option says it: by its date, or by a word that counts from today.
 
 ghost use Rattle.std.specs.Prelude.{◌≡◌, ℤ};
-ghost use Rattle.program_main.specs.Texts.Days.{before_today, count_of_days, counted, day_on, day_said, nearest_day, next_weekday, today_by};
+ghost use Rattle.program_main.specs.Texts.Days.{before_today, count_of_days, counted, day_on, day_said, last_of_days, nearest_day, next_weekday, today_by};
 
 use crate::texts::numbers::number_of;
 use court_clock::{Clock, Day, Instant};
@@ -112,6 +112,17 @@ fn before_today(text: &str) -> Option<DaySaid>
         Some(count) => Some(DaySaid::Before(count_of_days(count)?)),
         None => Some(DaySaid::Date(Day::from_text(text)?)),
     }
+}
+
+/// The last of so many days, of which today is the first: `7` says the sixth after today. None for a text that writes no number, or 0.
+pub(crate) fn last_of_days(text: &str) -> Option<DaySaid>
+    ensures { result ≡ last_of_days text.now }
+{
+    let count = number_of(text)?;
+    if count == 0 {
+        return None;
+    }
+    Some(DaySaid::After(count - 1))
 }
 
 /// A number of days, as `7d`.

@@ -6,11 +6,11 @@ ghost use Rattle.clap.specs.declared.error.kind.ErrorKind.{ErrorKind};
 ghost use Rattle.office_texts.specs.Names.Words.{case_called};
 ghost use Rattle.court_clock.specs.Words.{day_of_text};
 ghost use Rattle.program_main.specs.Options.Words.{IsAnswerFor, IsFaultAmong};
-ghost use Rattle.program_main.specs.Texts.Days.{day_said};
-ghost use Rattle.program_main.specs.Texts.Taken.{faults_unless, is_case_taken, is_day_taken, is_said_taken};
+ghost use Rattle.program_main.specs.Texts.Days.{day_said, last_of_days};
+ghost use Rattle.program_main.specs.Texts.Taken.{faults_unless, is_case_taken, is_count_taken, is_day_taken, is_said_taken};
 
 use crate::options::OptionsFault;
-use crate::texts::days::{DaySaid, day_said};
+use crate::texts::days::{DaySaid, day_said, last_of_days};
 use court_clock::Day;
 use office_texts::{CaseCalled, case_called};
 use std::alloc::Global;
@@ -89,12 +89,44 @@ pub fn said_option(
     }
 }
 
+/// The last of as many days as the text of the option of that name says, of which today is the first, if it is given. BadWords where it
+/// says no number or 0, and OutOfMemory where memory runs out.
+pub fn days_option(
+    alloc: Global,
+    name: &str,
+    text: Option<&str>,
+) -> Result<Option<DaySaid>, OptionsFault>
+    ensures day { IfOk result (λ day. day ≡ option_and_then last_of_days (option_map (λ text. text.now) text.entry)) }
+    ensures faults { IsAnswerFor (faults_unless (is_count_taken (option_map (λ text. text.now) text.entry))) result }
+    ensures taken { is_count_taken (option_map (λ text. text.now) text.entry) ≡ true → IfErr result (λ fault. fault ≡ OptionsFault.OutOfMemory) }
+{
+    match text {
+        None => Ok(None),
+        Some(text) => match last_of_days(text) {
+            Some(day) => Ok(Some(day)),
+            None => Err(no_count(alloc, name, text)),
+        },
+    }
+}
+
 /// The text is neither the number of a case nor a name.
 fn no_case(alloc: Global, shown: &str, text: &str) -> OptionsFault
     ensures { IsFaultAmong (ErrorKind.ValueValidation ∷ []) result }
 {
     match format!(in alloc;
         "error: invalid value '{text}' for '{shown}': write a case as its number, 1 to 4096, or as 1:25-cv-01234-ABC\n\nFor more information, try '--help'.\n"
+    ) {
+        Ok(text) => OptionsFault::BadWords(text),
+        Err(_) => OptionsFault::OutOfMemory,
+    }
+}
+
+/// The text of the option is no number of days.
+fn no_count(alloc: Global, name: &str, text: &str) -> OptionsFault
+    ensures { IsFaultAmong (ErrorKind.ValueValidation ∷ []) result }
+{
+    match format!(in alloc;
+        "error: invalid value '{text}' for '--{name} <N>': write a number of days, 1 or more\n\nFor more information, try '--help'.\n"
     ) {
         Ok(text) => OptionsFault::BadWords(text),
         Err(_) => OptionsFault::OutOfMemory,

@@ -16,7 +16,7 @@ use Rattle.rule_periods.specs.declared.grant.Grant.TheVariants.{ByDays}
 use Rattle.rule_periods.specs.declared.mark.Mark.{Mark}
 use Rattle.rule_periods.specs.declared.period.Entered.{Entered}
 use Rattle.rule_periods.specs.declared.period.Length.{Length}
-use Rattle.rule_periods.specs.declared.period.Length.TheVariants.{Days, Hours, ToDay}
+use Rattle.rule_periods.specs.declared.period.Length.TheVariants.{Days, Hours, ToDay, ToTime}
 use Rattle.rule_periods.specs.declared.period.Period.{Period}
 use Rattle.rule_periods.specs.declared.period.Period.TheVariants as period
 use Rattle.rule_periods.specs.declared.rule.RulePeriod.TheVariants.{Rule4m, Rule12a1Ai, Rule12a1AiiUs, Rule12a1AiiAbroad, Rule12a1B, Rule12a1C, Rule12a2, Rule12a3, Rule59b, Rule59e}
@@ -83,6 +83,7 @@ by_entered c clock length direction Filing false mark event second service filed
 by_entered c clock length Before Filing true mark event second service filed day suits_it files adds ends = absurd (no_side (is_given service) (is_second_for false second) suits_it)
 by_entered c clock (Hours h) After Filing true mark event second service filed day suits_it files adds ends = absurd (no_side (is_given service) (is_second_for false second) suits_it)
 by_entered c clock ToDay After Filing true mark event second service filed day suits_it files adds ends = absurd (no_side (is_given service) (is_second_for false second) suits_it)
+by_entered c clock ToTime After Filing true mark event second service filed day suits_it files adds ends = absurd (no_side (is_given service) (is_second_for false second) suits_it)
 by_entered c clock (Days n) After Filing true mark event (Some d) service filed day suits_it files adds ends = absurd (fails _ suits_it)
 by_entered c clock (Days n) After Filing true mark event None service filed day suits_it files adds ends = added_to c clock n mark event service filed day adds ends
 

@@ -1,5 +1,5 @@
 -- The lines of an act: when and how it was done, and by how much it was in time or late, or that this isn't decided.
-use Rattle.std.specs.Prelude.{ℕ, ◌/◌, ◌%◌, ◌==◌, ℤ, int_lt, Bool, true, false, List, [], ◌++◌, Option, Some, None, codes, if◌then◌else◌}
+use Rattle.std.specs.Prelude.{ℕ, ◌/◌, ◌%◌, ◌==◌, ℤ, int_lt, List, [], ◌++◌, Option, Some, None, codes, if◌then◌else◌}
 use Rattle.std.specs.Fmt.{decimal}
 use Rattle.court_clock.specs.declared.direction.Direction.{Direction}
 use Rattle.court_clock.specs.declared.direction.Direction.TheVariants.{After, Before}
@@ -11,11 +11,12 @@ use Rattle.rule6.specs.declared.timeliness.Means.{Means}
 use Rattle.rule6.specs.declared.timeliness.Means.TheVariants.{Electronic, Paper}
 use Rattle.rule6.specs.declared.timeliness.Shown.{Shown}
 use Rattle.rule6.specs.declared.timeliness.Shown.TheVariants.{Last, Until}
+use Rattle.rule6.specs.Words.{day_end}
 use Rattle.rule_periods.specs.declared.period.Period.{Period}
 use Rattle.rule_periods.specs.Words.{DeadlineRowView, direction_of, is_set, runs_from, shown_of}
-use Rattle.reason_texts.specs.Words.{minute_time, note_line}
+use Rattle.reason_texts.specs.Words.{day_end_time, minute_time, note_line}
 use Rattle.reason_notes.specs.declared.margins.margin.Margin.{Margin}
-use Rattle.reason_notes.specs.declared.margins.margin.Margin.TheVariants.{DaysEarly, OnLastDay, AfterClosing, DaysLate, SecondsEarly, SecondsLate, Undecided}
+use Rattle.reason_notes.specs.declared.margins.margin.Margin.TheVariants.{DaysEarly, OnLastDay, AfterDayEnd, DaysLate, SecondsEarly, SecondsLate, Undecided}
 use Rattle.reason_notes.specs.Margins.Ends.{end_day}
 use Rattle.reason_notes.specs.Margins.Margin.{margin_of}
 
@@ -27,18 +28,15 @@ means_text Paper = codes ", on paper"
 abbrev pub done_text : (minute : ℕ) → Means → List ℕ
 done_text minute means = codes "done at " ++ minute_time minute ++ means_text means
 
--- the last day ends when the clerk's office closes for filing on paper, and else at midnight (Fed. R. Civ. P. 6(a)(4))
-abbrev pub is_paper : Means → Bool
-is_paper Paper = true
-is_paper Electronic = false
+-- the minute at which a last day ends for an act by these means, if it ends before midnight
+abbrev pub end_by : ClockView → Shown → Means → Option ℕ
+end_by clock (Last day act) means = day_end clock act means
+end_by clock shown means = None
 
-abbrev pub ends_at_closing : Shown → Means → Bool
-ends_at_closing (Last day act.Filing) means = is_paper means
-ends_at_closing shown means = false
-
-abbrev pub day_end_text : ClockView → Bool → List ℕ
-day_end_text clock true = minute_time clock.closes
-day_end_text clock false = codes "midnight"
+-- what ends at that minute
+abbrev pub after_words : Means → List ℕ
+after_words Paper = codes " min after closing at "
+after_words Electronic = codes " min after e-filing ended at "
 
 -- `1 day`, `2 days`
 abbrev pub days_text : ℕ → List ℕ
@@ -52,21 +50,21 @@ seconds_text n = decimal (n / 3600) ++ codes " h " ++ decimal (n / 60 % 60) ++ c
 abbrev pub first_words : Margin → List ℕ
 first_words (DaysEarly n) = codes "timely, "
 first_words OnLastDay = codes "timely, on the last day, which ends at "
-first_words (AfterClosing n) = codes "late, "
+first_words (AfterDayEnd n) = codes "late, "
 first_words (DaysLate n) = codes "late, "
 first_words (SecondsEarly n) = codes "timely, "
 first_words (SecondsLate n) = codes "late, "
 first_words Undecided = codes "undecided: the end is beyond the days covered"
 
 -- how much it is, and on the last day when that ends
-abbrev pub detail_text : ClockView → (closing : Bool) → Margin → List ℕ
-detail_text clock closing (DaysEarly n) = days_text n
-detail_text clock closing OnLastDay = day_end_text clock closing
-detail_text clock closing (AfterClosing n) = decimal n ++ codes " min after closing at " ++ minute_time clock.closes
-detail_text clock closing (DaysLate n) = days_text n
-detail_text clock closing (SecondsEarly n) = seconds_text n
-detail_text clock closing (SecondsLate n) = seconds_text n
-detail_text clock closing Undecided = []
+abbrev pub detail_text : (end : Option ℕ) → Means → Margin → List ℕ
+detail_text end means (DaysEarly n) = days_text n
+detail_text end means OnLastDay = day_end_time end
+detail_text end means (AfterDayEnd n) = decimal n ++ after_words means ++ day_end_time end
+detail_text end means (DaysLate n) = days_text n
+detail_text end means (SecondsEarly n) = seconds_text n
+detail_text end means (SecondsLate n) = seconds_text n
+detail_text end means Undecided = []
 
 -- the words that it ends with
 abbrev pub last_words : Margin → List ℕ
@@ -77,8 +75,8 @@ last_words (SecondsLate n) = codes " after the end"
 last_words margin = []
 
 -- `timely, 80 days before this last day`
-unfoldable pub margin_text : ClockView → (closing : Bool) → Margin → List ℕ
-margin_text clock closing margin = first_words margin ++ detail_text clock closing margin ++ last_words margin
+unfoldable pub margin_text : (end : Option ℕ) → Means → Margin → List ℕ
+margin_text end means margin = first_words margin ++ detail_text end means margin ++ last_words margin
 
 -- the section that decides; that a time to serve ends at midnight is a choice of ours
 abbrev pub margin_section : Shown → List ℕ
@@ -104,7 +102,7 @@ early_line (Some event) done =
 -- the act, and then by how much it was in time or late for a deadline of which this is shown
 unfoldable pub margin_lines : ClockView → Shown → Filing → List ℕ
 margin_lines clock shown filing =
-    note_line (Some filing.day) (done_text filing.minute filing.means) (codes "docketed") ++ note_line (end_day clock shown) (margin_text clock (ends_at_closing shown filing.means) (margin_of clock shown filing)) (margin_section shown)
+    note_line (Some filing.day) (done_text filing.minute filing.means) (codes "docketed") ++ note_line (end_day clock shown) (margin_text (end_by clock shown filing.means) filing.means (margin_of clock shown filing)) (margin_section shown)
 
 -- the lines of an act that was done for a deadline
 unfoldable pub act_lines : DaysView → ClockView → DeadlineRowView → Filing → List ℕ

@@ -1,7 +1,7 @@
 -- Other readings of what the Rules leave open. What is shown by one is `shown_of` with one clause changed: of the deadline as
 -- it is docketed, and of the same deadline with another act, another event, or its days counted in two steps; or with some days
 -- that aren't legal holidays.
-use Rattle.std.specs.Prelude.{ℕ, ◌==◌, Bool, true, false, ◌&&◌, List, [], option_map, Option, Some, None, if◌then◌else◌}
+use Rattle.std.specs.Prelude.{ℕ, ◌==◌, Bool, true, false, ◌&&◌, not, List, [], option_map, Option, Some, None, if◌then◌else◌}
 use Rattle.court_clock.specs.Words.{ClockView}
 use Rattle.court_days.specs.Words.{DaysView}
 use Rattle.rule6.specs.declared.timeliness.Act.{Act}
@@ -10,7 +10,8 @@ use Rattle.rule6.specs.declared.timeliness.Shown.{Shown}
 use Rattle.rule6.specs.declared.timeliness.Shown.TheVariants.{Last, Until, Beyond}
 use Rattle.rule_periods.specs.declared.grant.Grant.{Grant}
 use Rattle.rule_periods.specs.declared.grant.Grant.TheVariants as grant
-use Rattle.rule_periods.specs.Words.{DeadlineRowView, act_due, is_days, is_in_hours, shown_of}
+use Rattle.rule_periods.specs.declared.period.Period.{Period}
+use Rattle.rule_periods.specs.Words.{DeadlineRowView, act_due, is_days, is_in_hours, is_set, shown_of}
 use Rattle.reason_notes.specs.declared.readings.reading.Reading.{Reading}
 use Rattle.reason_notes.specs.declared.readings.reading.Reading.TheVariants.{OutageMovesNothing, OutageMovesService, ExtendedFromMovedDay, OutageBeforeAddedDays, HoursFromEndOfDay, FridayIsOpen, DoubtfulIsOpen}
 use Rattle.reason_notes.specs.Readings.Changed.{adds_days, before_last, counted_again, day_after, last_grant, started_on, with_act, without_added}
@@ -48,6 +49,10 @@ abbrev pub outage_before_added : DaysView → ClockView → DeadlineRowView → 
 outage_before_added c clock row Filing [] true = shown_again c clock 3 (shown_of c clock (without_added row))
 outage_before_added c clock row act grants added = None
 
+-- hours are counted: no order sets the end
+abbrev pub counts_hours : Period → Bool
+counts_hours period = is_in_hours period && not (is_set period)
+
 -- Here hours whose event has no time of day count from midnight, at the beginning of its day. By another reading they count
 -- from the end of that day.
 abbrev pub hours_from_end : DaysView → ClockView → DeadlineRowView → Bool → Option Shown
@@ -60,6 +65,6 @@ shown_by c clock row OutageMovesNothing = outage_moves_nothing c.here clock row 
 shown_by c clock row OutageMovesService = outage_moves_service c.here clock row (act_due row)
 shown_by c clock row ExtendedFromMovedDay = extended_from_moved c.here clock row (last_grant row) (act_due row)
 shown_by c clock row OutageBeforeAddedDays = outage_before_added c.here clock row (act_due row) row.grants (adds_days row)
-shown_by c clock row HoursFromEndOfDay = hours_from_end c.here clock row (is_in_hours row.period && (row.event.minute == 0))
+shown_by c clock row HoursFromEndOfDay = hours_from_end c.here clock row (counts_hours row.period && (row.event.minute == 0))
 shown_by c clock row FridayIsOpen = Some (shown_of c.fridays_open clock row)
 shown_by c clock row DoubtfulIsOpen = Some (shown_of c.doubtful_open clock row)

@@ -6,9 +6,10 @@ use Rattle.court_clock.specs.Words.{ClockView, day_text}
 use Rattle.court_days.specs.Words.{DaysView, has_outage, is_permitted}
 use Rattle.rule6.specs.declared.timeliness.Filing.{Filing}
 use Rattle.rule6.specs.declared.timeliness.Shown.{Shown}
+use Rattle.rule_periods.specs.declared.grant.Grant.{Grant}
 use Rattle.rule_periods.specs.declared.grant.Request.{Request}
 use Rattle.rule_periods.specs.declared.period.Period.{Period}
-use Rattle.rule_periods.specs.Words.{DeadlineRowView, direction_of, is_asked_in_time, is_in_hours, is_set, runs_from}
+use Rattle.rule_periods.specs.Words.{DeadlineRowView, direction_of, is_asked_in_time, is_in_hours, is_order, is_set, runs_from}
 use Rattle.reason_texts.specs.Words.{course_of, note_line}
 use Rattle.reason_notes.specs.Margins.Words.{end_day}
 use Rattle.reason_notes.specs.Warnings.Holidays.{lists_no_more}
@@ -114,10 +115,15 @@ unfoldable pub deadline_notes : DaysView → ClockView → (filed : ℤ) → (to
 deadline_notes c clock filed today row shown =
     start_notes c clock filed today row shown ++ end_notes clock row shown ++ act_notes row
 
--- the notes on an extension: the end that it gave was past when it was asked for, and those on that end
+-- that an extension was asked for, or an order made, when the end that it gives was past
+abbrev pub dated_late_words : Grant → List ℕ
+dated_late_words grant = if is_order grant then codes "the order is dated after the end that it sets" else codes "asked for after the end that it gives"
+
+-- the notes on an extension, or on an order that sets another end: the end that it gave was past when it was asked for or made, and
+-- those on that end
 abbrev pub asked_late : ClockView → Shown → Request → List ℕ
 asked_late clock shown request =
-    if is_asked_in_time clock shown request.asked then [] else note (Some request.asked.day) (codes "asked for after the end that it gives")
+    if is_asked_in_time clock shown request.asked then [] else note (Some request.asked.day) (dated_late_words request.grant)
 
 unfoldable pub extension_notes : ClockView → DeadlineRowView → Shown → Request → List ℕ
 extension_notes clock row shown request = asked_late clock shown request ++ end_notes clock row shown

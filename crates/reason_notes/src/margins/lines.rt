@@ -1,17 +1,17 @@
 //! The lines of an act.
 
-ghost use Rattle.std.specs.Prelude.{◌≡◌, ◌<◌, ◌++◌, OnOk, codes, option_copied, string_bytes};
+ghost use Rattle.std.specs.Prelude.{◌≡◌, ◌<◌, ◌++◌, OnOk, option_copied, string_bytes};
 ghost use Rattle.std.specs.Fmt.{decimal};
-ghost use Rattle.reason_texts.specs.Words.{minute_time};
-ghost use Rattle.reason_notes.specs.Margins.Lines.{act_lines, day_end_text, days_text, detail_text, done_text, early_line, ends_at_closing, event_after, event_of, first_words, last_words, margin_lines, margin_section, margin_text, means_text, recorded_lines, seconds_text};
+ghost use Rattle.reason_texts.specs.Words.{day_end_time};
+ghost use Rattle.reason_notes.specs.Margins.Lines.{act_lines, after_words, days_text, detail_text, done_text, early_line, end_by, event_after, event_of, first_words, last_words, margin_lines, margin_section, margin_text, means_text, recorded_lines, seconds_text};
 
 use crate::margins::ends::end_day;
 use crate::margins::margin::{Margin, margin_of};
 use court_clock::{Clock, Day, Direction};
 use court_days::Days;
-use reason_texts::{push_minute, push_note};
+use reason_texts::{push_day_end, push_minute, push_note};
 use rule_periods::{DeadlineRow, Period, runs_from, shown};
-use rule6::{Act, Filing, Means, Shown};
+use rule6::{Act, Filing, Means, Shown, day_end};
 use std::alloc::{AllocError, Global};
 use std::fmt::Write;
 
@@ -107,7 +107,7 @@ fn push_margin_lines(
     push_note(text, Some(day), done.as_str(), "docketed")?;
     let margin = margin_of(clock, shown, filing);
     let mut what = String::new(alloc);
-    push_margin(&mut what, clock, ends_at_closing(shown, means), &margin)?;
+    push_margin(&mut what, end_by(clock, shown, means), means, &margin)?;
     push_note(
         text,
         end_day(clock, shown),
@@ -139,14 +139,14 @@ fn means_text(means: Means) -> &'static str
 #[tactic(auto, unfolding(crate::specs::Margins::Lines::margin_text))]
 fn push_margin(
     text: &mut String,
-    clock: &Clock,
-    closing: bool,
+    end: Option<u16>,
+    means: Means,
     margin: &Margin,
 ) -> Result<(), AllocError>
-    ensures { OnOk result (string_bytes text.new ≡ string_bytes text.old ++ margin_text clock.now closing margin.now) }
+    ensures { OnOk result (string_bytes text.new ≡ string_bytes text.old ++ margin_text end means margin.now) }
 {
     text.push_str(first_words(margin))?;
-    push_detail(text, clock, closing, margin)?;
+    push_detail(text, end, means, margin)?;
     text.push_str(last_words(margin))
 }
 
@@ -157,7 +157,7 @@ fn first_words(margin: &Margin) -> &'static str
     match *margin {
         Margin::DaysEarly(_) | Margin::SecondsEarly(_) => "timely, ",
         Margin::OnLastDay => "timely, on the last day, which ends at ",
-        Margin::AfterClosing(_) | Margin::DaysLate(_) | Margin::SecondsLate(_) => "late, ",
+        Margin::AfterDayEnd(_) | Margin::DaysLate(_) | Margin::SecondsLate(_) => "late, ",
         Margin::Undecided => "undecided: the end is beyond the days covered",
     }
 }
@@ -165,16 +165,16 @@ fn first_words(margin: &Margin) -> &'static str
 /// Adds how much it is, and on the last day when that ends.
 fn push_detail(
     text: &mut String,
-    clock: &Clock,
-    closing: bool,
+    end: Option<u16>,
+    means: Means,
     margin: &Margin,
 ) -> Result<(), AllocError>
-    ensures { OnOk result (string_bytes text.new ≡ string_bytes text.old ++ detail_text clock.now closing margin.now) }
+    ensures { OnOk result (string_bytes text.new ≡ string_bytes text.old ++ detail_text end means margin.now) }
 {
     match *margin {
         Margin::DaysEarly(days) | Margin::DaysLate(days) => push_days(text, days),
-        Margin::OnLastDay => push_day_end(text, clock, closing),
-        Margin::AfterClosing(minutes) => push_after_closing(text, clock, minutes),
+        Margin::OnLastDay => push_day_end(text, end),
+        Margin::AfterDayEnd(minutes) => push_after_end(text, end, means, minutes),
         Margin::SecondsEarly(seconds) | Margin::SecondsLate(seconds) => {
             push_seconds(text, seconds)
         }
@@ -195,35 +195,37 @@ fn last_words(margin: &Margin) -> &'static str
     }
 }
 
-/// Adds how many minutes after closing the act came.
-fn push_after_closing(text: &mut String, clock: &Clock, minutes: u16) -> Result<(), AllocError>
-    ensures { OnOk result (string_bytes text.new ≡ string_bytes text.old ++ decimal minutes ++ codes " min after closing at " ++ minute_time clock.now.closes) }
+/// Adds how many minutes after the end of the last day the act came.
+fn push_after_end(
+    text: &mut String,
+    end: Option<u16>,
+    means: Means,
+    minutes: u16,
+) -> Result<(), AllocError>
+    ensures { OnOk result (string_bytes text.new ≡ string_bytes text.old ++ decimal minutes ++ after_words means ++ day_end_time end) }
 {
-    write!(text, "{minutes} min after closing at ")?;
-    push_minute(text, clock.closes())
+    write!(text, "{minutes}")?;
+    text.push_str(after_words(means))?;
+    push_day_end(text, end)
 }
 
-/// Adds when the last day ends.
-fn push_day_end(text: &mut String, clock: &Clock, closing: bool) -> Result<(), AllocError>
-    ensures { OnOk result (string_bytes text.new ≡ string_bytes text.old ++ day_end_text clock.now closing) }
+/// What ends with the last day for these means.
+fn after_words(means: Means) -> &'static str
+    ensures { result.now ≡ after_words means }
 {
-    if closing {
-        push_minute(text, clock.closes())
-    } else {
-        text.push_str("midnight")
+    match means {
+        Means::Paper => " min after closing at ",
+        Means::Electronic => " min after e-filing ended at ",
     }
 }
 
-/// Whether the last day ends when the clerk's office closes.
-fn ends_at_closing(shown: &Shown, means: Means) -> bool
-    ensures { result ≡ ends_at_closing shown.now means }
+/// The minute at which a last day ends for an act by these means, if it ends before midnight.
+fn end_by(clock: &Clock, shown: &Shown, means: Means) -> Option<u16>
+    ensures { result ≡ end_by clock.now shown.now means }
 {
     match *shown {
-        Shown::Last {
-            act: Act::Filing,
-            ..
-        } => means == Means::Paper,
-        _ => false,
+        Shown::Last { act, .. } => day_end(clock, act, means),
+        _ => None,
     }
 }
 

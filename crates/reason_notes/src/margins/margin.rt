@@ -1,10 +1,10 @@
 //! By how much an act was in time or late.
 
 ghost use Rattle.std.specs.Prelude.{◌≡◌, ◌<◌, ◌-ℤ◌, int_le, unsigned_abs, if◌then◌else◌};
-ghost use Rattle.reason_notes.specs.Margins.Margin.{margin_of};
+ghost use Rattle.reason_notes.specs.Margins.Margin.{margin_of, on_last_day};
 
 use court_clock::{Clock, Day, Instant};
-use rule6::{Act, Filing, Means, Shown};
+use rule6::{Act, Filing, Shown, day_end};
 
 /// By how much an act was in time or late.
 #[derive(Clone, Copy, Debug, PartialEq, Eq)]
@@ -13,8 +13,8 @@ pub enum Margin {
     DaysEarly(u32),
     /// In time, on the last day.
     OnLastDay,
-    /// Late: on the last day, this number of minutes after the minute at which the clerk's office was scheduled to close.
-    AfterClosing(u16),
+    /// Late: on the last day, this number of minutes after the minute at which it ended for the means of the act.
+    AfterDayEnd(u16),
     /// Late: this number of days after the last day.
     DaysLate(u32),
     /// In time: this number of seconds before the instant at which the time ended.
@@ -53,10 +53,15 @@ fn by_day(clock: &Clock, day: Day, act: Act, filing: Filing) -> Margin
     if last < done {
         return Margin::DaysLate((done - last).unsigned_abs());
     }
-    match act {
-        Act::Filing if filing.means == Means::Paper && clock.closes() < filing.minute => {
-            Margin::AfterClosing(filing.minute - clock.closes())
-        }
+    on_last_day(day_end(clock, act, filing.means), filing.minute)
+}
+
+/// The margin on the last day, which ends at this minute, or at midnight where there is none.
+fn on_last_day(end: Option<u16>, minute: u16) -> Margin
+    ensures { result ≡ on_last_day end minute }
+{
+    match end {
+        Some(end) if end < minute => Margin::AfterDayEnd(minute - end),
         _ => Margin::OnLastDay,
     }
 }

@@ -1,9 +1,9 @@
 //! What is shown of a deadline by other readings.
 
 ghost use Rattle.std.specs.Prelude.{◌≡◌, ◌==◌, ◌&&◌, true, IfOk};
-ghost use Rattle.rule_periods.specs.Words.{act_due, is_in_hours};
+ghost use Rattle.rule_periods.specs.Words.{act_due};
 ghost use Rattle.reason_notes.specs.Readings.Changed.{adds_days, last_grant};
-ghost use Rattle.reason_notes.specs.Readings.Readings.{extended_from_moved, hours_from_end, outage_before_added, outage_moves_nothing, outage_moves_service, shown_again, shown_by};
+ghost use Rattle.reason_notes.specs.Readings.Readings.{counts_hours, extended_from_moved, hours_from_end, outage_before_added, outage_moves_nothing, outage_moves_service, shown_again, shown_by};
 
 use crate::readings::by_reading::DaysByReading;
 use crate::readings::changed::{
@@ -12,7 +12,7 @@ use crate::readings::changed::{
 };
 use court_clock::{Clock, Day};
 use court_days::Days;
-use rule_periods::{DeadlineRow, Grant, act_due, shown};
+use rule_periods::{DeadlineRow, Grant, Period, act_due, shown};
 use rule6::{Act, Shown};
 use std::alloc::{AllocError, Global};
 
@@ -147,9 +147,9 @@ fn hours_from_end(
     clock: &Clock,
     row: &DeadlineRow,
 ) -> Result<Option<Shown>, AllocError>
-    ensures { IfOk result (λ other. other ≡ hours_from_end days.now clock.now row.now (is_in_hours row.now.period && (row.now.event.minute == 0))) }
+    ensures { IfOk result (λ other. other ≡ hours_from_end days.now clock.now row.now (counts_hours row.now.period && (row.now.event.minute == 0))) }
 {
-    if !row.period().is_in_hours() || row.event().minute() != 0 {
+    if !counts_hours(row.period()) || row.event().minute() != 0 {
         return Ok(None);
     }
     match day_after(row.event().day()) {
@@ -159,6 +159,13 @@ fn hours_from_end(
         }
         None => Ok(None),
     }
+}
+
+/// Whether hours are counted, so that no order sets the end.
+fn counts_hours(period: Period) -> bool
+    ensures { result ≡ counts_hours period }
+{
+    period.is_in_hours() && !period.is_set()
 }
 
 /// What is shown where this number of days, if it is a length of a period, is counted from a day that is shown, to file.

@@ -1,13 +1,13 @@
-//! The notes on an extension.
+//! The notes on an extension, and on an order that sets another end.
 
 ghost use Rattle.std.specs.Prelude.{◌≡◌, ◌++◌, OnOk, string_bytes};
 ghost use Rattle.rule_periods.specs.Words.{EventView, is_asked_in_time};
-ghost use Rattle.reason_notes.specs.Warnings.Notes.{asked_late, extension_notes};
+ghost use Rattle.reason_notes.specs.Warnings.Notes.{asked_late, extension_notes, dated_late_words};
 
 use crate::warnings::end::push_end_notes;
 use court_clock::Clock;
 use reason_texts::push_note;
-use rule_periods::{DeadlineRow, Event, Request};
+use rule_periods::{DeadlineRow, Event, Grant, Request};
 use rule6::{Filing, Means, Shown, is_timely};
 use std::alloc::AllocError;
 
@@ -42,9 +42,20 @@ fn push_asked_late(
     push_note(
         text,
         Some(request.asked.day()),
-        "asked for after the end that it gives",
+        dated_late_words(request.grant),
         "note",
     )
+}
+
+/// That an extension was asked for, or an order made, when the end that it gives was past.
+fn dated_late_words(grant: Grant) -> &'static str
+    ensures { result.now ≡ dated_late_words grant }
+{
+    if grant.is_order() {
+        "the order is dated after the end that it sets"
+    } else {
+        "asked for after the end that it gives"
+    }
 }
 
 /// Whether an electronic filing at that moment would be in time.

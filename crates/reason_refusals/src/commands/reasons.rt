@@ -10,12 +10,12 @@ use crate::{deadline_asked, motion_of_refusal, push_refusal};
 use court_clock::Day;
 use court_days::Court;
 use docket_core::Docket;
-use docket_rows::{Command, Hearing, Refusal, SheetHearing};
+use docket_rows::{Command, DatedRuling, Hearing, Refusal, Ruling, SheetHearing};
 use hearing_slots::{Need, Panel};
 use std::alloc::{AllocError, Global};
 
 /// The types that a motion is made of, which a function that hands one on has to name.
-type MotionTypes = Option<(Day, Need, Hearing, SheetHearing, Panel)>;
+type MotionTypes = Option<(Day, Need, Hearing, SheetHearing, Panel, DatedRuling, Ruling)>;
 
 /// Adds why a command is refused that way, in a line or a few, where the docket is as it is now. The motion that the refusal
 /// names, or whose hearing the command asks for, is called so. `Err` says that memory ran out.

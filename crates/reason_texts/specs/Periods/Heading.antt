@@ -9,7 +9,7 @@ use Rattle.rule_periods.specs.declared.mark.Mark.{Mark}
 use Rattle.rule_periods.specs.declared.mark.Mark.TheVariants as mark
 use Rattle.rule_periods.specs.declared.period.Entered.{Entered}
 use Rattle.rule_periods.specs.declared.period.Length.{Length}
-use Rattle.rule_periods.specs.declared.period.Length.TheVariants.{Days, Hours, ToDay}
+use Rattle.rule_periods.specs.declared.period.Length.TheVariants.{Days, Hours, ToDay, ToTime}
 use Rattle.rule_periods.specs.declared.period.Period.{Period}
 use Rattle.rule_periods.specs.declared.period.Period.TheVariants as period
 use Rattle.rule_periods.specs.declared.rule.RulePeriod.{RulePeriod}
@@ -25,6 +25,7 @@ abbrev pub length_text : Length → List ℕ
 length_text (Days n) = counted_text n (codes "day")
 length_text (Hours h) = counted_text h (codes "hour")
 length_text ToDay = codes "set by an order"
+length_text ToTime = codes "set by an order"
 
 -- the section that sets a period of the Rules
 abbrev pub rule_section : RulePeriod → List ℕ
@@ -108,7 +109,7 @@ abbrev pub act_words : Act → List ℕ
 act_words Filing = codes ", to file"
 act_words Service = codes ", to serve"
 
--- from where an entered period is measured; a day that an order sets is measured from nothing
+-- from where an entered period is measured; an end that an order sets is measured from nothing
 abbrev pub from_words : Entered → List ℕ
 from_words entered = if is_set_length entered.length then [] else side_words entered.direction ++ start_words entered.served
 

@@ -56,7 +56,7 @@ fn push_entered(alloc: Global, text: &mut String, entered: &Entered) -> Result<(
 }
 
 /// Adds the line of a mark that names a section.
-fn push_mark(text: &mut String, mark: Mark) -> Result<(), AllocError>
+pub(crate) fn push_mark(text: &mut String, mark: Mark) -> Result<(), AllocError>
     ensures { OnOk result (string_bytes text.new ≡ string_bytes text.old ++ mark_line mark) }
 {
     match mark {
@@ -77,7 +77,7 @@ fn push_rule_text(text: &mut String, row: &DeadlineRow, rule: RulePeriod) -> Res
 
 /// Adds how an entered period is entered.
 #[tactic(auto, unfolding(crate::specs::Periods::Heading::entered_text))]
-fn push_entered_text(text: &mut String, entered: &Entered) -> Result<(), AllocError>
+pub(crate) fn push_entered_text(text: &mut String, entered: &Entered) -> Result<(), AllocError>
     ensures { OnOk result (string_bytes text.new ≡ string_bytes text.old ++ entered_text entered.now) }
 {
     push_length(text, entered.length)?;
@@ -97,13 +97,13 @@ fn push_from(text: &mut String, entered: &Entered) -> Result<(), AllocError>
 }
 
 /// Adds how long a period is.
-fn push_length(text: &mut String, length: Length) -> Result<(), AllocError>
+pub(crate) fn push_length(text: &mut String, length: Length) -> Result<(), AllocError>
     ensures { OnOk result (string_bytes text.new ≡ string_bytes text.old ++ length_text length) }
 {
     match length {
         Length::Days(n) => push_counted(text, n, "day"),
         Length::Hours(h) => push_counted(text, h, "hour"),
-        Length::ToDay => text.push_str("set by an order"),
+        Length::ToDay | Length::ToTime => text.push_str("set by an order"),
     }
 }
 

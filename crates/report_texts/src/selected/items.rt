@@ -7,8 +7,8 @@ use desk_numbers::MovedNumbers;
 use docket_rows::Counted;
 use docket_selection::{DueItem, DueTypes, Matter};
 
-// What the number of an item is the number of.
-fn counted_in(matter: &Matter) -> Counted
+/// What the number of an item is the number of.
+pub fn counted_in(matter: &Matter) -> Counted
     ensures { result ≡ counted_in matter.now }
 {
     match matter {

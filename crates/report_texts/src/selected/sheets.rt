@@ -14,6 +14,8 @@ fn number_sheet(alloc: Global, moved: &MovedNumbers, sheet: &mut Sheet)
     let empty = Sheet {
         case: sheet.case,
         filed: sheet.filed,
+        closed: sheet.closed,
+        assigned: sheet.assigned,
         deadlines: SheetDeadlines::from_vec(Vec::new(alloc)),
         motions: SheetMotions::from_vec(Vec::new(alloc)),
     };

@@ -7,6 +7,14 @@ use Rattle.rule6.specs.declared.service.ServiceKind.{ServiceKind}
 use Rattle.rule6.specs.declared.service.ServiceKind.TheVariants.{HandA, LeftB, MailC, ClerkD, ElectronicE, OtherF}
 use Rattle.rule6.specs.declared.timeliness.Means.{Means}
 use Rattle.rule6.specs.declared.timeliness.Means.TheVariants.{Electronic, Paper}
+use Rattle.docket_rows.specs.declared.command.Counted.{Counted}
+use Rattle.docket_rows.specs.declared.command.Counted.TheVariants.{Deadline, Motion}
+use Rattle.docket_rows.specs.declared.fact.Closing.{Closing}
+use Rattle.docket_rows.specs.declared.fact.Closing.TheVariants as closing
+use Rattle.docket_rows.specs.declared.fact.Ending.{Ending}
+use Rattle.docket_rows.specs.declared.fact.Ending.TheVariants.{Moot, Vacated, Stayed, Suspended, Withdrawn}
+use Rattle.docket_rows.specs.declared.fact.Ruling.{Ruling}
+use Rattle.docket_rows.specs.declared.fact.Ruling.TheVariants as ruling
 
 -- the kind of service, by its letter in Rule 5(b)(2)
 unfoldable pub kind_of : List ℕ → Option ServiceKind
@@ -31,6 +39,42 @@ means_of text = if bytes_eq text (codes "electronic") then Some Electronic else 
 -- the list of holidays
 unfoldable pub list_of : List ℕ → Option HolidayList
 list_of text = if bytes_eq text (codes "federal") then Some Federal else if bytes_eq text (codes "state") then Some State else None
+
+-- why a deadline is due no more
+unfoldable pub ending_of : List ℕ → Option Ending
+ending_of text =
+    if bytes_eq text (codes "moot") then Some Moot
+    else if bytes_eq text (codes "vacated") then Some Vacated
+    else if bytes_eq text (codes "stayed") then Some Stayed
+    else if bytes_eq text (codes "suspended") then Some Suspended
+    else if bytes_eq text (codes "withdrawn") then Some Withdrawn
+    else None
+
+-- how a case was closed
+unfoldable pub closing_of : List ℕ → Option Closing
+closing_of text =
+    if bytes_eq text (codes "dismissed") then Some closing.Dismissed
+    else if bytes_eq text (codes "judgment") then Some closing.Judgment
+    else if bytes_eq text (codes "settled") then Some closing.Settled
+    else if bytes_eq text (codes "transferred") then Some closing.Transferred
+    else if bytes_eq text (codes "remanded") then Some closing.Remanded
+    else if bytes_eq text (codes "otherwise") then Some closing.Otherwise
+    else None
+
+-- how a motion was ruled on
+unfoldable pub ruling_of : List ℕ → Option Ruling
+ruling_of text =
+    if bytes_eq text (codes "granted") then Some ruling.Granted
+    else if bytes_eq text (codes "denied") then Some ruling.Denied
+    else if bytes_eq text (codes "in part") then Some ruling.InPart
+    else if bytes_eq text (codes "moot") then Some ruling.Moot
+    else if bytes_eq text (codes "withdrawn") then Some ruling.Withdrawn
+    else if bytes_eq text (codes "reserved") then Some ruling.Reserved
+    else None
+
+-- whether a deadline or a motion is meant
+unfoldable pub counted_of : List ℕ → Option Counted
+counted_of text = if bytes_eq text (codes "deadline") then Some Deadline else if bytes_eq text (codes "motion") then Some Motion else None
 
 -- whether something is so
 unfoldable pub is_so : List ℕ → Option Bool

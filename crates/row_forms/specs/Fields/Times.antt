@@ -14,10 +14,10 @@ unfoldable pub minute_or_midnight : List ℕ → Option ℕ
 minute_or_midnight [] = Some 0
 minute_or_midnight (b ∷ field) = minute_of_text (b ∷ field)
 
--- the minute of a day that an order sets: the day is set as a whole, so the field is empty
-unfoldable pub minute_of_set : List ℕ → Option ℕ
-minute_of_set [] = Some 0
-minute_of_set (b ∷ field) = None
+-- The day on which a deadline that is resumed begins anew: its days are as before, so the field is empty.
+unfoldable pub day_anew : List ℕ → Option (Option ℤ)
+day_anew [] = Some None
+day_anew (b ∷ field) = None
 
 -- the minute at which something ends, which may be `24:00`
 unfoldable pub ending_minute : List ℕ → Option ℕ

@@ -5,7 +5,7 @@ use Rattle.std.specs.Str.{bytes_eq}
 use Rattle.row_forms.specs.declared.forms.table.Form.{Form}
 use Rattle.row_forms.specs.declared.forms.table.Form.TheVariants as form
 use Rattle.row_forms.specs.declared.headings.columns.Column.{Column}
-use Rattle.row_forms.specs.declared.headings.columns.Column.TheVariants.{Clerk, Command, Case, Deadline, Motion, Period, Date, Time, Start, TimeOrNone, SecondOrNone, ServiceOrNone, Means, Grant, ByMotion, Cause, Neglect, Need, Holidays, From, To, Judge, Judges, Room, Slots, Notice, SetTime, Act}
+use Rattle.row_forms.specs.declared.headings.columns.Column.TheVariants.{Clerk, Command, Case, Deadline, Motion, Period, Date, Time, Start, TimeOrNone, SecondOrNone, ServiceOrNone, Means, Grant, ByMotion, Cause, Neglect, Need, Holidays, From, To, Judge, Judges, Room, Slots, Notice, Act, Why, Closing, ResumeDay, Ruling, JudgeOrNone, Dated, Title, Counted, Number, Label}
 
 -- the forms of the rows of clerk_office
 abbrev pub office_forms : List Form
@@ -14,7 +14,7 @@ office_forms =
 
 -- the forms of the rows of the desk
 abbrev pub forms : List Form
-forms = office_forms ++ form.Set ∷ []
+forms = office_forms ++ form.Set ∷ form.Reset ∷ form.End ∷ form.Resume ∷ form.Close ∷ form.Reopen ∷ form.Rule ∷ form.Assign ∷ form.Title ∷ form.Label ∷ []
 
 -- the command word of a form
 abbrev pub command_word : Form → List ℕ
@@ -32,6 +32,15 @@ command_word form.Compute = codes "compute"
 command_word form.Sheet = codes "sheet"
 command_word form.Calendar = codes "calendar"
 command_word form.Set = codes "set"
+command_word form.Reset = codes "reset"
+command_word form.End = codes "end"
+command_word form.Resume = codes "resume"
+command_word form.Close = codes "close"
+command_word form.Reopen = codes "reopen"
+command_word form.Rule = codes "rule"
+command_word form.Assign = codes "assign"
+command_word form.Title = codes "title"
+command_word form.Label = codes "label"
 
 -- the columns of rows that set a hearing
 abbrev pub setting_columns : List Column
@@ -52,7 +61,16 @@ columns_of_form form.Inaccessible = Clerk ∷ Command ∷ Date ∷ From ∷ To �
 columns_of_form form.Compute = Clerk ∷ Command ∷ Period ∷ Date ∷ TimeOrNone ∷ SecondOrNone ∷ ServiceOrNone ∷ []
 columns_of_form form.Sheet = Clerk ∷ Command ∷ Case ∷ []
 columns_of_form form.Calendar = Clerk ∷ Command ∷ Judge ∷ Date ∷ []
-columns_of_form form.Set = Clerk ∷ Command ∷ Case ∷ Date ∷ SetTime ∷ Act ∷ []
+columns_of_form form.Set = Clerk ∷ Command ∷ Case ∷ Date ∷ TimeOrNone ∷ Act ∷ []
+columns_of_form form.Reset = Clerk ∷ Command ∷ Case ∷ Deadline ∷ Date ∷ TimeOrNone ∷ Dated ∷ []
+columns_of_form form.End = Clerk ∷ Command ∷ Case ∷ Deadline ∷ Why ∷ Dated ∷ []
+columns_of_form form.Resume = Clerk ∷ Command ∷ Case ∷ Deadline ∷ ResumeDay ∷ Dated ∷ []
+columns_of_form form.Close = Clerk ∷ Command ∷ Case ∷ Closing ∷ Dated ∷ []
+columns_of_form form.Reopen = Clerk ∷ Command ∷ Case ∷ Dated ∷ []
+columns_of_form form.Rule = Clerk ∷ Command ∷ Case ∷ Motion ∷ Ruling ∷ Dated ∷ []
+columns_of_form form.Assign = Clerk ∷ Command ∷ Case ∷ Judge ∷ JudgeOrNone ∷ Dated ∷ []
+columns_of_form form.Title = Clerk ∷ Command ∷ Case ∷ Title ∷ []
+columns_of_form form.Label = Clerk ∷ Command ∷ Case ∷ Counted ∷ Number ∷ Label ∷ []
 
 -- the word is this form's
 unfoldable pub is_word_of : List ℕ → Form → Bool

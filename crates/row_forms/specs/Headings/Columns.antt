@@ -1,7 +1,7 @@
 -- The columns of rows, and what these are called.
 use Rattle.std.specs.Prelude.{ℕ, Bool, true, false, List, codes, slice_get, unwrap_or}
 use Rattle.row_forms.specs.declared.headings.columns.Column.{Column}
-use Rattle.row_forms.specs.declared.headings.columns.Column.TheVariants.{Clerk, Command, Case, Deadline, Motion, Period, Date, Time, Start, TimeOrNone, SecondOrNone, ServiceOrNone, Means, Grant, ByMotion, Cause, Neglect, Need, Holidays, From, To, Judge, Judges, Room, Slots, Notice, SetTime, Act}
+use Rattle.row_forms.specs.declared.headings.columns.Column.TheVariants.{Clerk, Command, Case, Deadline, Motion, Period, Date, Time, Start, TimeOrNone, SecondOrNone, ServiceOrNone, Means, Grant, ByMotion, Cause, Neglect, Need, Holidays, From, To, Judge, Judges, Room, Slots, Notice, Act, Why, Closing, ResumeDay, Ruling, JudgeOrNone, Dated, Title, Counted, Number, Label}
 
 -- the column of that number, counted from 0
 abbrev pub column_at : List Column → ℕ → Column
@@ -35,8 +35,17 @@ name_of Judges = codes "judge"
 name_of Room = codes "room"
 name_of Slots = codes "slots"
 name_of Notice = codes "notice"
-name_of SetTime = codes "time"
 name_of Act = codes "act"
+name_of Dated = codes "dated"
+name_of Why = codes "why"
+name_of Closing = codes "why"
+name_of ResumeDay = codes "date"
+name_of Ruling = codes "ruling"
+name_of JudgeOrNone = codes "referred"
+name_of Title = codes "title"
+name_of Counted = codes "of"
+name_of Number = codes "number"
+name_of Label = codes "label"
 
 -- What stands for a column where the form of a row is shown. What may be left empty is in brackets. The command word stands
 -- for itself.
@@ -67,13 +76,23 @@ mark_of word Judges = codes "JUDGE"
 mark_of word Room = codes "ROOM"
 mark_of word Slots = codes "SLOTS"
 mark_of word Notice = codes "NOTICE"
-mark_of word SetTime = codes "[TIME]"
 mark_of word Act = codes "ACT"
+mark_of word Dated = codes "DATED"
+mark_of word Why = codes "WHY"
+mark_of word Closing = codes "WHY"
+mark_of word ResumeDay = codes "[DAY]"
+mark_of word Ruling = codes "RULING"
+mark_of word JudgeOrNone = codes "[JUDGE2]"
+mark_of word Title = codes "TITLE"
+mark_of word Counted = codes "deadline|motion"
+mark_of word Number = codes "NUMBER"
+mark_of word Label = codes "LABEL"
 
 -- the field of a column may be empty, and then says none
 abbrev pub may_be_empty : Column → Bool
 may_be_empty TimeOrNone = true
 may_be_empty SecondOrNone = true
 may_be_empty ServiceOrNone = true
-may_be_empty SetTime = true
+may_be_empty ResumeDay = true
+may_be_empty JudgeOrNone = true
 may_be_empty _ = false

@@ -1,9 +1,10 @@
 //! Fields that say one of a few words.
 
 ghost use Rattle.std.specs.Prelude.{◌≡◌};
-ghost use Rattle.row_forms.specs.Fields.Choices.{is_so, kind_if_given, kind_of, list_of, means_of};
+ghost use Rattle.row_forms.specs.Fields.Choices.{closing_of, counted_of, ending_of, is_so, kind_if_given, kind_of, list_of, means_of, ruling_of};
 
 use court_days::HolidayList;
+use docket_rows::{Closing, Counted, Ending, Ruling};
 use rule6::{Means, ServiceKind};
 
 /// The kind of service that a field says; an empty field says none.
@@ -53,6 +54,65 @@ pub fn list_of(text: &str) -> Option<HolidayList>
     match text {
         "federal" => Some(HolidayList::Federal),
         "state" => Some(HolidayList::State),
+        _ => None,
+    }
+}
+
+/// How a case was closed.
+#[tactic(auto, unfolding(crate::specs::Fields::Choices::closing_of))]
+pub fn closing_of(text: &str) -> Option<Closing>
+    ensures { result ≡ closing_of text.now }
+{
+    match text {
+        "dismissed" => Some(Closing::Dismissed),
+        "judgment" => Some(Closing::Judgment),
+        "settled" => Some(Closing::Settled),
+        "transferred" => Some(Closing::Transferred),
+        "remanded" => Some(Closing::Remanded),
+        "otherwise" => Some(Closing::Otherwise),
+        _ => None,
+    }
+}
+
+/// How a motion was ruled on.
+#[tactic(auto, unfolding(crate::specs::Fields::Choices::ruling_of))]
+pub fn ruling_of(text: &str) -> Option<Ruling>
+    ensures { result ≡ ruling_of text.now }
+{
+    match text {
+        "granted" => Some(Ruling::Granted),
+        "denied" => Some(Ruling::Denied),
+        "in part" => Some(Ruling::InPart),
+        "moot" => Some(Ruling::Moot),
+        "withdrawn" => Some(Ruling::Withdrawn),
+        "reserved" => Some(Ruling::Reserved),
+        _ => None,
+    }
+}
+
+/// Why a deadline is due no more.
+#[tactic(auto, unfolding(crate::specs::Fields::Choices::ending_of))]
+pub fn ending_of(text: &str) -> Option<Ending>
+    ensures { result ≡ ending_of text.now }
+{
+    match text {
+        "moot" => Some(Ending::Moot),
+        "vacated" => Some(Ending::Vacated),
+        "stayed" => Some(Ending::Stayed),
+        "suspended" => Some(Ending::Suspended),
+        "withdrawn" => Some(Ending::Withdrawn),
+        _ => None,
+    }
+}
+
+/// Whether a deadline or a motion is meant.
+#[tactic(auto, unfolding(crate::specs::Fields::Choices::counted_of))]
+pub fn counted_of(text: &str) -> Option<Counted>
+    ensures { result ≡ counted_of text.now }
+{
+    match text {
+        "deadline" => Some(Counted::Deadline),
+        "motion" => Some(Counted::Motion),
         _ => None,
     }
 }

@@ -1,7 +1,7 @@
 //! Who hears a motion, where, and for how long.
 
 ghost use Rattle.std.specs.Prelude.{◌≡◌};
-ghost use Rattle.row_forms.specs.CourtNames.{number_named};
+ghost use Rattle.row_forms.specs.CourtNames.{number_if_named, number_named};
 ghost use Rattle.row_forms.specs.Fields.Hearings.{panel_named, slots_of};
 
 use crate::fields::cut::cut_at;
@@ -35,6 +35,17 @@ pub fn judge_named(court: &Court, name: &str) -> u8
     ensures { result ≡ number_named court.now.judges name.now }
 {
     court.judge(name).unwrap_or(court.judges())
+}
+
+/// The number of the judge whose name a field says, as above; an empty field says none.
+#[tactic(auto, unfolding(crate::specs::CourtNames::number_if_named))]
+pub fn judge_if_named(court: &Court, name: &str) -> Option<u8>
+    ensures { result ≡ number_if_named court.now.judges name.now }
+{
+    if name.is_empty() {
+        return None;
+    }
+    Some(judge_named(court, name))
 }
 
 /// The number of the room with this name, and the number past the last where the court has none.

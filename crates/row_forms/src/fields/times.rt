@@ -1,7 +1,7 @@
 //! Days and times of day.
 
 ghost use Rattle.std.specs.Prelude.{◌≡◌, ◌≤◌, ◌<◌, IfSome};
-ghost use Rattle.row_forms.specs.Fields.Times.{day_if_given, ending_minute, minute_of_set, minute_or_midnight, slot_at};
+ghost use Rattle.row_forms.specs.Fields.Times.{day_anew, day_if_given, ending_minute, minute_or_midnight, slot_at};
 
 use court_clock::{Day, minute_from_text};
 
@@ -29,13 +29,12 @@ pub fn minute_or_midnight(field: &str) -> Option<u16>
     }
 }
 
-/// The minute of a day that an order sets, which is 00:00: the day is set as a whole, so the field is empty.
-#[tactic(auto, unfolding(crate::specs::Fields::Times::minute_of_set))]
-pub fn minute_of_set(field: &str) -> Option<u16>
-    ensures value { result ≡ minute_of_set field.now }
-    ensures in_the_day { IfSome result (λ minute. minute < 1440) }
+/// The day on which a deadline that is resumed begins anew: its days are as before, so the field is empty.
+#[tactic(auto, unfolding(crate::specs::Fields::Times::day_anew))]
+pub fn day_anew(field: &str) -> Option<Option<Day>>
+    ensures { result ≡ day_anew field.now }
 {
-    if field.is_empty() { Some(0) } else { None }
+    if field.is_empty() { Some(None) } else { None }
 }
 
 /// The minute at which something ends, counted from midnight: at the latest `24:00`, the end of the day.

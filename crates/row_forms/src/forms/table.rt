@@ -5,9 +5,10 @@ ghost use Rattle.std.specs.Prelude.{◌≡◌, find, map, option_map};
 ghost use Rattle.row_forms.specs.Forms.Table.{columns_of, columns_of_form, command_word, commands_listed, form_of, forms, is_word_of, office_form_of};
 
 use crate::headings::Column::{
-    self, Act, ByMotion, Case, Cause, Clerk, Command, Date, Deadline, From, Grant, Holidays, Judge,
-    Judges, Means, Motion, Need, Neglect, Notice, Period, Room, SecondOrNone, ServiceOrNone,
-    SetTime, Slots, Start, Time, TimeOrNone, To,
+    self, Act, ByMotion, Case, Cause, Clerk, Closing, Command, Counted, Date, Dated, Deadline,
+    From, Grant, Holidays, Judge, JudgeOrNone, Judges, Label, Means, Motion, Need, Neglect, Notice,
+    Number, Period, ResumeDay, Room, Ruling, SecondOrNone, ServiceOrNone, Slots, Start, Time,
+    TimeOrNone, Title, To, Why,
 };
 
 /// The form of a row: which command or query it asks for.
@@ -39,8 +40,26 @@ pub enum Form {
     Sheet,
     /// Asks for a judge's day.
     Calendar,
-    /// Starts a deadline on a day that an order sets. It is of the desk alone.
+    /// Starts a deadline on a day, or at a time of it, that an order sets. It is of the desk alone.
     Set,
+    /// Sets another end for a deadline, by an order. It is of the desk alone.
+    Reset,
+    /// Ends a deadline. It is of the desk alone.
+    End,
+    /// Resumes a deadline that was ended. It is of the desk alone.
+    Resume,
+    /// Closes a case. It is of the desk alone.
+    Close,
+    /// Reopens a case that was closed. It is of the desk alone.
+    Reopen,
+    /// Rules on a motion. It is of the desk alone.
+    Rule,
+    /// Assigns a case to a judge. It is of the desk alone.
+    Assign,
+    /// Gives a case a title. It is of the desk alone.
+    Title,
+    /// Gives a deadline or a motion a label. It is of the desk alone.
+    Label,
 }
 
 /// The forms of the rows of clerk_office.
@@ -61,7 +80,7 @@ pub const OFFICE_FORMS: [Form; 13] = [
 ];
 
 /// The forms of the rows of the desk.
-pub const FORMS: [Form; 14] = [
+pub const FORMS: [Form; 23] = [
     Form::Open,
     Form::Start,
     Form::File,
@@ -76,10 +95,19 @@ pub const FORMS: [Form; 14] = [
     Form::Sheet,
     Form::Calendar,
     Form::Set,
+    Form::Reset,
+    Form::End,
+    Form::Resume,
+    Form::Close,
+    Form::Reopen,
+    Form::Rule,
+    Form::Assign,
+    Form::Title,
+    Form::Label,
 ];
 
 /// The command words, in the order of the forms.
-pub const COMMANDS: [&str; 14] = [
+pub const COMMANDS: [&str; 23] = [
     "open",
     "start",
     "file",
@@ -94,6 +122,15 @@ pub const COMMANDS: [&str; 14] = [
     "sheet",
     "calendar",
     "set",
+    "reset",
+    "end",
+    "resume",
+    "close",
+    "reopen",
+    "rule",
+    "assign",
+    "title",
+    "label",
 ];
 
 /// The columns of a form's rows, from the first on.
@@ -134,7 +171,16 @@ pub fn columns_of_form(form: Form) -> &'static [Column]
         ],
         Form::Sheet => &[Clerk, Command, Case],
         Form::Calendar => &[Clerk, Command, Judge, Date],
-        Form::Set => &[Clerk, Command, Case, Date, SetTime, Act],
+        Form::Set => &[Clerk, Command, Case, Date, TimeOrNone, Act],
+        Form::Reset => &[Clerk, Command, Case, Deadline, Date, TimeOrNone, Dated],
+        Form::End => &[Clerk, Command, Case, Deadline, Why, Dated],
+        Form::Resume => &[Clerk, Command, Case, Deadline, ResumeDay, Dated],
+        Form::Close => &[Clerk, Command, Case, Closing, Dated],
+        Form::Reopen => &[Clerk, Command, Case, Dated],
+        Form::Rule => &[Clerk, Command, Case, Motion, Ruling, Dated],
+        Form::Assign => &[Clerk, Command, Case, Judge, JudgeOrNone, Dated],
+        Form::Title => &[Clerk, Command, Case, Title],
+        Form::Label => &[Clerk, Command, Case, Counted, Number, Label],
     }
 }
 
@@ -157,7 +203,7 @@ pub fn commands() -> &'static [&'static str]
 pub fn commands_listed() -> &'static str
     ensures { result.now ≡ commands_listed }
 {
-    "open, start, file, extend, motion, book, move, cancel, holiday, inaccessible, compute, sheet, calendar or set"
+    "open, start, file, extend, motion, book, move, cancel, holiday, inaccessible, compute, sheet, calendar, set, reset, end, resume, close, reopen, rule, assign, title or label"
 }
 
 // Whether the word is this form's.

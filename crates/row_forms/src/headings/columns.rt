@@ -58,10 +58,28 @@ pub enum Column {
     Slots,
     /// The day on which notice was served.
     Notice,
-    /// The time of day of a day that an order sets, which is empty.
-    SetTime,
     /// What has to be done in time.
     Act,
+    /// The day of an order.
+    Dated,
+    /// Why a deadline is due no more.
+    Why,
+    /// How a case was closed.
+    Closing,
+    /// The day on which a deadline that is resumed begins anew, which is empty.
+    ResumeDay,
+    /// How a motion was ruled on.
+    Ruling,
+    /// A judge to whom a case is referred, or nothing.
+    JudgeOrNone,
+    /// What a case is called.
+    Title,
+    /// Whether a deadline or a motion is meant.
+    Counted,
+    /// The number of a deadline or of a motion.
+    Number,
+    /// What a deadline or a motion is called.
+    Label,
 }
 
 /// The column of that number, counted from 0.
@@ -82,8 +100,8 @@ pub fn name_of(column: Column) -> &'static str
         Column::Deadline => "deadline",
         Column::Motion | Column::ByMotion => "motion",
         Column::Period => "period",
-        Column::Date => "date",
-        Column::Time | Column::Start | Column::TimeOrNone | Column::SetTime => "time",
+        Column::Date | Column::ResumeDay => "date",
+        Column::Time | Column::Start | Column::TimeOrNone => "time",
         Column::SecondOrNone => "second",
         Column::ServiceOrNone => "kind",
         Column::Means => "means",
@@ -99,6 +117,14 @@ pub fn name_of(column: Column) -> &'static str
         Column::Slots => "slots",
         Column::Notice => "notice",
         Column::Act => "act",
+        Column::Dated => "dated",
+        Column::Why | Column::Closing => "why",
+        Column::Ruling => "ruling",
+        Column::JudgeOrNone => "referred",
+        Column::Title => "title",
+        Column::Counted => "of",
+        Column::Number => "number",
+        Column::Label => "label",
     }
 }
 
@@ -117,7 +143,7 @@ pub fn mark_of(word: &str, column: Column) -> &str
         Column::Date => "DATE",
         Column::Time => "TIME",
         Column::Start => "START",
-        Column::TimeOrNone | Column::SetTime => "[TIME]",
+        Column::TimeOrNone => "[TIME]",
         Column::SecondOrNone => "[SECOND]",
         Column::ServiceOrNone => "[KIND]",
         Column::Means => "MEANS",
@@ -134,6 +160,15 @@ pub fn mark_of(word: &str, column: Column) -> &str
         Column::Slots => "SLOTS",
         Column::Notice => "NOTICE",
         Column::Act => "ACT",
+        Column::Dated => "DATED",
+        Column::Why | Column::Closing => "WHY",
+        Column::ResumeDay => "[DAY]",
+        Column::Ruling => "RULING",
+        Column::JudgeOrNone => "[JUDGE2]",
+        Column::Title => "TITLE",
+        Column::Counted => "deadline|motion",
+        Column::Number => "NUMBER",
+        Column::Label => "LABEL",
     }
 }
 
@@ -143,6 +178,10 @@ pub fn may_be_empty(column: Column) -> bool
 {
     matches!(
         column,
-        Column::TimeOrNone | Column::SecondOrNone | Column::ServiceOrNone | Column::SetTime
+        Column::TimeOrNone
+            | Column::SecondOrNone
+            | Column::ServiceOrNone
+            | Column::ResumeDay
+            | Column::JudgeOrNone
     )
 }

@@ -5,7 +5,7 @@ use court_clock::{Clock, Day, Direction, Instant};
 use court_days::{Court, Days, Outage};
 use rule_periods::{
     DeadlineRow, DocketRow, Event, Grant, Period, PeriodRefusal, Request, RulePeriod, check_start,
-    may_extend, notice_day, shown,
+    may_extend, notice_day, reset_ends_stay, shown,
 };
 use rule6::{
     Act, Filing, Means, ServiceKind, Shown, adds_three, end_of_hours, extended_for_access,
@@ -120,6 +120,32 @@ fn extended(rt: &impl Abort, alloc: Global, court: &Court) -> Result<DocketRow, 
     may_extend(court.days(), court.clock(), row.row(), &request)?;
     row.add_grant(request.grant)?;
     Ok(row)
+}
+
+/// The deadline, which an order sets to a Saturday before its end.
+fn reset(rt: &impl Abort, alloc: Global, court: &Court) -> Result<DocketRow, Fail> {
+    let mut row = started(rt, alloc, court.days())?;
+    let order = Request {
+        grant: Grant::Reset(day(rt, "2025-08-16")),
+        asked: Event::new(day(rt, "2025-08-11"), 0),
+        motion: false,
+        cause: false,
+        neglect: false,
+    };
+    may_extend(court.days(), court.clock(), row.row(), &order)?;
+    row.add_grant(order.grant)?;
+    Ok(row)
+}
+
+#[test]
+fn a_saturday_that_an_order_sets_in_place_of_the_end_stays(rt: HostRuntime) -> Result<(), Fail> {
+    reset_ends_stay();
+    let court = court(rt.alloc())?;
+    let row = reset(&rt, rt.alloc(), &court)?;
+    let day = day(&rt, "2025-08-16");
+    let act = Act::Service;
+    assert!(rt; shown(court.days(), court.clock(), row.row()) == Shown::Last { day, act });
+    Ok(())
 }
 
 /// An act at a minute that no day has, which no row of the program's input names.

@@ -6,7 +6,7 @@ use court_days::{Court, Days, Outage};
 use deadline_reasons::{Cause, Reason, derivations_end_in_what_is_shown, reasons_of};
 use rule_periods::{
     DeadlineRow, Entered, Event, Grant, Length, Mark, Period, RulePeriod, check_start,
-    set_days_stay,
+    set_ends_stay,
 };
 use rule6::{Act, ServiceKind};
 use std::alloc::Global;
@@ -92,7 +92,7 @@ fn an_outage_moves_a_backward_period_forward(rt: HostRuntime) -> Result<(), Fail
             Reason::PassedOver(day(&rt, "2007-09-02"), Cause::Sunday),
             Reason::PassedOver(day(&rt, "2007-09-03"), Cause::FederalHoliday),
             Reason::RunsTo(day(&rt, "2007-09-04")),
-            Reason::UntilClosing(day(&rt, "2007-09-04"), 1020),
+            Reason::UntilClosing(day(&rt, "2007-09-04"), 1020, None),
         ],
     )
 }
@@ -121,7 +121,7 @@ fn hours_are_counted_over_a_change_of_the_clocks(rt: HostRuntime) -> Result<(), 
 
 #[test]
 fn a_saturday_that_an_order_sets_stays(rt: HostRuntime) -> Result<(), Fail> {
-    set_days_stay();
+    set_ends_stay();
     let court = court(rt.alloc())?;
     let set = day(&rt, "2007-09-01");
     let outage = Outage::new(set, 540, 600).expect(&rt, "an outage");
@@ -134,7 +134,27 @@ fn a_saturday_that_an_order_sets_stays(rt: HostRuntime) -> Result<(), Fail> {
         entered(Length::ToDay, Direction::After),
         Event::new(set, 0),
         None,
-        &[Reason::Set(set), Reason::UntilClosing(set, 1020)],
+        &[Reason::Set(set), Reason::UntilClosing(set, 1020, None)],
+    )
+}
+
+#[test]
+fn a_time_that_an_order_sets_stays(rt: HostRuntime) -> Result<(), Fail> {
+    let court = court(rt.alloc())?;
+    let set = day(&rt, "2007-11-04");
+    let outage = Outage::new(set, 0, 1440).expect(&rt, "an outage");
+    let days = court.days().with_outage(rt.alloc(), outage)?;
+    // The clock shows 01:30 twice on that Sunday: the first is the time.
+    let end = instant(&rt, &court, "2007-11-04", 90);
+    has_reasons(
+        &rt,
+        rt.alloc(),
+        &court,
+        &days,
+        entered(Length::ToTime, Direction::After),
+        Event::new(set, 90),
+        None,
+        &[Reason::SetAt(end), Reason::UntilInstant(end)],
     )
 }
 

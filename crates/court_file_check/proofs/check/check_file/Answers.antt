@@ -1,7 +1,7 @@
 use Rattle.std.proofs.Common.{refl}
 use Rattle.std.proofs.lemmas.Bool.{both_ways}
 use Rattle.toml.specs.View.{table_view}
-use Rattle.court_days.specs.Words.{court_in}
+use Rattle.court_days.specs.Words.{desk_court_in}
 use Rattle.court_file_text.proofs.CallerLemmas.{toml_of-text, toml_of-none}
 use Rattle.court_file_check.proofs.CheckLemmas.{of_document}
 use Rattle.court_file_check.proofs.check.check_file.Goals as goal
@@ -12,7 +12,7 @@ returns-in_ok-checked-in-Ok c =
     of_document c.args.asked.now c.args.bytes.now (table_view c.in-Ok.file) _ (toml_of-text c.args.bytes.now (table_view c.in-Ok.file) ok.0 ok.1) c.in_ok-checked-in-Ok.ensures
 
 pub returns-else-is_memory : goal.returns-else-is_memory
-unfolding court_in
+unfolding desk_court_in
 returns-else-is_memory c =
     let refused = c.in-Err.ensures.refused (λ memory. both_ways _ c.if-is_memory.false (c.is_memory.ensures.1 memory)) in
     rw (toml_of-none c.args.bytes.now refused) refl

@@ -1,4 +1,3 @@
-use Rattle.std.proofs.Common.{sym, subst, ◌∙◌, ap}
 use Rattle.court_days.specs.Words.{file_of}
 use Rattle.court_writing.specs.Update.{IsGrown}
 use Rattle.court_writing.proofs.grown.check_grown.Goals as goal

@@ -1,8 +1,7 @@
 -- The lines that are collected are those of the text.
-use Rattle.std.proofs.Common.{◌≡◌, ◌==◌, subst, rules, tests}
+use Rattle.std.proofs.Common.{◌≡◌, ◌==◌, rules, tests}
 use Rattle.std.specs.List.{slice_split}
 use Rattle.std.proofs.lemmas.Iterator.Splits.{YieldsList-from_slice_split}
-use Rattle.court_writing.specs.Names.{IsRead, each_line}
 use Rattle.court_writing.specs.Own.{texts}
 use Rattle.court_writing.proofs.NamesLemmas.{views_from_collect}
 use Rattle.court_writing.proofs.names.names_in.Goals as goal

@@ -1,8 +1,5 @@
-use Rattle.std.proofs.Common.{sym, subst}
 use Rattle.std.proofs.lemmas.Result.{IfOk-weaker}
 use Rattle.court_days.specs.Words.{file_of}
-use Rattle.court_writing.specs.Update.{IsRefused, court_said, refusal}
-use Rattle.court_writing.proofs.UpdateLemmas.{memory_refused, not_read}
 use Rattle.court_writing.proofs.update.court_update.Goals as goal
 
 pub returns-in-Ok-clause-updated : goal.returns-in-Ok-clause-updated

@@ -1,4 +1,4 @@
-use Rattle.court_writing.proofs.NamesLemmas.{same_all, same_more}
+use Rattle.court_writing.proofs.NamesLemmas.{same_more}
 use Rattle.court_writing.proofs.writing.are_names.Goals as goal
 
 pub loop-place-preserved : goal.loop-place-preserved

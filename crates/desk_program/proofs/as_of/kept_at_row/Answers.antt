@@ -1,4 +1,4 @@
-use Rattle.std.proofs.Common.{◌≡◌, ◌∙◌, ◌+◌, ◌<◌, [], ℕ, List, ap, arith, length, length-take, subst, sym, take, take_all}
+use Rattle.std.proofs.Common.{◌≡◌, ◌∙◌, ◌<◌, [], ℕ, List, ap, arith, length, length-take, subst, sym, take, take_all}
 use Rattle.std.specs.Prelude.{is_none}
 use Rattle.desk_journal.specs.Words.{batch_of}
 use Rattle.desk_entries.specs.Words.{note_in, row_entries}

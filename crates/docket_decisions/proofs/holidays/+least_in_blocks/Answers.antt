@@ -1,4 +1,4 @@
-use Rattle.std.proofs.Common.{◌≡◌, ◌∙◌, ◌-◌, List, drop, filter, length, take, ap, sym}
+use Rattle.std.proofs.Common.{◌∙◌, ◌-◌, List, drop, filter, length, take, ap, sym}
 use Rattle.hearing_slots.specs.declared.booking.Booking.{Booking}
 use Rattle.hearing_slots.specs.Words.{BlockView, all_in}
 use Rattle.docket_decisions.specs.Inside.Holidays.{least_before, sought_test}

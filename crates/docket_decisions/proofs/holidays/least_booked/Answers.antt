@@ -1,4 +1,4 @@
-use Rattle.std.proofs.Common.{◌∙◌, arith}
+use Rattle.std.proofs.Common.{arith}
 use Rattle.docket_decisions.specs.Inside.Holidays.{sought_test}
 use Rattle.docket_decisions.proofs.HolidayLemmas.{more_judges}
 use Rattle.docket_decisions.proofs.holidays.least_booked.Goals as goal

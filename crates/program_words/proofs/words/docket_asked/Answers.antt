@@ -7,7 +7,6 @@ use Rattle.clap.specs.Words.{App, is_simple}
 use Rattle.program_main.specs.declared.options.fault.OptionsFault.TheVariants.{OutOfMemory}
 use Rattle.program_main.specs.Options.Words.{IsAnswerFor}
 use Rattle.program_words.specs.Asked.{IsAskedBy, faults_by, takes_by}
-use Rattle.program_words.specs.CommandLine.{command_line}
 use Rattle.program_words.proofs.words.docket_asked.Goals as goal
 
 pub returns-clause-asked : goal.returns-clause-asked

@@ -8,13 +8,13 @@ pub returns : goal.returns
 unfolding event_lines
 returns c =
     let court = c.args.court.now in
-    let named = c.args.labels.now.cases in
+    let labels = c.args.labels.now in
     let a = c.args.appointment.now in
     let begin = begin_lines c.args.stamp a.item in
     let sequence = sequence_lines a.revision in
     let status = status_lines a.cancelled in
     let times = time_lines court.clock a.item.day a.item.matter in
-    let words = word_lines court named a in
+    let words = word_lines court labels a in
     let timed = rw c.clock.ensures at c.in_ok-push_times.ensures in
     line_more _ _ _ (begin ++ sequence ++ status ++ times ++ words) (property (codes "END") (codes "VEVENT"))
     (part_more _ _ _ (begin ++ sequence ++ status ++ times) words

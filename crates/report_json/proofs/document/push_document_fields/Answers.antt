@@ -17,6 +17,6 @@ returns-clause-fields c =
     let sheets = c.in_ok-sheets.sheets.items in
     let all =
     four_fields (field (codes "court") (court_value court)) (field (codes "answers") (array_of (answers_from court labels (opening_rows (setup_of court)) rows)))
-    (cases_field court labels.cases sheets) (calendars_field court labels c.args.choice.now (docketed_by court rows)) c.args.out.now in
-    rw (← all, ← c.in_ok-push_court.ensures, ← c.in_ok-push_answers.ensures.answers, ← c.deref.ensures.value, ← c.in_ok-list_field.ensures)
+    (cases_field court labels sheets) (calendars_field court labels c.args.choice.now (docketed_by court rows)) c.args.out.now in
+    rw (← all, ← c.in_ok-push_court.ensures, ← c.in_ok-push_answers.ensures.answers, ← c.deref.ensures.value, ← c.in_ok-called_field.ensures)
     (c.in_ok-push_calendars.ensures (docketed_by court rows) c.in_ok-push_answers.ensures.docket.stands)

@@ -1,7 +1,6 @@
-use Rattle.std.proofs.Common.{◌≡◌, refl}
+use Rattle.std.proofs.Common.{refl}
 use Rattle.docket_rows.specs.Words.{setup_of}
 use Rattle.office_texts.specs.Run.Words.{docketed_then}
-use Rattle.report_memo.specs.Reasons.{days_docketed}
 use Rattle.report_memo.proofs.DaysLemmas.{renewed}
 use Rattle.report_memo.proofs.TextLemmas.{on_ok}
 use Rattle.report_memo.proofs.replies.push_row.Goals as goal

@@ -4,4 +4,4 @@ use Rattle.report_page.proofs.due.push_rows.Given as goal
 
 -- the rows so far, and those of the items that are left, are all
 abbrev pub invariant-loop-item : goal.invariant-loop-item
-invariant-loop-item l = l.page ++ due_rows l.court l.labels.cases l.before (drop l.item-index l.items) ≡ l.fn.page ++ due_rows l.court l.labels.cases None l.items
+invariant-loop-item l = l.page ++ due_rows l.court l.labels l.before (drop l.item-index l.items) ≡ l.fn.page ++ due_rows l.court l.labels None l.items

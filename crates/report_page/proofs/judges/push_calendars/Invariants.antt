@@ -5,4 +5,4 @@ use Rattle.report_page.proofs.judges.push_calendars.Given as goal
 
 -- the parts so far, and those that are left, are all
 abbrev pub invariant-loop-calendar : goal.invariant-loop-calendar
-invariant-loop-calendar l = l.page ++ flat_map (judge_part l.court l.labels.cases) (drop l.calendar-index l.calendars) ≡ l.fn.page ++ flat_map (judge_part l.court l.labels.cases) l.calendars
+invariant-loop-calendar l = l.page ++ flat_map (judge_part l.court l.labels) (drop l.calendar-index l.calendars) ≡ l.fn.page ++ flat_map (judge_part l.court l.labels) l.calendars

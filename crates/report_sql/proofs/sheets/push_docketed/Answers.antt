@@ -24,7 +24,7 @@ returns c = λ docketed stands.
     let numbers = map (numbered_sheet labels.moved) in
     let sheets : c.deref.result.now ≡ numbers (open_sheets (setup_of court) docketed) =
     c.deref.ensures.value ∙ rw moved at c.in_ok-sheets.ensures docketed stands ∙ ap (λ setup. numbers (open_sheets setup docketed)) c.requires.court in
-    let cases : List Sheet → List ℕ = λ ss. flat_map (sheet_rows court c.args.labels.now.cases) ss in
+    let cases : List Sheet → List ℕ = λ ss. flat_map (sheet_rows court labels) ss in
     c.in_ok-push_sheets.ensures
     ∙ ap (λ t. t ++ cases c.deref.result.now) c.in_ok-push_outages.ensures
     ∙ append_assoc before (numbered outage_row 1 c.outages.result.now) (cases c.deref.result.now)

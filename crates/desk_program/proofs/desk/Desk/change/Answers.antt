@@ -1,4 +1,4 @@
-use Rattle.std.proofs.Common.{◌≡◌, ◌∙◌, ◌<◌, ℕ, List, Err, ap, length, refl, sym, arith}
+use Rattle.std.proofs.Common.{◌∙◌, ◌<◌, ℕ, List, Err, ap, length, refl, sym, arith}
 use Rattle.desk_journal.specs.Words.{batch_of}
 use Rattle.desk_entries.specs.Words.{most_entries}
 use Rattle.desk_entries.proofs.CallerLemmas.{length_batch}

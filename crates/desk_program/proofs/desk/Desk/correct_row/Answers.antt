@@ -1,4 +1,4 @@
-use Rattle.std.proofs.Common.{◌≡◌, ◌∙◌, ◌<◌, ℕ, List, Err, ap, length, refl, sym, subst, arith}
+use Rattle.std.proofs.Common.{◌∙◌, ◌<◌, ℕ, List, Err, ap, length, refl, sym, subst, arith}
 use Rattle.desk_journal.specs.Words.{batch_of}
 use Rattle.program_streams.specs.Words.{watched}
 use Rattle.desk_entries.specs.Words.{most_entries, unsaid_by}

@@ -1,14 +1,14 @@
-use Rattle.std.proofs.Common.{◌≡◌, ◌≢◌, ◌∙◌, ℕ, Bool, List, [], ◌++◌, None, Ok, Some, ap, length, map, refl, subst, sym}
+use Rattle.std.proofs.Common.{◌≡◌, ◌∙◌, Bool, List, ◌++◌, Ok, ap, length, map, refl, subst, sym}
 use Rattle.std.specs.Prelude.{option_map, false}
 use Rattle.std.proofs.lemmas.List.{length-map}
 use Rattle.std.specs.Io.KnownBytes.{Appends}
-use Rattle.desk_journal.specs.Words.{IsKept, StandsFor, disk_of}
+use Rattle.desk_journal.specs.Words.{IsKept, disk_of}
 use Rattle.desk_journal.proofs.CallerLemmas.{rest_kept}
 use Rattle.desk_session.specs.Words.{IsPromised, IsServed, left_by, lines_of, numbered_lines, stopped_in, unmarked_lines}
 use Rattle.desk_entries.specs.Words.{FaultyLine, IsReadyAt, fault_in, faults_of}
 use Rattle.program_streams.specs.declared.watched.Watched.{Watched}
 use Rattle.program_streams.specs.Words.{has_failed, watched}
-use Rattle.desk_program.specs.Desk.{answers_at, disk_under, held_at, leaves_at, standing_at}
+use Rattle.desk_program.specs.Desk.{answers_at, held_at, leaves_at, standing_at}
 use Rattle.desk_program.specs.Together.{faults_in, line_faults_text, stopped_text}
 use Rattle.desk_program.proofs.DeskLemmas.{all_or_none_docket, kept_together, none_docket, none_promised, promised_docket}
 use Rattle.desk_program.proofs.TogetherLemmas.{as_held, as_refused, listed_not_stopped, never_none, none_at_fault, says_listed, says_stopped, says_unserved, some_at_fault, stopped_no_faults, unserved_other}

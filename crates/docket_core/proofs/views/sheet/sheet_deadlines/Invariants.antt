@@ -6,5 +6,5 @@ use Rattle.docket_core.proofs.views.sheet.sheet_deadlines.Given as goal
 abbrev pub invariant-loop-row : goal.invariant-loop-row
 invariant-loop-row g l = record {
   count : length l.list.items ≡ l.row-index;
-  whole : l.list.items ++ map (sheet_deadline l.rules (g.S.Sight.parts l.sight)) (numbered_deadlines (l.row-index + 1) (drop l.row-index l.rows)) ≡ map (sheet_deadline l.rules (g.S.Sight.parts l.sight)) (numbered_deadlines 1 l.rows);
+  whole : l.list.items ++ map (sheet_deadline l.rules (g.S.Sight.parts l.sight) l.facts) (numbered_deadlines (l.row-index + 1) (drop l.row-index l.rows)) ≡ map (sheet_deadline l.rules (g.S.Sight.parts l.sight) l.facts) (numbered_deadlines 1 l.rows);
 }

@@ -1,5 +1,5 @@
 -- The getters read what the parse's matches show, and the kinds of the parse's faults go over to those of the answer.
-use Rattle.std.proofs.Common.{◌∙◌, Some, ap, arith, codes, subst, sym}
+use Rattle.std.proofs.Common.{◌∙◌, Some, ap, codes, subst, sym}
 use Rattle.clap.specs.Faults.{fault_of, is_simple_and_free}
 use Rattle.clap.specs.Kinds.{HasKind, Kinds}
 use Rattle.clap.specs.Takes.{takes}

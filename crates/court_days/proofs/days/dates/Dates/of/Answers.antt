@@ -1,4 +1,4 @@
-use Rattle.std.proofs.Common.{length, arith}
+use Rattle.std.proofs.Common.{arith}
 use Rattle.court_days.proofs.DaysLemmas.DatesLemmas.{all_dates, one_date_more}
 use Rattle.court_days.proofs.days.dates.Dates.of.Goals as goal
 

@@ -1,4 +1,4 @@
-use Rattle.std.proofs.Common.{◌≡◌, ◌∙◌, List, ℤ, not, subst, sym}
+use Rattle.std.proofs.Common.{◌≡◌, ◌∙◌, not, subst, sym}
 use Rattle.std.specs.List.{IsDistinct}
 use Rattle.std.specs.Ordering.{int_eq}
 use Rattle.court_days.specs.Days.{drop_dates, is_among}

@@ -1,0 +1,15 @@
+use Rattle.std.proofs.Common.{refl}
+use Rattle.std.proofs.lemmas.Bool.{both_ways}
+use Rattle.toml.specs.View.{table_view}
+use Rattle.court_file_text.proofs.CallerLemmas.{toml_of-text, toml_of-none}
+use Rattle.court_days.proofs.court.document_of.Goals as goal
+
+pub returns-in-Ok : goal.returns-in-Ok
+returns-in-Ok c =
+    let ok = c.in-Ok.ensures.ok in
+    rw (toml_of-text c.args.bytes.now (table_view c.in-Ok.file) ok.0 ok.1) refl
+
+pub returns-else-is_memory : goal.returns-else-is_memory
+returns-else-is_memory c =
+    let refused = c.in-Err.ensures.refused (λ memory. both_ways _ c.if-is_memory.false (c.is_memory.ensures.1 memory)) in
+    rw (toml_of-none c.args.bytes.now refused) refl

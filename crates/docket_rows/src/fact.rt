@@ -1,0 +1,398 @@
+//! What is recorded of a case beside its deadlines, its motions and their hearings.
+
+ghost use Rattle.std.specs.Prelude.{◌≡◌};
+ghost use Rattle.docket_rows.specs.Facts.{assigned_in, assigned_then, closed_then, closing_in, closing_word, ended_in, ended_then, ending_in, ending_word, fact_naming, is_assigned_after, is_kept, ruled_then, ruling_in, ruling_word};
+
+use crate::command::Counted;
+use court_clock::Day;
+
+/// Why a deadline is due no more.
+#[derive(Clone, Copy, Debug, PartialEq, Eq)]
+pub enum Ending {
+    /// Nothing is left to be done.
+    Moot,
+    /// The order that set it, or from which it was counted, was vacated.
+    Vacated,
+    /// The case is stayed.
+    Stayed,
+    /// A motion suspends it (Fed. R. Civ. P. 12(a)(4)).
+    Suspended,
+    /// The paper that it answers was withdrawn.
+    Withdrawn,
+    /// The case is closed.
+    CaseClosed,
+}
+
+/// How a case was closed.
+#[derive(Clone, Copy, Debug, PartialEq, Eq)]
+pub enum Closing {
+    /// It was dismissed.
+    Dismissed,
+    /// Judgment was entered.
+    Judgment,
+    /// It was settled.
+    Settled,
+    /// It was transferred to another court.
+    Transferred,
+    /// It was remanded to a state's court.
+    Remanded,
+    /// It was closed otherwise.
+    Otherwise,
+}
+
+/// That a case was closed.
+#[derive(Clone, Copy, Debug, PartialEq, Eq)]
+pub struct Closure {
+    /// How.
+    pub why: Closing,
+    /// The day of the order or the paper that says so.
+    pub dated: Day,
+}
+
+/// How a motion was ruled on.
+#[derive(Clone, Copy, Debug, PartialEq, Eq)]
+pub enum Ruling {
+    /// It is granted.
+    Granted,
+    /// It is denied.
+    Denied,
+    /// It is granted in part and denied in part.
+    InPart,
+    /// It is denied as moot: nothing is left to be decided.
+    Moot,
+    /// It was withdrawn by who made it.
+    Withdrawn,
+    /// The court decides it later: it is still pending.
+    Reserved,
+}
+
+/// That a motion was ruled on.
+#[derive(Clone, Copy, Debug, PartialEq, Eq)]
+pub struct DatedRuling {
+    /// How.
+    pub ruling: Ruling,
+    /// The day of the order or the paper that says so.
+    pub dated: Day,
+}
+
+/// Who has a case.
+#[derive(Clone, Copy, Debug, PartialEq, Eq)]
+pub struct Assignment {
+    /// The number of the judge who has it, in the court's file.
+    pub judge: u8,
+    /// The number of the judge to whom it is referred, if it is.
+    pub referred: Option<u8>,
+    /// The day of the order or the paper that says so, from which on it counts.
+    pub dated: Day,
+}
+
+/// What is recorded of a case.
+#[derive(Clone, Copy, Debug, PartialEq, Eq)]
+pub enum Fact {
+    /// A deadline is due no more.
+    Ended {
+        /// The number of the deadline in its case.
+        deadline: u32,
+        /// Why.
+        why: Ending,
+        /// The day of the order or the paper that says so.
+        dated: Day,
+    },
+    /// A deadline that was ended is due again, on its days as before.
+    Resumed {
+        /// The number of the deadline in its case.
+        deadline: u32,
+        /// The day of the order or the paper that says so.
+        dated: Day,
+    },
+    /// The case is closed.
+    Closed {
+        /// How.
+        why: Closing,
+        /// The day of the order or the paper that says so.
+        dated: Day,
+    },
+    /// The case, which was closed, is open again.
+    Reopened {
+        /// The day of the order or the paper that says so.
+        dated: Day,
+    },
+    /// A motion is ruled on. A hearing of it that is set for a later day than that of the ruling is taken off the calendar.
+    Ruled {
+        /// The number of the motion in its case.
+        motion: u32,
+        /// How.
+        ruling: Ruling,
+        /// The day of the order or the paper that says so.
+        dated: Day,
+    },
+    /// The case is assigned to a judge, and may be referred to another.
+    Assigned {
+        /// The number of the judge who has it, in the court's file.
+        judge: u8,
+        /// The number of the judge to whom it is referred, if it is.
+        referred: Option<u8>,
+        /// The day of the order or the paper that says so.
+        dated: Day,
+    },
+    /// The case has a title. The text is kept outside of the docket, with the row that says it.
+    Titled,
+    /// A deadline or a motion has a label. The text is kept outside of the docket, with the row that says it.
+    Labelled {
+        /// Which of the two it is.
+        counted: Counted,
+        /// Its number in the case.
+        number: u32,
+    },
+}
+
+impl Ending {
+    /// The word by which texts name it.
+    pub fn word(self) -> &'static str
+        ensures { result.now ≡ ending_word self }
+    {
+        match self {
+            Ending::Moot => "moot",
+            Ending::Vacated => "vacated",
+            Ending::Stayed => "stayed",
+            Ending::Suspended => "suspended",
+            Ending::Withdrawn => "withdrawn",
+            Ending::CaseClosed => "case closed",
+        }
+    }
+}
+
+impl Closing {
+    /// The word by which texts name it.
+    pub fn word(self) -> &'static str
+        ensures { result.now ≡ closing_word self }
+    {
+        match self {
+            Closing::Dismissed => "dismissed",
+            Closing::Judgment => "judgment",
+            Closing::Settled => "settled",
+            Closing::Transferred => "transferred",
+            Closing::Remanded => "remanded",
+            Closing::Otherwise => "otherwise",
+        }
+    }
+}
+
+impl Ruling {
+    /// The word by which texts name it.
+    pub fn word(self) -> &'static str
+        ensures { result.now ≡ ruling_word self }
+    {
+        match self {
+            Ruling::Granted => "granted",
+            Ruling::Denied => "denied",
+            Ruling::InPart => "in part",
+            Ruling::Moot => "moot",
+            Ruling::Withdrawn => "withdrawn",
+            Ruling::Reserved => "reserved",
+        }
+    }
+}
+
+impl Fact {
+    /// Whether its case keeps it. What a case or a thing in it is called is decided, and changes nothing of the docket.
+    pub fn is_kept(&self) -> bool
+        ensures { result ≡ is_kept self.now }
+    {
+        match *self {
+            Fact::Ended { .. } => true,
+            Fact::Resumed { .. } => true,
+            Fact::Closed { .. } => true,
+            Fact::Reopened { .. } => true,
+            Fact::Ruled { .. } => true,
+            Fact::Assigned { .. } => true,
+            Fact::Titled => false,
+            Fact::Labelled { .. } => false,
+        }
+    }
+
+    // The same fact of the deadline or the motion of that number. One of neither stays as it is.
+    pub(crate) fn naming(&self, number: u32) -> Fact
+        ensures { result ≡ fact_naming self.now number }
+    {
+        match *self {
+            Fact::Ended { why, dated, .. } => Fact::Ended {
+                deadline: number,
+                why,
+                dated,
+            },
+            Fact::Resumed { dated, .. } => Fact::Resumed {
+                deadline: number,
+                dated,
+            },
+            Fact::Closed { .. } | Fact::Reopened { .. } => *self,
+            Fact::Ruled { ruling, dated, .. } => Fact::Ruled {
+                motion: number,
+                ruling,
+                dated,
+            },
+            Fact::Assigned { .. } => *self,
+            Fact::Titled => *self,
+            Fact::Labelled { counted, .. } => Fact::Labelled { counted, number },
+        }
+    }
+}
+
+/// How a case of which these facts are recorded was closed, from the first on. `None` where it wasn't, or was reopened.
+#[tactic(auto, unfolding(crate::specs::Facts::closing_in))]
+pub fn closing_in(facts: &[Fact]) -> Option<Closure>
+    ensures { result ≡ closing_in facts.now }
+{
+    let mut closed = None;
+    for fact in facts {
+        closed = closed_then(closed, *fact);
+    }
+    closed
+}
+
+/// How the case was closed and not reopened, after one fact more.
+fn closed_then(before: Option<Closure>, fact: Fact) -> Option<Closure>
+    ensures { result ≡ closed_then before fact }
+{
+    match fact {
+        Fact::Closed { why, dated } => Some(Closure { why, dated }),
+        Fact::Reopened { .. } => None,
+        Fact::Ended { .. } | Fact::Resumed { .. } => before,
+        Fact::Ruled { .. } => before,
+        Fact::Assigned { .. } => before,
+        Fact::Titled => before,
+        Fact::Labelled { .. } => before,
+    }
+}
+
+/// Why the deadline of that number is due no more, by the facts of its case: the case is closed, or the deadline was ended and not
+/// resumed. `None` where neither is so.
+#[tactic(auto, unfolding(crate::specs::Facts::ending_in))]
+pub fn ending_in(facts: &[Fact], number: u32) -> Option<Ending>
+    ensures { result ≡ ending_in facts.now number }
+{
+    if closing_in(facts).is_some() {
+        return Some(Ending::CaseClosed);
+    }
+    ended_in(facts, number)
+}
+
+/// Why the deadline of that number was ended and not resumed, by the facts of its case, from the first on.
+fn ended_in(facts: &[Fact], number: u32) -> Option<Ending>
+    ensures { result ≡ ended_in facts.now number }
+{
+    let mut ending = None;
+    for fact in facts {
+        ending = ended_then(number, ending, *fact);
+    }
+    ending
+}
+
+/// Why the deadline of that number was ended and not resumed, after one fact more.
+fn ended_then(number: u32, before: Option<Ending>, fact: Fact) -> Option<Ending>
+    ensures { result ≡ ended_then number before fact }
+{
+    match fact {
+        Fact::Ended { deadline, why, .. } => {
+            if deadline == number {
+                Some(why)
+            } else {
+                before
+            }
+        }
+        Fact::Resumed { deadline, .. } => { if deadline == number { None } else { before } }
+        Fact::Closed { .. } | Fact::Reopened { .. } => before,
+        Fact::Ruled { .. } => before,
+        Fact::Assigned { .. } => before,
+        Fact::Titled => before,
+        Fact::Labelled { .. } => before,
+    }
+}
+
+/// How the motion of that number was ruled on, by the facts of its case, from the first on: the last ruling counts. `None` where it
+/// wasn't. A motion of which the ruling is reserved is still pending.
+#[tactic(auto, unfolding(crate::specs::Facts::ruling_in))]
+pub fn ruling_in(facts: &[Fact], number: u32) -> Option<DatedRuling>
+    ensures { result ≡ ruling_in facts.now number }
+{
+    let mut ruled = None;
+    for fact in facts {
+        ruled = ruled_then(number, ruled, *fact);
+    }
+    ruled
+}
+
+/// How the motion of that number was ruled on last, after one fact more.
+fn ruled_then(number: u32, before: Option<DatedRuling>, fact: Fact) -> Option<DatedRuling>
+    ensures { result ≡ ruled_then number before fact }
+{
+    match fact {
+        Fact::Ruled {
+            motion,
+            ruling,
+            dated,
+        } => {
+            if motion == number {
+                Some(DatedRuling { ruling, dated })
+            } else {
+                before
+            }
+        }
+        Fact::Ended { .. } | Fact::Resumed { .. } => before,
+        Fact::Closed { .. } | Fact::Reopened { .. } => before,
+        Fact::Assigned { .. } => before,
+        Fact::Titled => before,
+        Fact::Labelled { .. } => before,
+    }
+}
+
+/// Who has a case of which these facts are recorded, from the first on. `None` where it wasn't assigned. An assignment of an earlier day
+/// takes no later one's place; of those of one day the last counts.
+#[tactic(auto, unfolding(crate::specs::Facts::assigned_in))]
+pub fn assigned_in(facts: &[Fact]) -> Option<Assignment>
+    ensures { result ≡ assigned_in facts.now }
+{
+    let mut assigned = None;
+    for fact in facts {
+        assigned = assigned_then(assigned, *fact);
+    }
+    assigned
+}
+
+/// Who has the case, after one fact more.
+fn assigned_then(before: Option<Assignment>, fact: Fact) -> Option<Assignment>
+    ensures { result ≡ assigned_then before fact }
+{
+    match fact {
+        Fact::Assigned {
+            judge,
+            referred,
+            dated,
+        } => {
+            if is_assigned_after(dated, &before) {
+                before
+            } else {
+                Some(Assignment {
+                    judge,
+                    referred,
+                    dated,
+                })
+            }
+        }
+        Fact::Ended { .. } | Fact::Resumed { .. } => before,
+        Fact::Closed { .. } | Fact::Reopened { .. } => before,
+        Fact::Ruled { .. } => before,
+        Fact::Titled => before,
+        Fact::Labelled { .. } => before,
+    }
+}
+
+/// Whether the assignment is of a day after this one.
+fn is_assigned_after(day: Day, assigned: &Option<Assignment>) -> bool
+    ensures { result ≡ is_assigned_after day assigned.now }
+{
+    match assigned {
+        Some(assignment) => day.number() < assignment.dated.number(),
+        None => false,
+    }
+}

@@ -1,0 +1,120 @@
+//! What comes behind how an entered period is entered: the sections that set such a period, or else its code.
+
+ghost use Rattle.std.specs.Prelude.{◌≡◌, ◌++◌, OnOk, codes, map, string_bytes};
+ghost use Rattle.row_fields.specs.Words.{period_view};
+ghost use Rattle.office_texts.specs.Words.{entered_text};
+ghost use Rattle.report_memo.specs.Called.{book_words, citation, citations, code_back, is_other, period_back, sets_period};
+
+use office_texts::push_entered;
+use row_fields::{NamedPeriod, RuleBook, named_periods};
+use rule_periods::{Entered, Period};
+use std::alloc::{AllocError, Global};
+
+/// Adds what comes behind how a period is entered: the sections of docs/law/RULES.md that set a period of the same form, or, where
+/// none does, its code as rows have it. A period of the Rules has nothing. `Err` says that memory ran out.
+#[tactic(auto, unfolding(crate::specs::Called::period_back))]
+pub(crate) fn push_period_back(
+    alloc: Global,
+    text: &mut String,
+    period: &Period,
+) -> Result<(), AllocError>
+    ensures { OnOk result (string_bytes text.new ≡ string_bytes text.old ++ period_back period.now) }
+{
+    match period {
+        Period::Rule(_) => Ok(()),
+        Period::Entered(entered) => push_entered_back(alloc, text, entered),
+    }
+}
+
+/// Adds what comes behind how an entered period is entered.
+fn push_entered_back(alloc: Global, text: &mut String, entered: &Entered) -> Result<(), AllocError>
+    ensures { OnOk result (string_bytes text.new ≡ string_bytes text.old ++ code_back (entered_text entered.now)) }
+{
+    let mut code = String::new(alloc);
+    push_entered(&mut code, entered)?;
+    push_code_back(alloc, text, code.as_str())
+}
+
+/// Adds the sections that set a period with this code, or the code.
+#[tactic(auto, unfolding(crate::specs::Called::code_back))]
+fn push_code_back(alloc: Global, text: &mut String, code: &str) -> Result<(), AllocError>
+    ensures { OnOk result (string_bytes text.new ≡ string_bytes text.old ++ code_back code.now) }
+{
+    let mut none = String::new(alloc);
+    push_in_parentheses(&mut none, code)?;
+    push_citations(text, ", as in ", none.as_str(), code, named_periods())
+}
+
+/// Adds a code in parentheses.
+fn push_in_parentheses(text: &mut String, code: &str) -> Result<(), AllocError>
+    ensures { OnOk result (string_bytes text.new ≡ string_bytes text.old ++ codes " (" ++ code.now ++ codes ")") }
+{
+    text.push_str(" (")?;
+    text.push_str(code)?;
+    text.push_str(")")
+}
+
+/// Adds those of these sections that set a period with this code, with `front` before the first one and a comma between two;
+/// `none` where none does.
+#[tactic(auto, unfolding(crate::specs::Called::citations))]
+fn push_citations(
+    text: &mut String,
+    front: &str,
+    none: &str,
+    code: &str,
+    periods: &[NamedPeriod],
+) -> Result<(), AllocError>
+    ensures { OnOk result (string_bytes text.new ≡ string_bytes text.old ++ citations front.now none.now code.now (map period_view periods.now)) }
+{
+    match periods {
+        [] => text.push_str(none),
+        [period, rest @ ..] => {
+            if sets_period(code, period) {
+                text.push_str(front)?;
+                push_citation(text, period)?;
+                push_citations(text, ", ", "", code, rest)
+            } else {
+                push_citations(text, front, none, code, rest)
+            }
+        }
+    }
+}
+
+/// Whether a section sets a period with this code.
+#[tactic(auto, unfolding(crate::specs::Called::sets_period))]
+fn sets_period(code: &str, period: &NamedPeriod) -> bool
+    ensures { result ≡ sets_period code.now (period_view period.now) }
+{
+    period.text.as_bytes() == code.as_bytes() || is_other(code, period)
+}
+
+/// Whether the other period that a section sets, if it sets two, has this code.
+fn is_other(code: &str, period: &NamedPeriod) -> bool
+    ensures { result ≡ is_other code.now (period_view period.now).other }
+{
+    match period.other {
+        None => false,
+        Some(other) => other.as_bytes() == code.as_bytes(),
+    }
+}
+
+/// Adds a section as it is cited.
+fn push_citation(text: &mut String, period: &NamedPeriod) -> Result<(), AllocError>
+    ensures { OnOk result (string_bytes text.new ≡ string_bytes text.old ++ citation (period_view period.now)) }
+{
+    text.push_str(book_words(period.book))?;
+    text.push_str(period.section)
+}
+
+/// What stands before a section of that book.
+fn book_words(book: RuleBook) -> &'static str
+    ensures { result.now ≡ book_words book }
+{
+    match book {
+        RuleBook::CivilRules => "Rule ",
+        RuleBook::ForfeitureRules => "",
+        RuleBook::SocialSecurityRules => "",
+        RuleBook::AppellateRules => "",
+        RuleBook::UnitedStatesCode => "",
+    }
+}
