@@ -6,6 +6,7 @@ mod clock;
 mod days;
 mod deadlines;
 mod docket;
+mod facts;
 mod office;
 mod office_clerks;
 mod reasons;
