@@ -173,6 +173,28 @@ def spoiled():
     way("the time of e-filing is below a header", COURT + '\n[holiday_names]\n2025-09-01 = "Labor Day"\nefiling_until = "18:00"\n')
     way("the key of e-filing is misspelled", put("efiling_until", "efiling_untl", until('"18:00"')))
 
+    # the names of periods
+    def named(text):
+        return COURT + "\n[periods]\n" + text
+
+    opposition = 'opposition = "14d/after/service/served/plain"\n'
+    way("a period has a name", named(opposition + '\n[periods.cite]\nopposition = "LRCiv 7.2(c)"\n'))
+    way("a period without its mark", named('opposition = "14d/after/service/served"\n'))
+    way("a period of too many days", named(opposition + 'long = "3651d/after/filing/event/plain"\n'))
+    way("a period that is a number", named("opposition = 14\n"))
+    way("the name of a period is a section's", named('50b = "7d/after/filing/event/plain"\n'))
+    way("a blank in the name of a period", named('"reply brief" = "7d/after/filing/served/plain"\n'))
+    way("where a period is from that isn't there", named(opposition + '\n[periods.cite]\nreply = "LRCiv 7.2(d)"\n'))
+    way("the names of periods are a text", COURT + 'periods = "14d/after/service/served/plain"\n')
+
+    def sets(text):
+        return COURT + "\n[triggers]\n" + text
+
+    way("sets of periods", sets('judgment = "50b, FRAP 4(a)(1)(A), 62(a)"\nmotion = "14d/after/service/served/plain"\n'))
+    way("a set with a period that is none", sets('judgment = "50b, 50c, 59e"\n'))
+    way("a set with a section that sets two periods", sets('judgment = "50b, FRAP 4(a)(1)"\n'))
+    way("a set that is a list", sets('judgment = ["50b"]\n'))
+
     # the span
     way("to is before from", put('to = "2026-12-31"', 'to = "2024-12-31"'))
     way("to is moved", put('to = "2026-12-31"', 'to = "2030-12-31"'))

@@ -67,7 +67,7 @@ def drawn_row(draw):
         "1,extend,{},{},+7d,{},09:00,yes,yes,yes".format(case, number, day),
         "1,reset,{},{},{},{},{}".format(case, number, day, draw.choice(["", "", "09:30"]), day),
         "1,end,{},{},{},{}".format(case, number, draw.choice(["moot", "vacated", "stayed", "suspended", "withdrawn"]), day),
-        "1,resume,{},{},,{}".format(case, number, day),
+        "1,resume,{},{},{},{}".format(case, number, draw.choice(["", day]), day),
         draw.choice(["1,close,{},settled,{}", "1,reopen,{},{}", "1,reopen,{},{}"]).format(case, day),
         "1,assign,{},{},{},{}".format(case, draw.choice(JUDGES), draw.choice(["", "", *JUDGES]), day),
         draw.choice(["1,title,{case},{text}", "1,label,{case},{of},{number},{text}"]).format(

@@ -12,6 +12,9 @@ from reference.docket import (DATES, DEADLINES, FACTS, GRANTS, MOTIONS, OUTAGES,
 from reference.periods import granted, is_in_range, is_order, is_set, shown
 from reference.rule6 import AFTER, BEFORE, BEYOND, ELECTRONIC, FILING, PAPER, Filing, day_end, is_timely, permitted
 
+# The codes and marks of motions that give the time for an appeal another beginning.
+MOVES_APPEAL = {"50b", "52b", "59b", "59e"}
+
 
 def notes(court, rows, work, answer):
     """What is said of the answer to a command or to a question."""
@@ -186,6 +189,8 @@ def of_deadline(court, rows, row, filed, today):
     lines += of_end(court, row, end)
     if runs_from_event(row) and row.filed is not None and row.filed.day < starts(row):
         lines.append(note(row.filed.day, "the act was done before its event"))
+    if row.filed is not None and row.period.text.split("/")[-1] in MOVES_APPEAL:
+        lines.append(note(row.filed.day, "if timely, the time to appeal moves: FRAP 4(a)(4)"))
     return lines
 
 
@@ -363,7 +368,7 @@ REFUSED = {
     25: by_command(MOST),
     26: alone("the court's file names no such judge", "ours"),
     27: alone("the court's file names no such room", "ours"),
-    28: by_grant("hours are extended by hours, days by days", "a day is reset to a day, an hour to an hour", "ours"),
+    28: alone("hours are extended by hours, days by days", "ours"),
     29: by_command(PANELS),
     30: alone("the case is closed; `reopen` opens it again", "ours"),
     31: alone("the case isn't closed; `close` closes one", "ours"),

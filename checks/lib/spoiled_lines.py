@@ -81,6 +81,7 @@ def spoiled():
         way(name + " as why a deadline is ended", put(end, "moot", why))
     way("a day of an order that is none", put(end, "2025-10-06", "9/31/2025"))
     way("a day for a deadline that is resumed", put(resume, ",,", ",2025-11-03,"))
+    way("no date for a deadline that is resumed", put(resume, ",,", ",soon,"))
     way("the day of an order in the place before it", put(resume, ",,", ","))
     # cases that are closed
     close = "1,close,12,settled,2025-11-03"
@@ -210,4 +211,8 @@ def spoiled():
     way("a fault between semicolons", "1;start;12;59g;2025-08-04")
     way("a long dash in a date", put(start, "2025-08-04", "2025\u201308\u201432"))
     way("a blank that doesn't break", put(start, ",12,", ",\u00a0x12,"))
+    # triggers
+    way("a set of periods that isn't there", "1,trigger,12,judgement,2025-08-04")
+    way("a trigger with a field too many", "1,trigger,12,judgment,2025-08-04,,,,x")
+    way("a set of one period", "1,trigger,12,complaint,2025-08-04")
     return ways

@@ -8,7 +8,7 @@ use Rattle.court_file_text.specs.declared.key.Key.TheVariants as key
 use Rattle.court_file_text.specs.declared.fault.CourtFault.{CourtFault}
 use Rattle.court_file_text.specs.declared.fault.CourtFault.TheVariants.{NotToml, BadZone, BadHours, BadSpan}
 use Rattle.court_days.specs.Days.{DaysView}
-use Rattle.court_file_text.specs.Words.{◌>>=◌, must, toml_of, key_name, text_at, minute_at, minute_if_there, date_at, names_at}
+use Rattle.court_file_text.specs.Words.{◌>>=◌, must, toml_of, key_name, text_at, minute_at, minute_if_there, date_at, names_at, PeriodNamesView, no_period_names, period_names}
 use Rattle.court_days.specs.Court.Reading.{dates_at}
 
 -- what a court's file says
@@ -20,13 +20,15 @@ pub record CourtFile : Type 0 where
   pub days : DaysView
   pub judges : List (List ℕ)
   pub rooms : List (List ℕ)
+  pub periods : PeriodNamesView
 
--- a court: its clock, its days, and the names of its judges and rooms in the order of its file
+-- a court: its clock, its days, the names of its judges and rooms in the order of its file, and those that it gives to periods
 pub record CourtView : Type 0 where
   pub clock : ClockView
   pub days : DaysView
   pub judges : List (List ℕ)
   pub rooms : List (List ℕ)
+  pub periods : PeriodNamesView
 
 -- the file that says what a court is
 abbrev pub file_of : CourtView → CourtFile
@@ -38,6 +40,7 @@ file_of court = record {
   days = court.days;
   judges = court.judges;
   rooms = court.rooms;
+  periods = court.periods;
 }
 
 -- two values of one court: they can differ only in how the zone of its clock is kept
@@ -46,6 +49,7 @@ pub record IsSameCourt (a b : CourtView) : Type 0 where
   pub days : a.days ≡ b.days
   pub judges : a.judges ≡ b.judges
   pub rooms : a.rooms ≡ b.rooms
+  pub periods : a.periods ≡ b.periods
 
 -- the zone
 unfoldable pub zone_at : Members → Result Zone CourtFault
@@ -75,7 +79,7 @@ days_at file = do
   state ← dates_at key.State from to file
   Ok (record { from = from; to = to; federal = federal; state = state; outages = [] })
 
--- the whole file, key by key, as clerk_office reads it: for it electronic filing runs to midnight
+-- the whole file, key by key, as clerk_office reads it: for it electronic filing runs to midnight, and no period has a name
 unfoldable pub court_of : Members → Result CourtFile CourtFault
 court_of file = do
   zone ← zone_at file
@@ -83,7 +87,7 @@ court_of file = do
   days ← days_at file
   judges ← names_at key.Judges file
   rooms ← names_at key.Rooms file
-  Ok (record { zone = zone; opens = hours.0; closes = hours.1; efiling_until = None; days = days; judges = judges; rooms = rooms })
+  Ok (record { zone = zone; opens = hours.0; closes = hours.1; efiling_until = None; days = days; judges = judges; rooms = rooms; periods = no_period_names })
 
 -- the court whose file the bytes are
 unfoldable pub court_in : List ℕ → Result CourtFile CourtFault
@@ -96,13 +100,17 @@ abbrev pub with_minute : Option ℕ → CourtFile → CourtFile
 with_minute None file = file
 with_minute (Some minute) file = record file { efiling_until = Some minute }
 
--- The whole file, as the desk reads it: after those keys the one by which a local rule sets that minute (Fed. R. Civ. P. 6(a)(4)). It may
--- be missing.
+-- the file with the names that it gives to periods
+abbrev pub with_names : PeriodNamesView → CourtFile → CourtFile
+with_names names file = record file { periods = names }
+
+-- The whole file, as the desk reads it: after those keys the one by which a local rule sets that minute (Fed. R. Civ. P. 6(a)(4)), and
+-- the names of periods. Either may be missing.
 unfoldable pub desk_court_of : Members → Result CourtFile CourtFault
 desk_court_of document = do
   file ← court_of document
   minute ← minute_if_there key.EfilingUntil document
-  Ok (with_minute minute file)
+  Ok (with_names (period_names document) (with_minute minute file))
 
 -- the court whose file the bytes are, as the desk reads it
 unfoldable pub desk_court_in : List ℕ → Result CourtFile CourtFault
@@ -110,13 +118,14 @@ desk_court_in bytes = do
   document ← ok_or (toml_of bytes) NotToml
   desk_court_of document
 
--- Without that key the desk reads a court's file as clerk_office does. Whatever the desk reads clerk_office reads too, and alike but for
--- that minute; and clerk_office never has one.
+-- Without that key and without names of periods the desk reads a court's file as clerk_office does. Whatever the desk reads clerk_office
+-- reads too, and alike but for that minute and those names; and clerk_office never has one.
 pub record DeskReadsAlike : Type 0 where
-  pub without_the_key : (document : Members) → get_member (key_name key.EfilingUntil) document ≡ None → desk_court_of document ≡ court_of document
+  pub without_the_keys : (document : Members) → get_member (key_name key.EfilingUntil) document ≡ None → period_names document ≡ no_period_names → desk_court_of document ≡ court_of document
   pub but_for_the_minute : (bytes : List ℕ) (file : CourtFile) → desk_court_in bytes ≡ Ok file
-      → (minute : Option ℕ) × (office : CourtFile) × (court_in bytes ≡ Ok office) × (file ≡ with_minute minute office)
+      → (minute : Option ℕ) × (names : PeriodNamesView) × (office : CourtFile) × (court_in bytes ≡ Ok office) × (file ≡ with_names names (with_minute minute office))
   pub to_midnight : (bytes : List ℕ) (file : CourtFile) → court_in bytes ≡ Ok file → file.efiling_until ≡ None
+  pub without_names : (bytes : List ℕ) (file : CourtFile) → court_in bytes ≡ Ok file → file.periods ≡ no_period_names
 
 -- A court opens with no outages: those of the clerk's office are entered later.
 abbrev pub FilesNameNoOutages : Type 0

@@ -6,9 +6,9 @@ use Rattle.court_file_text.specs.declared.key.Key.{Key}
 use Rattle.court_file_text.specs.declared.key.Key.TheVariants as key
 use Rattle.court_file_text.specs.declared.fault.CourtFault.{CourtFault}
 use Rattle.court_file_text.specs.declared.fault.CourtFault.TheVariants.{BadHours, BadSpan}
-use Rattle.court_file_text.specs.Words.{◌>>=◌, must, minute_at, minute_if_there, date_at, list_at, each_item, date_of_item, and_name, names_at}
+use Rattle.court_file_text.specs.Words.{◌>>=◌, must, minute_at, minute_if_there, date_at, list_at, each_item, date_of_item, and_name, names_at, no_period_names, period_names}
 use Rattle.court_days.specs.Court.{zone_at, hours_at, days_at, is_span}
-use Rattle.court_days.specs.Words.{DaysView, court_of, desk_court_of, with_minute}
+use Rattle.court_days.specs.Words.{DaysView, court_of, desk_court_of, with_minute, with_names}
 use Rattle.court_days.specs.Court.Reading.{keep_date, and_date, dates_at}
 use Rattle.court_file_check.specs.Seen.{FaultView}
 use Rattle.court_file_check.specs.Faults.{faulty, zone_faults, order_faults, hours_faults, efiling_faults, office_faults_in, extent_faults, span_faults, each_date, dates_faulty, dates_faults, and_good, each_name, names_faulty, names_faults, faults_in, BeginsWith, FaultsBeginWithTheCourts}
@@ -109,11 +109,11 @@ office_begin file =
     then_begins (hours_at file) _ (hours_faults file) _ (hours_begin file) (λ hours is.
     then_begins (days_at file) _ (span_faults file ++ (dates_faults key.Federal file ++ dates_faults key.State file)) _ (days_begin file) (λ days is.
     then_begins (names_at key.Judges file) _ (names_faults key.Judges file) _ (names_begin key.Judges file) (λ judges is.
-    done_begins (names_at key.Rooms file) (λ rooms. record { zone = zone; opens = hours.0; closes = hours.1; efiling_until = None; days = days; judges = judges; rooms = rooms }) (names_faults key.Rooms file) (names_begin key.Rooms file)))))
+    done_begins (names_at key.Rooms file) (λ rooms. record { zone = zone; opens = hours.0; closes = hours.1; efiling_until = None; days = days; judges = judges; rooms = rooms; periods = no_period_names }) (names_faults key.Rooms file) (names_begin key.Rooms file)))))
 
 pub faults_begin : FaultsBeginWithTheCourts
 unfolding desk_court_of faults_in efiling_faults
 faults_begin document =
     let minute = minute_if_there key.EfilingUntil document in
     then_begins (court_of document) _ (office_faults_in document) (efiling_faults document) (office_begin document) (λ file is.
-    done_begins minute (λ m. with_minute m file) (efiling_faults document) (one_begins key.EfilingUntil None minute))
+    done_begins minute (λ m. with_names (period_names document) (with_minute m file)) (efiling_faults document) (one_begins key.EfilingUntil None minute))

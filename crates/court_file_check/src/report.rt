@@ -3,6 +3,7 @@
 mod fault_lines;
 mod hints;
 mod near_key;
+mod period_lines;
 mod report;
 mod sheet;
 mod syntax_lines;

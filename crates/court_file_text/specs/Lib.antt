@@ -2,4 +2,5 @@ pub mod Key
 pub mod Fault
 pub mod Names
 pub mod Reading
+pub mod PeriodNames
 pub mod Words

@@ -139,8 +139,8 @@ fn add_name(alloc: Global, names: &mut Names, value: &Value, key: Key) -> Result
     Ok(())
 }
 
-/// Whether a text may name a judge or a room.
-fn is_name(text: &str) -> bool
+/// Whether a text may name a judge, a room or a period.
+pub fn is_name(text: &str) -> bool
     ensures { result ≡ is_name text.now }
 {
     let length = text.len();

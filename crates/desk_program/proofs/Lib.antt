@@ -6,6 +6,7 @@ pub mod DeskLemmas
 pub mod FaultLemmas
 pub mod FaultWordLemmas
 pub mod LogJsonLemmas
+pub mod LogLastLemmas
 pub mod LogLemmas
 pub mod LogReadLemmas
 pub mod NoteLemmas

@@ -10,6 +10,7 @@ pub mod FaultWords
 pub mod Faults
 pub mod Log
 pub mod LogJson
+pub mod LogLast
 pub mod LogText
 pub mod Remembered
 pub mod RowCase

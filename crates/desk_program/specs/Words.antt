@@ -9,6 +9,7 @@ pub use Rattle.desk_program.specs.Correction.{IsListed, IsOnlyListed, correction
 pub use Rattle.desk_program.specs.Desk.{HasNoDocket, IsPromisedDocket, IsUnopened, KeepsDocket, answers_at, disk_under, held_at, leaves_at, outcome_at, stamp_under, standing_at}
 pub use Rattle.desk_program.specs.Faults.{desk_status}
 pub use Rattle.desk_program.specs.Log.{log_text}
+pub use Rattle.desk_program.specs.LogLast.{last_log_text}
 pub use Rattle.desk_program.specs.Remembered.{GoesOn, GoesOnAs, HasCorrections, Remembers, end_in, held_in, holds_back, standing_in}
 pub use Rattle.desk_program.specs.RowCorrection.{CorrectsRow, IsCorrected, LeavesRow}
 pub use Rattle.desk_program.specs.Rows.{written_rows}

@@ -19,6 +19,7 @@ mod faults;
 mod file;
 mod log;
 mod log_json;
+mod log_last;
 mod log_text;
 mod note;
 mod remembered;
@@ -44,6 +45,7 @@ pub use faults::{
 pub use file::{file_fault, open_file};
 pub use log::{LogChoice, write_log};
 pub use log_json::the_log_reads_back;
+pub use log_last::last_log;
 pub use remembered::{Remembered, Resumed};
 pub use row_correction::RowCorrection;
 pub use rows::{checked_rows, write_count, write_rows};

@@ -1,3 +1,4 @@
+pub mod CalledLemmas
 pub mod CallerLemmas
 pub mod ChangeLemmas
 pub mod CaseLemmas

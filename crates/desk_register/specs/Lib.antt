@@ -4,6 +4,7 @@ pub mod CaseLines
 pub mod Subjects
 pub mod LineCauses
 pub mod Run
+pub mod Called
 pub mod Rows
 pub mod History
 pub mod Striking

@@ -17,7 +17,7 @@ use Rattle.docket_rows.specs.declared.refusal.Refusal.{Refusal}
 use Rattle.docket_rows.specs.declared.refusal.Refusal.TheVariants.{HearingThatDay}
 use Rattle.docket_rows.specs.Words.{CaseRecordView, Parts, deadline_in, refusal, setup_of, shown_now, started}
 use Rattle.case_numbers.specs.declared.names.NamedCase.{NamedCase}
-use Rattle.reason_notes.specs.Warnings.Words.{early_act, extension_notes, note, start_notes}
+use Rattle.reason_notes.specs.Warnings.Words.{extension_notes, note, notes_of_act, start_notes}
 use Rattle.reason_refusals.specs.Words.{motion_of_refusal}
 use Rattle.reason_refusals.specs.Commands.Words.{why_refused}
 use Rattle.row_forms.specs.declared.row.Work.{Work}
@@ -33,10 +33,11 @@ at_start court parts today None row = []
 at_start court parts today (Some c) row =
     start_notes parts.days court.clock c.filed today row (shown_now (setup_of court) parts row)
 
--- on an act: it comes before the day from which its period runs, where that is counted after its event
+-- on an act: it comes before the day from which its period runs, where that is counted after its event; or it is a motion that gives the
+-- time for an appeal another beginning
 abbrev pub on_act : Option DeadlineRowView → Filing → List ℕ
 on_act None filing = []
-on_act (Some row) filing = early_act row.period (runs_from row) (Some filing)
+on_act (Some row) filing = notes_of_act row.period (runs_from row) (Some filing)
 
 -- on an extension: the end that it gives is past when it is asked for, or lies after the event it counts back from
 abbrev pub on_request : CourtView → Parts → Option DeadlineRowView → Request → List ℕ

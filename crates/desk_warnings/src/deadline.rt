@@ -10,7 +10,7 @@ ghost use Rattle.desk_warnings.specs.Warnings.{on_act, on_request};
 use court_clock::Clock;
 use court_days::{Court, Days};
 use docket_core::Docket;
-use reason_notes::{push_early_act, push_extension_notes};
+use reason_notes::{push_extension_notes, push_notes_of_act};
 use rule_periods::{DeadlineRow, Request, may_extend, runs_from, shown_with};
 use rule6::Filing;
 use std::alloc::AllocError;
@@ -29,7 +29,7 @@ pub(crate) fn push_act(
         return Ok(());
     };
     let row = row.row();
-    push_early_act(text, row.period(), runs_from(row), Some(*filing))
+    push_notes_of_act(text, row.period(), runs_from(row), Some(*filing))
 }
 
 /// Adds what a clerk is warned of an extension that isn't refused.

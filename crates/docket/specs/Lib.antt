@@ -1,3 +1,4 @@
+pub mod CasePage
 pub mod Endings
 pub mod Folder
 pub mod JournalFile

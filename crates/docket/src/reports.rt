@@ -122,8 +122,8 @@ fn report_on(
     )
 }
 
-// What a report finds after entries.
-fn report_found(
+/// What a report finds after entries.
+pub fn report_found(
     alloc: Global,
     entries: &[Vec<u8>],
     asked: &ReportAsked,

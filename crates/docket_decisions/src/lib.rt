@@ -13,6 +13,7 @@ mod motions;
 mod next;
 mod outages;
 mod reads;
+mod resumed;
 mod rules;
 mod seen;
 mod sight;

@@ -89,7 +89,7 @@ closed_ends setup rows d closed = rw (closed_by_facts rows d.case closed) refl
 -- a fact that isn't kept leaves the rows as they are
 unkept_leaves : (rows : Rows) (case : ℕ) (fact : FactOf) → is_kept fact ≡ false → rows_after rows (Fact case fact) ≡ rows
 unkept_leaves rows case (Ended deadline why dated) unkept = absurd (false≢true (sym unkept))
-unkept_leaves rows case (Resumed deadline dated) unkept = absurd (false≢true (sym unkept))
+unkept_leaves rows case (Resumed deadline day dated) unkept = absurd (false≢true (sym unkept))
 unkept_leaves rows case (Closed why dated) unkept = absurd (false≢true (sym unkept))
 unkept_leaves rows case (Reopened dated) unkept = absurd (false≢true (sym unkept))
 unkept_leaves rows case (Ruled motion how dated) unkept = absurd (false≢true (sym unkept))

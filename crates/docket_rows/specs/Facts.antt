@@ -9,7 +9,7 @@ use Rattle.docket_rows.specs.declared.fact.Closing.TheVariants.{Dismissed, Judgm
 use Rattle.docket_rows.specs.declared.fact.Closure.{Closure}
 use Rattle.docket_rows.specs.declared.fact.DatedRuling.{DatedRuling}
 use Rattle.docket_rows.specs.declared.fact.Ending.{Ending}
-use Rattle.docket_rows.specs.declared.fact.Ending.TheVariants.{Moot, Vacated, Stayed, Suspended, Withdrawn, CaseClosed}
+use Rattle.docket_rows.specs.declared.fact.Ending.TheVariants.{Moot, Vacated, Stayed, Suspended, SuspendedBy, Withdrawn, CaseClosed}
 use Rattle.docket_rows.specs.declared.fact.Fact.{Fact}
 use Rattle.docket_rows.specs.declared.fact.Fact.TheVariants.{Ended, Resumed, Closed, Reopened, Ruled, Assigned, Titled, Labelled}
 use Rattle.docket_rows.specs.declared.fact.Ruling.{Ruling}
@@ -20,7 +20,7 @@ use Rattle.docket_rows.specs.Cases.{CaseRecordView}
 -- kept outside of it, with the row that says it.
 abbrev pub is_kept : Fact → Bool
 is_kept (Ended deadline why dated) = true
-is_kept (Resumed deadline dated) = true
+is_kept (Resumed deadline day dated) = true
 is_kept (Closed why dated) = true
 is_kept (Reopened dated) = true
 is_kept (Ruled motion how dated) = true
@@ -38,7 +38,7 @@ add_fact fact c = if is_kept fact then keep_fact fact c else c
 -- how the case was closed and not reopened, after one fact more
 abbrev pub closed_then : Option Closure → Fact → Option Closure
 closed_then before (Ended deadline why dated) = before
-closed_then before (Resumed deadline dated) = before
+closed_then before (Resumed deadline day dated) = before
 closed_then before (Closed why dated) = Some (record { why = why; dated = dated })
 closed_then before (Reopened dated) = None
 closed_then before (Ruled motion how dated) = before
@@ -53,7 +53,7 @@ closing_in facts = fold closed_then None facts
 -- why the deadline of that number was ended and not resumed, after one fact more
 abbrev pub ended_then : (number : ℕ) → Option Ending → Fact → Option Ending
 ended_then number before (Ended deadline why dated) = if deadline == number then Some why else before
-ended_then number before (Resumed deadline dated) = if deadline == number then None else before
+ended_then number before (Resumed deadline day dated) = if deadline == number then None else before
 ended_then number before (Closed why dated) = before
 ended_then number before (Reopened dated) = before
 ended_then number before (Ruled motion how dated) = before
@@ -72,7 +72,7 @@ ending_in facts number = if is_some (closing_in facts) then Some CaseClosed else
 -- how the motion of that number was ruled on last, after one fact more
 abbrev pub ruled_then : (number : ℕ) → Option DatedRuling → Fact → Option DatedRuling
 ruled_then number before (Ended deadline why dated) = before
-ruled_then number before (Resumed deadline dated) = before
+ruled_then number before (Resumed deadline day dated) = before
 ruled_then number before (Closed why dated) = before
 ruled_then number before (Reopened dated) = before
 ruled_then number before (Ruled motion how dated) = if motion == number then Some (record { ruling = how; dated = dated }) else before
@@ -91,7 +91,7 @@ is_assigned_after day assigned = option_map_or (λ (a : Assignment). int_lt day 
 -- who has the case, after one fact more: an assignment of an earlier day takes no later one's place
 abbrev pub assigned_then : Option Assignment → Fact → Option Assignment
 assigned_then before (Ended deadline why dated) = before
-assigned_then before (Resumed deadline dated) = before
+assigned_then before (Resumed deadline day dated) = before
 assigned_then before (Closed why dated) = before
 assigned_then before (Reopened dated) = before
 assigned_then before (Ruled motion how dated) = before
@@ -110,8 +110,19 @@ ending_word Moot = codes "moot"
 ending_word Vacated = codes "vacated"
 ending_word Stayed = codes "stayed"
 ending_word Suspended = codes "suspended"
+ending_word (SuspendedBy motion) = codes "suspended"
 ending_word Withdrawn = codes "withdrawn"
 ending_word CaseClosed = codes "case closed"
+
+-- the motion that suspends a deadline, where its number is known
+abbrev pub suspended_by : Ending → Option ℕ
+suspended_by (SuspendedBy motion) = Some motion
+suspended_by why = None
+
+-- the same with that number of the motion that suspends it, where one does
+abbrev pub ending_naming : Ending → (number : ℕ) → Ending
+ending_naming (SuspendedBy motion) number = SuspendedBy number
+ending_naming why number = why
 
 -- the word by which texts name how a case was closed
 abbrev pub closing_word : Closing → List ℕ
@@ -134,7 +145,7 @@ ruling_word ruling.Reserved = codes "reserved"
 -- the deadline or the motion that a fact of a case is about, if it is about one
 abbrev pub fact_subject : (case : ℕ) → Fact → Option Subject
 fact_subject case (Ended deadline why dated) = Some (record { case = case; counted = Deadline; number = deadline })
-fact_subject case (Resumed deadline dated) = Some (record { case = case; counted = Deadline; number = deadline })
+fact_subject case (Resumed deadline day dated) = Some (record { case = case; counted = Deadline; number = deadline })
 fact_subject case (Closed why dated) = None
 fact_subject case (Reopened dated) = None
 fact_subject case (Ruled motion how dated) = Some (record { case = case; counted = Motion; number = motion })
@@ -145,7 +156,7 @@ fact_subject case (Labelled counted number) = Some (record { case = case; counte
 -- the same fact of the deadline or the motion of that number; one of neither stays as it is
 abbrev pub fact_naming : Fact → (number : ℕ) → Fact
 fact_naming (Ended deadline why dated) number = Ended number why dated
-fact_naming (Resumed deadline dated) number = Resumed number dated
+fact_naming (Resumed deadline day dated) number = Resumed number day dated
 fact_naming (Closed why dated) number = Closed why dated
 fact_naming (Reopened dated) number = Reopened dated
 fact_naming (Ruled motion how dated) number = Ruled number how dated

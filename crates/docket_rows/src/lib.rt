@@ -2,6 +2,7 @@
 #![tactic(auto)]
 
 mod answer;
+mod assigned;
 mod cases;
 mod command;
 mod decision;
@@ -17,12 +18,13 @@ mod sheet;
 mod view;
 
 pub use answer::Answer;
+pub use assigned::assigned_in;
 pub use cases::{CaseRecord, SharedCase};
 pub use command::{Command, Counted, HearingOrder, Subject};
 pub use decision::{Decision, Writes};
 pub use fact::{
-    Assignment, Closing, Closure, DatedRuling, Ending, Fact, Ruling, assigned_in, closing_in,
-    ending_in, ruling_in,
+    Assignment, Closing, Closure, DatedRuling, Ending, Fact, Ruling, closing_in, ending_in,
+    ruling_in,
 };
 pub use hearing::{Hearing, Setting};
 pub use limits::{

@@ -13,5 +13,6 @@ pub use readings::{
     other_end_is_earliest, push_readings, same_act_shows_the_same, shown_by,
 };
 pub use warnings::{
-    push_deadline_notes, push_early_act, push_extension_notes, push_hearing_notes, push_start_notes,
+    push_deadline_notes, push_extension_notes, push_hearing_notes, push_notes_of_act,
+    push_start_notes,
 };

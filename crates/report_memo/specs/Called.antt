@@ -1,11 +1,13 @@
--- What comes behind how an entered period is entered: the sections that set such a period, or else its code.
-use Rattle.std.specs.Prelude.{ℕ, ◌||◌, Bool, false, List, [], ◌∷◌, ◌++◌, Option, Some, None, codes, if◌then◌else◌}
+-- What comes behind how an entered period is entered: the sections that set such a period, and where the court's own are from, or else
+-- its code.
+use Rattle.std.specs.Prelude.{ℕ, ◌||◌, Bool, false, List, [], ◌∷◌, ◌++◌, Option, Some, None, codes, unwrap_or, if◌then◌else◌}
 use Rattle.std.specs.Str.{bytes_eq}
+use Rattle.court_file_text.specs.Words.{NamedTextView, PeriodNamesView, text_named}
 use Rattle.rule_periods.specs.declared.period.Entered.{Entered}
 use Rattle.rule_periods.specs.declared.period.Period.{Period}
 use Rattle.rule_periods.specs.declared.period.Period.TheVariants as period
 use Rattle.row_fields.specs.declared.named.RuleBook.{RuleBook}
-use Rattle.row_fields.specs.declared.named.RuleBook.TheVariants.{CivilRules, ForfeitureRules, SocialSecurityRules, AppellateRules, UnitedStatesCode}
+use Rattle.row_fields.specs.declared.named.RuleBook.TheVariants.{CivilRules, ForfeitureRules, SocialSecurityRules, AppellateRules, Title5, Title28, Title42}
 use Rattle.row_fields.specs.Words.{NamedPeriodView, named_periods}
 use Rattle.office_texts.specs.Words.{entered_text}
 
@@ -24,24 +26,38 @@ book_words CivilRules = codes "Rule "
 book_words ForfeitureRules = []
 book_words SocialSecurityRules = []
 book_words AppellateRules = []
-book_words UnitedStatesCode = []
+book_words Title5 = []
+book_words Title28 = []
+book_words Title42 = []
 
 -- `Rule 33(b)(2)`, `28 U.S.C. 1446(b)(1)`
 abbrev pub citation : NamedPeriodView → List ℕ
 citation p = book_words p.book ++ p.section
 
--- those of these sections that set a period with this code, with `front` before the first one and a comma between two; `none` where
--- none does
-unfoldable pub citations : (front none code : List ℕ) → List NamedPeriodView → List ℕ
-citations front none code [] = none
-citations front none code (p ∷ periods) =
-    if sets_period code p then front ++ citation p ++ citations (codes ", ") [] code periods else citations front none code periods
+-- where a period of the court's own is from, `LRCiv 7.2(c)`, or else its name
+abbrev pub own_citation : PeriodNamesView → (name : List ℕ) → List ℕ
+own_citation names name = unwrap_or (text_named names.cites name) name
 
--- `, as in Rule 50(b)`, or ` (72h/after/filing/event/plain)` where no section that is known sets such a period
-unfoldable pub code_back : (code : List ℕ) → List ℕ
-code_back code = citations (codes ", as in ") (codes " (" ++ code ++ codes ")") code named_periods
+-- those of these periods of the court's own that have this text, with `front` before the first one and a comma between two; `none` where
+-- none has
+unfoldable pub own_citations : PeriodNamesView → (front none code : List ℕ) → List NamedTextView → List ℕ
+own_citations names front none code [] = none
+own_citations names front none code (n ∷ texts) =
+    if bytes_eq n.text code then front ++ own_citation names n.name ++ own_citations names (codes ", ") [] code texts
+    else own_citations names front none code texts
+
+-- those of these sections that set a period with this code, and then those of the court's own, likewise
+unfoldable pub citations : PeriodNamesView → (front none code : List ℕ) → List NamedPeriodView → List ℕ
+citations names front none code [] = own_citations names front none code names.texts
+citations names front none code (p ∷ periods) =
+    if sets_period code p then front ++ citation p ++ citations names (codes ", ") [] code periods
+    else citations names front none code periods
+
+-- `, as in Rule 50(b)`, or ` (72h/after/filing/event/plain)` where no section that is known sets such a period, and no rule of the court
+unfoldable pub code_back : PeriodNamesView → (code : List ℕ) → List ℕ
+code_back names code = citations names (codes ", as in ") (codes " (" ++ code ++ codes ")") code named_periods
 
 -- a period of the Rules has its section already
-unfoldable pub period_back : Period → List ℕ
-period_back (period.Rule rule) = []
-period_back (period.Entered entered) = code_back (entered_text entered)
+unfoldable pub period_back : PeriodNamesView → Period → List ℕ
+period_back names (period.Rule rule) = []
+period_back names (period.Entered entered) = code_back names (entered_text entered)

@@ -39,7 +39,7 @@ deadline_extended work = None
 
 -- and of the one that was to be resumed
 abbrev pub deadline_resumed : Work → Option (ℕ × ℕ)
-deadline_resumed (Command (command.Fact case (fact.Resumed deadline dated))) = Some (case, deadline)
+deadline_resumed (Command (command.Fact case (fact.Resumed deadline day dated))) = Some (case, deadline)
 deadline_resumed work = None
 
 -- the case and the place of the docketed deadline whose end a reply tells

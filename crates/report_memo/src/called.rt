@@ -1,48 +1,70 @@
-//! What comes behind how an entered period is entered: the sections that set such a period, or else its code.
+//! What comes behind how an entered period is entered: the sections that set such a period, and where the court's own are from, or else
+//! its code.
 
 ghost use Rattle.std.specs.Prelude.{◌≡◌, ◌++◌, OnOk, codes, map, string_bytes};
 ghost use Rattle.row_fields.specs.Words.{period_view};
 ghost use Rattle.office_texts.specs.Words.{entered_text};
-ghost use Rattle.report_memo.specs.Called.{book_words, citation, citations, code_back, is_other, period_back, sets_period};
+ghost use Rattle.report_memo.specs.Called.{book_words, citation, citations, code_back, is_other, own_citation, own_citations, period_back, sets_period};
 
+use court_days::Court;
+use court_file_text::NamedText;
 use office_texts::push_entered;
 use row_fields::{NamedPeriod, RuleBook, named_periods};
 use rule_periods::{Entered, Period};
 use std::alloc::{AllocError, Global};
 
-/// Adds what comes behind how a period is entered: the sections of docs/law/RULES.md that set a period of the same form, or, where
-/// none does, its code as rows have it. A period of the Rules has nothing. `Err` says that memory ran out.
+/// Adds what comes behind how a period is entered: the sections of docs/law/RULES.md that set a period of the same form, and where those
+/// of the court's own are from, or, where there is none, its code as rows have it. A period of the Rules has nothing. `Err` says that
+/// memory ran out.
 #[tactic(auto, unfolding(crate::specs::Called::period_back))]
 pub(crate) fn push_period_back(
     alloc: Global,
     text: &mut String,
+    court: &Court,
     period: &Period,
 ) -> Result<(), AllocError>
-    ensures { OnOk result (string_bytes text.new ≡ string_bytes text.old ++ period_back period.now) }
+    ensures { OnOk result (string_bytes text.new ≡ string_bytes text.old ++ period_back court.now.periods period.now) }
 {
     match period {
         Period::Rule(_) => Ok(()),
-        Period::Entered(entered) => push_entered_back(alloc, text, entered),
+        Period::Entered(entered) => push_entered_back(alloc, text, court, entered),
     }
 }
 
 /// Adds what comes behind how an entered period is entered.
-fn push_entered_back(alloc: Global, text: &mut String, entered: &Entered) -> Result<(), AllocError>
-    ensures { OnOk result (string_bytes text.new ≡ string_bytes text.old ++ code_back (entered_text entered.now)) }
+fn push_entered_back(
+    alloc: Global,
+    text: &mut String,
+    court: &Court,
+    entered: &Entered,
+) -> Result<(), AllocError>
+    ensures { OnOk result (string_bytes text.new ≡ string_bytes text.old ++ code_back court.now.periods (entered_text entered.now)) }
 {
     let mut code = String::new(alloc);
     push_entered(&mut code, entered)?;
-    push_code_back(alloc, text, code.as_str())
+    push_code_back(alloc, text, court, code.as_str())
 }
 
 /// Adds the sections that set a period with this code, or the code.
 #[tactic(auto, unfolding(crate::specs::Called::code_back))]
-fn push_code_back(alloc: Global, text: &mut String, code: &str) -> Result<(), AllocError>
-    ensures { OnOk result (string_bytes text.new ≡ string_bytes text.old ++ code_back code.now) }
+fn push_code_back(
+    alloc: Global,
+    text: &mut String,
+    court: &Court,
+    code: &str,
+) -> Result<(), AllocError>
+    ensures { OnOk result (string_bytes text.new ≡ string_bytes text.old ++ code_back court.now.periods code.now) }
 {
     let mut none = String::new(alloc);
     push_in_parentheses(&mut none, code)?;
-    push_citations(text, ", as in ", none.as_str(), code, named_periods())
+    push_citations(
+        text,
+        court,
+        ", as in ",
+        none.as_str(),
+        code,
+        named_periods(),
+    )
 }
 
 /// Adds a code in parentheses.
@@ -54,29 +76,66 @@ fn push_in_parentheses(text: &mut String, code: &str) -> Result<(), AllocError>
     text.push_str(")")
 }
 
-/// Adds those of these sections that set a period with this code, with `front` before the first one and a comma between two;
-/// `none` where none does.
+/// Adds those of these sections that set a period with this code, and those of the court's own, with `front` before the first one and a
+/// comma between two; `none` where none does.
 #[tactic(auto, unfolding(crate::specs::Called::citations))]
 fn push_citations(
     text: &mut String,
+    court: &Court,
     front: &str,
     none: &str,
     code: &str,
     periods: &[NamedPeriod],
 ) -> Result<(), AllocError>
-    ensures { OnOk result (string_bytes text.new ≡ string_bytes text.old ++ citations front.now none.now code.now (map period_view periods.now)) }
+    ensures { OnOk result (string_bytes text.new ≡ string_bytes text.old ++ citations court.now.periods front.now none.now code.now (map period_view periods.now)) }
 {
     match periods {
-        [] => text.push_str(none),
+        [] => push_own_citations(text, court, front, none, code, court.periods()),
         [period, rest @ ..] => {
             if sets_period(code, period) {
                 text.push_str(front)?;
                 push_citation(text, period)?;
-                push_citations(text, ", ", "", code, rest)
+                push_citations(text, court, ", ", "", code, rest)
             } else {
-                push_citations(text, front, none, code, rest)
+                push_citations(text, court, front, none, code, rest)
             }
         }
+    }
+}
+
+/// Adds those of these periods of the court's own that have this text, likewise.
+#[tactic(auto, unfolding(crate::specs::Called::own_citations))]
+fn push_own_citations(
+    text: &mut String,
+    court: &Court,
+    front: &str,
+    none: &str,
+    code: &str,
+    periods: &[NamedText],
+) -> Result<(), AllocError>
+    ensures { OnOk result (string_bytes text.new ≡ string_bytes text.old ++ own_citations court.now.periods front.now none.now code.now periods.now) }
+{
+    match periods {
+        [] => text.push_str(none),
+        [period, rest @ ..] => {
+            if period.text().as_bytes() == code.as_bytes() {
+                text.push_str(front)?;
+                push_own_citation(text, court, period.name())?;
+                push_own_citations(text, court, ", ", "", code, rest)
+            } else {
+                push_own_citations(text, court, front, none, code, rest)
+            }
+        }
+    }
+}
+
+/// Adds where a period of the court's own is from, or else its name.
+fn push_own_citation(text: &mut String, court: &Court, name: &str) -> Result<(), AllocError>
+    ensures { OnOk result (string_bytes text.new ≡ string_bytes text.old ++ own_citation court.now.periods name.now) }
+{
+    match court.period_cite(name) {
+        Some(cite) => text.push_str(cite),
+        None => text.push_str(name),
     }
 }
 
@@ -115,6 +174,8 @@ fn book_words(book: RuleBook) -> &'static str
         RuleBook::ForfeitureRules => "",
         RuleBook::SocialSecurityRules => "",
         RuleBook::AppellateRules => "",
-        RuleBook::UnitedStatesCode => "",
+        RuleBook::Title5 => "",
+        RuleBook::Title28 => "",
+        RuleBook::Title42 => "",
     }
 }

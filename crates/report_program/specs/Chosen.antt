@@ -16,8 +16,10 @@ use Rattle.report_program.specs.declared.asked.Task.TheVariants as task
 use Rattle.report_program.specs.declared.asked.Task.{Task}
 use Rattle.report_program.specs.declared.chosen.Chosen.{Chosen}
 use Rattle.report_program.specs.declared.chosen.Chosen.TheVariants.{Json, Lines, Listed, Sql}
+use Rattle.report_program.specs.declared.chosen.Form.{Form}
+use Rattle.report_program.specs.declared.chosen.Form.TheVariants as form
 use Rattle.report_program.specs.declared.chosen.Listing.{Listing}
-use Rattle.report_program.specs.declared.chosen.Listing.TheVariants.{Due, Ics, Page, Sheet, Week}
+use Rattle.report_program.specs.declared.chosen.Listing.TheVariants.{Case, Due, Ics, Page, Pending, Sheet, Week}
 use Rattle.report_program.specs.declared.chosen.Missing.{Missing}
 use Rattle.report_program.specs.declared.chosen.Missing.TheVariants as missing
 
@@ -89,6 +91,18 @@ week_chosen court asked =
 abbrev pub sheet_chosen : (case : Option ℕ) → Chosen
 sheet_chosen case = Listed (Sheet (unwrap_or case 0))
 
+-- the page of that case, likewise
+abbrev pub page_of_case : (case : Option ℕ) → Chosen
+page_of_case case = Listed (Case (unwrap_or case 0))
+
+-- as what it is written what has been pending for long
+abbrev pub form_asked : Asked → Form
+form_asked asked = if asked.page then form.Page else if asked.csv then form.Csv else form.Text
+
+-- what has been pending for long on the day that is asked for
+abbrev pub pending_chosen : CourtView → Asked → Chosen
+pending_chosen court asked = Listed (Pending (day_asked court asked asked.on court.days.from) (form_asked asked))
+
 abbrev pub chosen_for : Task → CourtView → (case : Option ℕ) → Asked → Option Chosen
 chosen_for task.Due court case asked = due_chosen court case asked
 chosen_for task.Week court case asked = week_chosen court asked
@@ -97,6 +111,8 @@ chosen_for task.Ics court case asked = ics_chosen court case asked
 chosen_for task.Json court case asked = json_chosen court case asked
 chosen_for task.Sql court case asked = Some Sql
 chosen_for task.Sheet court case asked = Some (sheet_chosen case)
+chosen_for task.Pending court case asked = Some (pending_chosen court asked)
+chosen_for task.Case court case asked = Some (page_of_case case)
 
 -- what is chosen of that case or of any, where the court has the judge that is asked for
 unfoldable pub chosen_by : CourtView → (case : Option ℕ) → Asked → Option Chosen
@@ -125,6 +141,8 @@ missing_listed days (Week judge day) = missing_day days day
 missing_listed days (Page choice) = missing_between days choice
 missing_listed days (Ics choice stamp) = missing_between days choice
 missing_listed days (Sheet case) = None
+missing_listed days (Pending day form) = missing_day days day
+missing_listed days (Case case) = None
 
 abbrev pub missing_days : DaysView → Chosen → Option Missing
 missing_days days (Listed listing) = missing_listed days listing

@@ -12,7 +12,7 @@ use Rattle.office_texts.specs.Run.Words.{docketed_after}
 use Rattle.report_program.specs.declared.asked.Asked.{Asked}
 use Rattle.report_program.specs.declared.chosen.Chosen.{Chosen}
 use Rattle.report_program.specs.declared.chosen.Chosen.TheVariants.{Json, Listed}
-use Rattle.report_program.specs.declared.chosen.Listing.TheVariants.{Due, Ics, Page, Sheet}
+use Rattle.report_program.specs.declared.chosen.Listing.TheVariants.{Case, Due, Ics, Page, Sheet}
 use Rattle.report_program.specs.declared.chosen.Missing.{Missing}
 use Rattle.report_program.specs.declared.chosen.Missing.TheVariants.{Closed}
 use Rattle.report_program.specs.Chosen.{◌>>=◌, chosen_of}
@@ -23,6 +23,7 @@ case_chosen (Listed (Due choice)) = choice.case
 case_chosen (Listed (Page choice)) = choice.case
 case_chosen (Listed (Ics choice stamp)) = choice.case
 case_chosen (Listed (Sheet case)) = Some case
+case_chosen (Listed (Case case)) = Some case
 case_chosen (Json choice) = choice.case
 case_chosen _ = None
 

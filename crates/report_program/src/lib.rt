@@ -3,6 +3,7 @@
 
 mod appointments;
 mod asked;
+mod case;
 mod chosen;
 mod clock;
 mod docket;
@@ -13,6 +14,7 @@ mod missing;
 mod opened;
 mod page;
 mod past;
+mod pending;
 mod report;
 mod sheet;
 mod subcommands;

@@ -53,6 +53,7 @@ fn case_chosen(chosen: &Chosen) -> Option<u32>
         Chosen::Listed(Listing::Page(choice)) => choice.case,
         Chosen::Listed(Listing::Ics(choice, _)) => choice.case,
         Chosen::Listed(Listing::Sheet(case)) => Some(*case),
+        Chosen::Listed(Listing::Case(case)) => Some(*case),
         Chosen::Json(choice) => choice.case,
         _ => None,
     }

@@ -10,6 +10,7 @@ ghost use Rattle.program_runs.specs.Words.{IsFinding};
 ghost use Rattle.report_texts.specs.Words.{labels_of};
 
 use crate::asked::Asked;
+use crate::case::case_text;
 use crate::chosen::{Chosen, ChosenTypes, Listing};
 use crate::docket::{Came, docket_after};
 use crate::due::due_text;
@@ -18,6 +19,7 @@ use crate::missing::missing_line;
 use crate::opened::found_of;
 use crate::page::page_text;
 use crate::past::{Past, push_since};
+use crate::pending::pending_text;
 use crate::sheet::sheet_text;
 use crate::week::week_text;
 use case_numbers::Cases;
@@ -215,5 +217,7 @@ fn listing_of(
             *stamp,
         ),
         Listing::Sheet(case) => sheet_text(alloc, court, labels, docket, *case),
+        Listing::Pending(day, form) => pending_text(alloc, court, labels, docket, *day, *form),
+        Listing::Case(case) => case_text(alloc, court, labels, docket, *case),
     }
 }

@@ -136,11 +136,12 @@ const ASSIGNMENTS: &str = "CREATE TABLE assignments (
 );
 ";
 
-// The deadlines that are due no more, and why.
+// The deadlines that are due no more, and why; of one that a motion suspends its number, or NULL where no row says it.
 const ENDINGS: &str = "CREATE TABLE endings (
   case_number INTEGER NOT NULL,
   deadline_number INTEGER NOT NULL,
   why VARCHAR(16) NOT NULL CHECK (why IN ('moot', 'vacated', 'stayed', 'suspended', 'withdrawn', 'case closed')),
+  motion_number INTEGER,
   PRIMARY KEY (case_number, deadline_number),
   FOREIGN KEY (case_number, deadline_number) REFERENCES deadlines (case_number, number)
 );

@@ -1,1 +1,2 @@
 mod InputLemmas
+mod TriggerLemmas

@@ -6,7 +6,7 @@ use Rattle.desk_session.specs.Words.{mark_of, unmarked}
 use Rattle.row_forms.specs.Words.{CourtNames}
 use Rattle.row_fields.specs.declared.dates.DateOrder.{DateOrder}
 use Rattle.row_written.specs.declared.rows.Written.{Written}
-use Rattle.row_written.specs.declared.rows.Written.TheVariants.{Nothing, Header, Plain, Faulty}
+use Rattle.row_written.specs.declared.rows.Written.TheVariants.{Nothing, Header, Plain, Labelled, Faulty}
 use Rattle.row_written.specs.Words.{FieldFault, fault_in, read_as}
 use Rattle.row_input.specs.declared.reading.FaultyLine.{FaultyLine}
 
@@ -25,28 +25,32 @@ abbrev pub header_after : Option (List (List ℕ)) → Written (List (List ℕ))
 header_after header Nothing = header
 header_after header (Header headings) = Some headings
 header_after header (Plain text) = header
+header_after header (Labelled text label) = header
 header_after header (Faulty faults) = header
 
 -- a text with an end of its line
 abbrev pub ended : List ℕ → List ℕ
 ended text = if ends_with nat_eq text (codes "\n") then text else text ++ codes "\n"
 
--- the plain row that a line is read as, as a line, after its mark
+-- the plain row that a line is read as, as a line, after its mark, and the one with its label
 abbrev pub row_of : (mark : List ℕ) → Written (List (List ℕ)) (List ℕ) (List FieldFault) → List ℕ
 row_of mark Nothing = []
 row_of mark (Header headings) = []
 row_of mark (Plain text) = mark ++ ended text
+row_of mark (Labelled text label) = mark ++ ended text ++ ended label
 row_of mark (Faulty faults) = []
 
 -- a text without an end of its line
 abbrev pub unended : List ℕ → List ℕ
 unended text = if ends_with nat_eq text (codes "\n") then take (length text - 1) text else text
 
--- what is in the place of a line that is read as this: its plain row after its mark, or nothing
+-- what is in the place of a line that is read as this: its plain row after its mark, and after a carriage return, which begins no line
+-- of a file, the one with its label; or nothing
 abbrev pub in_place : (mark : List ℕ) → Written (List (List ℕ)) (List ℕ) (List FieldFault) → List ℕ
 in_place mark Nothing = []
 in_place mark (Header headings) = []
 in_place mark (Plain text) = mark ++ unended text
+in_place mark (Labelled text label) = mark ++ unended text ++ 13 ∷ unended label
 in_place mark (Faulty faults) = []
 
 -- the faults of the line of that number
@@ -54,6 +58,7 @@ abbrev pub faulty_as : (number : ℕ) → (line mark : List ℕ) → Written (Li
 faulty_as number line mark Nothing = []
 faulty_as number line mark (Header headings) = []
 faulty_as number line mark (Plain text) = []
+faulty_as number line mark (Labelled text label) = []
 faulty_as number line mark (Faulty faults) = record { number = number; line = line; mark = length mark; faults = faults } ∷ []
 
 -- lines with their numbers, read for that court after a line that names columns, or after none

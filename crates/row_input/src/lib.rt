@@ -9,9 +9,11 @@ mod periods;
 mod reading;
 mod report;
 mod shown;
+mod triggers;
 mod wording;
 
 pub use later::json_of_said;
 pub use objects::json_of;
 pub use reading::{FaultyLine, Reading, read_input};
 pub use report::report_of;
+pub use triggers::written_out;

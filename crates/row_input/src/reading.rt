@@ -51,7 +51,7 @@ fn push_ended(rows: &mut Vec<u8>, text: &[u8]) -> Result<(), AllocError>
 }
 
 // A text without an end of its line.
-fn unended(text: &[u8]) -> &[u8]
+pub(crate) fn unended(text: &[u8]) -> &[u8]
     ensures { result.now ≡ unended text.now }
 {
     if text.ends_with(b"\n") {
@@ -89,6 +89,15 @@ impl Reading {
                 push_ended(&mut self.rows, &text)?;
                 self.placed.extend_from_slice(mark)?;
                 self.placed.extend_from_slice(unended(&text))?;
+            }
+            Written::Labelled(text, label) => {
+                self.rows.extend_from_slice(mark)?;
+                push_ended(&mut self.rows, &text)?;
+                push_ended(&mut self.rows, &label)?;
+                self.placed.extend_from_slice(mark)?;
+                self.placed.extend_from_slice(unended(&text))?;
+                self.placed.push(b'\r')?;
+                self.placed.extend_from_slice(unended(&label))?;
             }
             Written::Faulty(faults) => {
                 let line = Vec::from_slice(alloc, line)?;

@@ -85,16 +85,14 @@ extension_checks c clock row request =
     ∷ when (not (is_later now anew)) NotLonger
     ∷ [])
 
--- An order needs no findings, and the end may be sooner. In this order: the day of the order or that of the end isn't covered; the
--- time must not be extended (6(b)(2)) and the end would be later, or can't be told to be no later; the end is of another kind than
--- the period.
+-- An order needs no findings, and the end may be sooner, and of another kind than the period. In this order: the day of the order or that of
+-- the end isn't covered; the time must not be extended (6(b)(2)) and the end would be later, or can't be told to be no later.
 abbrev pub reset_checks : DaysView → ClockView → DeadlineRowView → Request → List (Option PeriodRefusal)
 reset_checks c clock row request =
     let now = shown_of c clock row in
     let anew = shown_of c clock (with_grant row request.grant) in
     (when (not (is_covered c request.asked.day && is_covered_grant c request.grant)) BadDay
     ∷ when (is_never (extension_due row) && not (is_no_later now anew)) NotExtendable
-    ∷ when (not (grant_fits (is_in_hours row.period) request.grant)) WrongGrant
     ∷ [])
 
 -- the first refusal of what was asked for, and of what an order sets, or none

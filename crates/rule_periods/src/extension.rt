@@ -42,7 +42,7 @@ pub fn may_extend(
 
 /// Whether an order may set the end (2009 Note to Fed. R. Civ. P. 6(a)). The first refusal that applies: `BadDay` where the day of
 /// the order or that of the end isn't covered; `NotExtendable` where the time must not be extended, and the end would be later or
-/// can't be compared; `WrongGrant`.
+/// can't be compared.
 #[tactic(auto, unfolding(crate::specs::Extension::reset_refusal))]
 fn check_order(
     days: &Days,
@@ -51,8 +51,7 @@ fn check_order(
     request: &Request,
 ) -> Result<(), PeriodRefusal>
     requires { is_grant_length request.now.grant ≡ true }
-    ensures refusal { result_err result ≡ reset_refusal days.now clock.now row.now request.now }
-    ensures fits { OnOk result (grant_fits (is_in_hours row.now.period) request.now.grant ≡ true) }
+    ensures { result_err result ≡ reset_refusal days.now clock.now row.now request.now }
 {
     let now = shown(days, clock, row);
     let then = shown_with(days, clock, row, request.grant);
@@ -61,9 +60,6 @@ fn check_order(
     }
     if is_never(extension_due(row)) && !is_no_later(&now, &then) {
         return Err(PeriodRefusal::NotExtendable);
-    }
-    if !grant_fits(row.period().is_in_hours(), request.grant) {
-        return Err(PeriodRefusal::WrongGrant);
     }
     Ok(())
 }

@@ -37,8 +37,8 @@ fn has_control(text: &[u8]) -> bool
     }
 }
 
-// Whether a text can call something: it has 1 to 200 bytes, and no control character.
-fn is_text(text: &[u8]) -> bool
+/// Whether a text can call something: it has 1 to 200 bytes, and no control character.
+pub fn is_text(text: &[u8]) -> bool
     ensures { result ≡ is_text text.now }
 {
     1 <= text.len() && text.len() <= 200 && !has_control(text)

@@ -127,7 +127,11 @@ fn ends_and_resumes(rt: &impl Abort, alloc: Global, docket: &mut Docket) -> Resu
         why,
         dated,
     });
-    let resume = fact(Fact::Resumed { deadline, dated });
+    let resume = fact(Fact::Resumed {
+        deadline,
+        from: None,
+        dated,
+    });
     let end_shown = last(rt, "2025-03-24");
     gives(rt, alloc, docket, &open_case(rt), &Answer::Opened)?;
     gives(
@@ -152,6 +156,30 @@ fn ends_and_resumes(rt: &impl Abort, alloc: Global, docket: &mut Docket) -> Resu
         docket,
         &resume,
         &Answer::Refused(Refusal::NotEnded),
+    )
+}
+
+/// Ends the deadline of case 1, and resumes it anew from the day on which it ended: no extension counts any more.
+fn runs_anew(rt: &impl Abort, alloc: Global, docket: &mut Docket) -> Result<(), Fail> {
+    let (deadline, dated) = (1, day(rt, "2025-03-10"));
+    let why = Ending::Stayed;
+    let end = fact(Fact::Ended {
+        deadline,
+        why,
+        dated,
+    });
+    let resume = fact(Fact::Resumed {
+        deadline,
+        from: Some(day(rt, "2025-03-24")),
+        dated,
+    });
+    gives(rt, alloc, docket, &end, &Answer::Ended)?;
+    gives(
+        rt,
+        alloc,
+        docket,
+        &resume,
+        &Answer::Resumed(last(rt, "2025-04-14")),
     )
 }
 
@@ -275,7 +303,8 @@ fn an_earlier_assignment_takes_no_later_ones_place(rt: HostRuntime) -> Result<()
 #[test]
 fn a_deadline_is_ended_and_resumed(rt: HostRuntime) -> Result<(), Fail> {
     let mut docket = opening(rt.alloc())?;
-    ends_and_resumes(&rt, rt.alloc(), &mut docket)
+    ends_and_resumes(&rt, rt.alloc(), &mut docket)?;
+    runs_anew(&rt, rt.alloc(), &mut docket)
 }
 
 /// A motion that was served on 29 August 2025.
