@@ -213,6 +213,7 @@ def whole_case(ended, output, case, today):
         is_due = ending_of(docket, case, deadline.number) is None
         more = note_lines.act(court, docket, row) + note_lines.ahead(court, docket, row, today if is_due else None)
         more += note_lines.of_deadline(court, docket, row, filed, today)
+        more += note_lines.of_motions(row, [other.row for other in deadlines_of(docket, case)])
         shown = shown_text(court, periods.shown(days, court.clock, row))
         yield calendar, of_row(row), block[1:], shown, more, first
     for motion in motions_of(docket, case):

@@ -14,6 +14,8 @@ from reference.rule6 import AFTER, BEFORE, BEYOND, ELECTRONIC, FILING, PAPER, Fi
 
 # The codes and marks of motions that give the time for an appeal another beginning.
 MOVES_APPEAL = {"50b", "52b", "59b", "59e"}
+# The texts of the time for an appeal.
+APPEAL = {"30d/after/filing/event/60b", "60d/after/filing/event/60b"}
 
 
 def notes(court, rows, work, answer):
@@ -189,9 +191,23 @@ def of_deadline(court, rows, row, filed, today):
     lines += of_end(court, row, end)
     if runs_from_event(row) and row.filed is not None and row.filed.day < starts(row):
         lines.append(note(row.filed.day, "the act was done before its event"))
-    if row.filed is not None and row.period.text.split("/")[-1] in MOVES_APPEAL:
+    if row.filed is not None and moves_appeal(row):
         lines.append(note(row.filed.day, "if timely, the time to appeal moves: FRAP 4(a)(4)"))
     return lines
+
+
+def moves_appeal(row):
+    """Whether an act of a deadline is a motion that gives the time for an appeal another beginning."""
+    return row.period.text.split("/")[-1] in MOVES_APPEAL
+
+
+def of_motions(row, others):
+    """The notes on a deadline for the acts of the deadlines of its case: where it is a time for an appeal, the motions about a judgment of
+    the same day."""
+    if row.period.text not in APPEAL:
+        return []
+    return [note(other.filed.day, "a motion, if timely, moves this: FRAP 4(a)(4)") for other in others
+            if other.filed is not None and moves_appeal(other) and other.event.day == row.event.day]
 
 
 def of_hearing(rows, day):

@@ -85,7 +85,7 @@ fn push_appeal_begins(
 }
 
 /// Whether a motion within this period gives the time for an appeal another beginning.
-fn moves_appeal(period: Period) -> bool
+pub(crate) fn moves_appeal(period: Period) -> bool
     ensures { result ≡ moves_appeal period }
 {
     match period {
