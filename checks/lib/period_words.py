@@ -72,7 +72,7 @@ def citation(section):
 
 
 def called(text, event):
-    """The lines of a period as a memo calls it. A period of the Rules is called by its section; behind an entered one are the sections
+    """The lines of a period as a memo calls it. A period of the Rules is called by its section; after an entered one are the sections
     of docs/law/RULES.md with such a period, or its code where there is none."""
     (day, what, where), *others = heading(text, event)
     if text in RULES:

@@ -30,7 +30,7 @@ abbrev pub number_asked : Work → Option ℕ
 number_asked (Command command) = number_in command
 number_asked (Query query) = None
 
--- A row with these fields that names this number after so many of them, where what has the number is at this place: with the place
+-- A row with these fields that names this number after `before` of them, where what has the number is at this place: with the place
 -- in the number's field, where it is another. A number that nothing has any more is at a place apart, and its row, which was
 -- refused, is left out.
 abbrev pub row_placed : (before : ℕ) → (number place : Option ℕ) → (fields : List (List ℕ)) → List ℕ

@@ -33,7 +33,7 @@ fn number_asked(work: &Work) -> Option<u32>
     }
 }
 
-// Adds a row with these fields that names this number after so many of them, where what has the number is at this place.
+// Adds a row with these fields that names this number after `before` of them, where what has the number is at this place.
 fn push_placed(
     alloc: Global,
     text: &mut Vec<u8>,

@@ -27,11 +27,11 @@ later_said choice named number [] stamps = []
 later_said choice named number (entry ∷ later) stamps =
     if_said (entry_log choice named (kind_of (note_in entry)) number entry (first_stamp stamps)) ++ later_said choice named (number + length (row_only (note_in entry) entry)) later (drop 1 stamps)
 
--- the last of some texts, at most so many, one after another
+-- the last of some texts, at most that many, one after another
 abbrev pub last_joined : (most : ℕ) → List (List ℕ) → List ℕ
 last_joined most texts = flat_map (λ (text : List ℕ). text) (drop (length texts - most) texts)
 
--- what is written of the last entries that are asked for, at most so many, without the first, which is the court's file
+-- what is written of the last entries that are asked for, at most that many, without the first, which is the court's file
 abbrev pub last_log_text : CourtNames → LogChoice → (most : ℕ) → (entries : List (List ℕ)) → (stamps : List StampView) → List ℕ
 last_log_text names choice most entries stamps =
     last_joined most (later_said choice (cases_looked_up names choice entries) 1 (drop 1 entries) (drop 1 stamps))

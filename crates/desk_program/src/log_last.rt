@@ -68,7 +68,7 @@ fn texts_said(
     Ok(texts)
 }
 
-// The last of some texts, at most so many.
+// The last of some texts, at most that many.
 fn last_of(texts: &[Vec<u8>], most: usize) -> &[Vec<u8>]
     ensures { result.now ≡ drop (length texts.now - most) texts.now }
 {
@@ -86,7 +86,7 @@ fn joined(alloc: Global, texts: &[Vec<u8>]) -> Result<Vec<u8>, AllocError>
     Ok(whole)
 }
 
-/// What is written of the last entries that are chosen, at most so many, as `write_log` writes them; of the first entry, which is the
+/// What is written of the last entries that are chosen, at most that many, as `write_log` writes them; of the first entry, which is the
 /// court's file, nothing. `Err` says that memory ran out.
 pub fn last_log(
     alloc: Global,

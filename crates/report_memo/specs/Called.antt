@@ -1,4 +1,4 @@
--- What comes behind how an entered period is entered: the sections that set such a period, and where the court's own are from, or else
+-- What comes after how an entered period is entered: the sections that set such a period, and where the court's own are from, or else
 -- its code.
 use Rattle.std.specs.Prelude.{ℕ, ◌||◌, Bool, false, List, [], ◌∷◌, ◌++◌, Option, Some, None, codes, unwrap_or, if◌then◌else◌}
 use Rattle.std.specs.Str.{bytes_eq}

@@ -1,4 +1,4 @@
-//! What comes behind how an entered period is entered: the sections that set such a period, and where the court's own are from, or else
+//! What comes after how an entered period is entered: the sections that set such a period, and where the court's own are from, or else
 //! its code.
 
 ghost use Rattle.std.specs.Prelude.{◌≡◌, ◌++◌, OnOk, codes, map, string_bytes};
@@ -13,7 +13,7 @@ use row_fields::{NamedPeriod, RuleBook, named_periods};
 use rule_periods::{Entered, Period};
 use std::alloc::{AllocError, Global};
 
-/// Adds what comes behind how a period is entered: the sections of docs/law/RULES.md that set a period of the same form, and where those
+/// Adds what comes after how a period is entered: the sections of docs/law/RULES.md that set a period of the same form, and where those
 /// of the court's own are from, or, where there is none, its code as rows have it. A period of the Rules has nothing. `Err` says that
 /// memory ran out.
 #[tactic(auto, unfolding(crate::specs::Called::period_back))]
@@ -31,7 +31,7 @@ pub(crate) fn push_period_back(
     }
 }
 
-/// Adds what comes behind how an entered period is entered.
+/// Adds what comes after how an entered period is entered.
 fn push_entered_back(
     alloc: Global,
     text: &mut String,

@@ -37,7 +37,7 @@ fn teller(key: Key) -> &'static str {
     }
 }
 
-/// The fault as it is told.
+/// The fault as it is said.
 fn told(alloc: Global, fault: &Fault) -> Result<String, AllocError> {
     match &fault.what {
         What::Read(fault) => {
