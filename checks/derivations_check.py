@@ -584,6 +584,7 @@ def main(words):
     # (the example of several clerks, whose words are beside it, may be answered otherwise)
     inputs = [path.read_bytes() for path in sorted((TOP / "examples").glob("*.txt")) if not path.with_suffix(".words").exists()]
     inputs += [path.read_bytes() for path in sorted((TOP / "crates" / "docket").glob("stdin"))] + [AT_THE_END, AT_A_FRIDAY]
+    inputs.append((TOP / "runs" / "calendar" / "appeal.in").read_bytes())
     while shown < count or inputs:
         data = inputs.pop() if inputs else an_input(chance)
         for derivation in all_derivations(programs, data, chance):
