@@ -16,5 +16,6 @@ pub mod RowCaseLemmas
 pub mod RowsLemmas
 pub mod StruckLemmas
 pub mod TextLemmas
+pub mod TimeOrderLemmas
 pub mod TogetherLemmas
 pub mod TrialLemmas

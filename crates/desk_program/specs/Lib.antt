@@ -18,6 +18,7 @@ pub mod RowCorrection
 pub mod Rows
 pub mod Shown
 pub mod Struck
+pub mod TimeOrder
 pub mod Together
 pub mod Trial
 pub mod Words

@@ -29,6 +29,7 @@ mod rows;
 mod shown;
 mod struck;
 mod tally;
+mod time_order;
 mod together;
 mod trial;
 
@@ -52,3 +53,4 @@ pub use rows::{checked_rows, write_count, write_rows};
 pub use shown::lines_shown;
 pub use struck::write_struck;
 pub use tally::all_taken;
+pub use time_order::earlier_entry;

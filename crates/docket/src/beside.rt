@@ -1,9 +1,9 @@
 //! What the program does beside another one that may enter rows.
-ghost use Rattle.std.specs.Prelude.{◌≡◌, ◌≤◌, ℕ, List, false, length, IfOk, IfSome, OnOk};
+ghost use Rattle.std.specs.Prelude.{◌≡◌, ◌≤◌, ℕ, List, None, false, length, IfOk, IfSome, OnOk};
 ghost use Rattle.desk_session.specs.declared.outcome.Tally.{Tally};
 ghost use Rattle.desk_entries.specs.Words.{IsDocketed, most_entries};
 ghost use Rattle.desk_journal.specs.Words.{batch_of};
-ghost use Rattle.desk_program.specs.Words.{AnswersQuestions, IsTried, KeepsDocket, held_at, leaves_at, outcome_at, standing_at};
+ghost use Rattle.desk_program.specs.Words.{AnswersQuestions, IsTried, KeepsDocket, earlier_in, held_at, leaves_at, outcome_at, standing_at};
 ghost use Rattle.desk_session.specs.Words.{lines_of, tally_of};
 ghost use Rattle.docket.specs.Reports.{WritesCases, WritesRows};
 ghost use Rattle.docket.specs.Sessions.{WithTally};
@@ -11,13 +11,14 @@ ghost use Rattle.program_streams.specs.Words.{has_failed, watched};
 
 use crate::clerk::lines_of;
 use crate::fault::{Fault, taken};
-use crate::folder::{copied_beside, entries_beside, put};
+use crate::folder::{copied_beside, entries_beside, put, stamped_beside};
 use crate::input::{reading_of, rows_of};
 use crate::progress::told_while;
 use desk_entries::Docketed;
+use desk_journal::Stamp;
 use desk_program::{
-    Desk, DeskFault, OutputFault, ask as answer, checked_rows, write_cases, write_count,
-    write_rows, write_struck,
+    Desk, DeskFault, OutputFault, ask as answer, checked_rows, earlier_entry, write_cases,
+    write_count, write_rows, write_struck,
 };
 use desk_warnings::HeldBack;
 use program_streams::Watched;
@@ -207,7 +208,17 @@ pub fn struck<W: Write>(
     Ok(write_struck(rt.alloc(), &entries, writer)?)
 }
 
-/// Writes how many rows the folder has, all of which are decided again as they were entered.
+// Looks whether an entry of a journal is of an earlier time than the one before it.
+fn check_times(alloc: Global, entries: &[Vec<u8>], stamps: &[Stamp]) -> Result<(), Fault>
+    ensures { OnOk result (earlier_in (batch_of entries.now) stamps.now ≡ None) }
+{
+    match earlier_entry(alloc, entries, stamps)? {
+        None => Ok(()),
+        Some(line) => Err(Fault::Unusable(line)),
+    }
+}
+
+/// Writes how many rows the folder has, all of which are decided again as they were entered. Times that go back are a fault.
 pub fn check<H: Threads + Wait + Sync, W: Write>(
     rt: &HostRuntime,
     threads: &H,
@@ -216,7 +227,9 @@ pub fn check<H: Threads + Wait + Sync, W: Write>(
 ) -> Result<(), Fault>
     requires { has_failed writer.old ≡ false }
 {
-    let entries = entries_beside(rt, folder, None)?;
+    let (entries, stamps) = stamped_beside(rt, folder)?;
+    check_times(rt.alloc(), &entries, &stamps)?;
+    drop(stamps);
     let count = told_while(threads, rt.stderr(), "reading", folder, || {
         checked_rows(rt.alloc(), &entries)
     })?;

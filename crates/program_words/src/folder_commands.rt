@@ -85,9 +85,9 @@ Examples:
 const CHECK: &str = "Decide all rows again, and say how many there are";
 
 const CHECK_MORE: &str =
-    "It says which entry of the journal is damaged, and which row would be answered
-otherwise than it was. It changes nothing, and another program may enter rows
-meanwhile.
+    "It says which entry of the journal is damaged or of an earlier time than the one
+before it, and which row would be answered otherwise than it was. It changes
+nothing, and another program may enter rows meanwhile.
 
 Example:
   docket check cases";
