@@ -8,6 +8,7 @@ pub mod Desk
 pub mod EntryKind
 pub mod FaultWords
 pub mod Faults
+pub mod Leave
 pub mod Log
 pub mod LogJson
 pub mod LogLast

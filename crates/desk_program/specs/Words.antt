@@ -8,6 +8,7 @@ pub use Rattle.desk_program.specs.ChangedText.{changes_text}
 pub use Rattle.desk_program.specs.Correction.{IsListed, IsOnlyListed, correction_text, shown_at}
 pub use Rattle.desk_program.specs.Desk.{HasNoDocket, IsPromisedDocket, IsUnopened, KeepsDocket, answers_at, disk_under, held_at, leaves_at, outcome_at, stamp_under, standing_at}
 pub use Rattle.desk_program.specs.Faults.{desk_status}
+pub use Rattle.desk_program.specs.Leave.{asking_between}
 pub use Rattle.desk_program.specs.Log.{log_text}
 pub use Rattle.desk_program.specs.LogLast.{last_log_text}
 pub use Rattle.desk_program.specs.Remembered.{GoesOn, GoesOnAs, HasCorrections, Remembers, end_in, held_in, holds_back, standing_in}
