@@ -12,7 +12,7 @@ use desk_journal::Stamp;
 use std::alloc::{AllocError, Global};
 
 /// An entry, as the log calls it.
-#[derive(Clone, Copy, Debug, PartialEq, Eq)]
+#[derive(Clone, Copy)]
 pub(crate) struct EarlierEntry {
     /// What it is.
     pub kind: EntryKind,
