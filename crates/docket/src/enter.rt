@@ -241,6 +241,9 @@ fn begun<H: Threads + Wait + Sync>(
     let (left, after) = first_left(rt, threads, folder, asked)?;
     let session = session_of(rt.alloc(), left, account);
     let mark = begin_session(rt, folder, &lock, &session.account, after);
+    if mark.is_err() {
+        remove_spare(rt, folder);
+    }
     drop(lock);
     match mark {
         Ok(mark) => Ok((session, mark)),
