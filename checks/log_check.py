@@ -237,7 +237,7 @@ def check_back(programs, draw):
     with tempfile.TemporaryDirectory() as parent:
         desk = Desk(programs, parent, SHORT_COURT)
         desk.enter([b"1,open,9,2025-03-03\n", *drawn_rows(draw, 6)])
-        assert desk.call("strike", 2, "--reason", "twice", "--accept").status == 0
+        assert desk.call("strike", 1, "--reason", "twice", "--accept").status == 0
         desk.enter(drawn_rows(draw, 3))
         journal = desk.read()
         times = sorted(draw.randint(1_764_000_000, 1_765_500_000) for _ in journal.entries)
