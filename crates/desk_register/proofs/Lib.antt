@@ -14,5 +14,6 @@ pub mod ListLemmas
 pub mod NoteLemmas
 pub mod QuestionLemmas
 pub mod RegisterLemmas
+pub mod SameLemmas
 pub mod ShiftLemmas
 pub mod StrikingLemmas

@@ -66,7 +66,7 @@ names_before court docketed before moved cases name (Command (Inaccessible day f
 names_before court docketed before moved cases name (Command (Fact case fact)) = refl
 
 -- what is shown as it was has no line
-alike : (named : List NamedCase) (case : ℕ) (counted : Counted) (number : ℕ) (text : List ℕ) → shift_line named case counted number text text ≡ []
+pub alike : (named : List NamedCase) (case : ℕ) (counted : Counted) (number : ℕ) (text : List ℕ) → shift_line named case counted number text text ≡ []
 alike named case counted number text = rw ((bytes_eq-Decides text text).1 refl) refl
 
 -- where the days are those before, the deadlines of a case have no line

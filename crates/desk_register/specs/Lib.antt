@@ -11,6 +11,7 @@ pub mod Striking
 pub mod Register
 pub mod Differences
 pub mod LineFaults
+pub mod Same
 pub mod Shifts
 pub mod Laws
 pub mod Questions

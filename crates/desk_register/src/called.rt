@@ -130,6 +130,13 @@ impl DocketRegister {
     }
 
     /// What rows call cases, deadlines and motions, by the numbers that these have for the office.
+    pub fn called(&self) -> &CalledTexts
+        ensures { (under : StandingOf) (kept : List (List ℕ)) → StandsAt under self.now kept → result.now ≡ called_standing under kept }
+    {
+        &self.called
+    }
+
+    /// The same, where the register isn't needed any more.
     pub fn into_called(self) -> CalledTexts
         ensures { (under : StandingOf) (kept : List (List ℕ)) → StandsAt under self kept → result ≡ called_standing under kept }
     {

@@ -15,6 +15,7 @@ mod next_line;
 mod outcome;
 mod questions;
 mod register;
+mod same;
 mod shifts;
 mod standing;
 mod striking;

@@ -1,5 +1,5 @@
 -- What is written of a docket after all its rows.
-use Rattle.std.specs.Prelude.{◌≡◌, ℕ, ℤ, true, List, [], ◌++◌, Option, Some, None, codes, length, map, string_bytes, IsErrAnd, IsOkAnd, IsSome}
+use Rattle.std.specs.Prelude.{◌≡◌, ℕ, ℤ, Bool, true, false, List, [], ◌++◌, Option, Some, None, codes, length, map, string_bytes, IsErrAnd, IsOkAnd, IsSome}
 use Rattle.std.specs.declared.alloc.Global.{Global}
 use Rattle.std.specs.Prelude.{String}
 use Rattle.office_texts.specs.Names.Words.{called_text}
@@ -141,6 +141,11 @@ changes_by court past rows = changes_since past ++ changes_made (setup_of court)
 
 abbrev pub lost_of : CourtView → PastView → List NumberedRow → List DueItem
 lost_of court past rows = lost_since past ++ lost_made past.given (setup_of court) (opening_rows (setup_of court)) rows
+
+-- it is a calendar for calendar programs, which rests on what rows changed, and not on the docket alone
+abbrev pub is_calendar : Listing → Bool
+is_calendar (Ics choice stamp) = true
+is_calendar other = false
 
 -- the text of what is chosen
 abbrev pub IsTextOf : CourtView → LabelsView → PastView → List NumberedRow → Chosen → List ℕ → Type 0

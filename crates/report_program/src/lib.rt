@@ -18,6 +18,7 @@ mod pending;
 mod report;
 mod sheet;
 mod subcommands;
+mod taken;
 mod week;
 
 pub use asked::{Asked, Task, asked_by};
@@ -25,3 +26,4 @@ pub use clock::clock_time;
 pub use past::Past;
 pub use report::report_of;
 pub use subcommands::with_reports;
+pub use taken::report_of_docket;

@@ -190,7 +190,7 @@ fn listed(
 }
 
 /// The text of what is shown of a docket.
-fn listing_of(
+pub(crate) fn listing_of(
     alloc: Global,
     court: &Court,
     labels: &Labels<'_>,
