@@ -155,5 +155,5 @@ pub nothing_held : NothingIsHeldBack
 nothing_held under kept line is = (
   ap (left_of_taken under kept) (one_row under kept line is) ∙ one_left (leaves under) (told under) kept line,
   ap (told_of_taken under Nothing kept (against_rows under Nothing kept (rows_in line))) (one_row under kept line is) ∙ one_told (leaves under) (told under) kept line,
-  ap (came_of_taken under kept) (one_row under kept line is) ∙ one_came under kept line,
+  ap (came_of_taken under Nothing kept) (one_row under kept line is) ∙ one_came under kept line,
 )

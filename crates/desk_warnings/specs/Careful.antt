@@ -3,7 +3,7 @@ use Rattle.std.specs.Prelude.{ℕ, Bool, true, false, List, [], ◌∷◌, ◌++
 use Rattle.std.specs.Fmt.{decimal}
 use Rattle.desk_session.specs.Words.{after_mark, left_by, told_to, unmarked}
 use Rattle.desk_session.specs.declared.outcome.Outcome.{Outcome}
-use Rattle.desk_session.specs.declared.outcome.Outcome.TheVariants.{Held}
+use Rattle.desk_session.specs.declared.outcome.Outcome.TheVariants.{Fault, Held}
 use Rattle.desk_register.specs.declared.standing.Standing.{Standing}
 use Rattle.desk_register.specs.Words.{leaves, next_number, told}
 use Rattle.desk_warnings.specs.declared.register.HeldBack.{HeldBack}
@@ -55,10 +55,14 @@ abbrev pub told_of_taken : Standing → HeldBack → (kept : List (List ℕ)) �
 told_of_taken under held kept against None = held_text held (next_number kept) against
 told_of_taken under held kept against (Some rows) = told_to (leaves under) (told under) kept rows
 
--- what comes of it: what comes of them, or it is held back
-abbrev pub came_of_taken : Standing → (kept : List (List ℕ)) → Option (List (List ℕ)) → Outcome
-came_of_taken under kept None = Held
-came_of_taken under kept (Some rows) = came_of_rows under kept rows
+-- what comes of it: what comes of them, or it is held back; or it has a fault, where a warning would not hold it back
+abbrev pub held_came : HeldBack → Outcome
+held_came Nothing = Fault
+held_came (Warned today) = Held
+
+abbrev pub came_of_taken : Standing → HeldBack → (kept : List (List ℕ)) → Option (List (List ℕ)) → Outcome
+came_of_taken under held kept None = held_came held
+came_of_taken under held kept (Some rows) = came_of_rows under kept rows
 
 abbrev pub whole_taken : Standing → HeldBack → (kept : List (List ℕ)) → (line : List ℕ) → Option (List (List ℕ))
 whole_taken under held kept line = taken_if (rows_in line) (against_rows under held kept (rows_in line))
@@ -70,7 +74,7 @@ abbrev pub whole_answers : Standing → HeldBack → (kept : List (List ℕ)) �
 whole_answers under held kept line = told_of_taken under held kept (against_rows under held kept (rows_in line)) (whole_taken under held kept line)
 
 abbrev pub whole_outcome : Standing → HeldBack → (kept : List (List ℕ)) → (line : List ℕ) → Outcome
-whole_outcome under held kept line = came_of_taken under kept (whole_taken under held kept line)
+whole_outcome under held kept line = came_of_taken under held kept (whole_taken under held kept line)
 
 -- the rows of a line that are taken, what the line leaves, what is told of it and what comes of it, by what is held back
 abbrev pub taken_at : Standing → HeldBack → (kept : List (List ℕ)) → (line : List ℕ) → Option (List (List ℕ))

@@ -4,7 +4,7 @@ ghost use Rattle.desk_journal.specs.Words.{batch_of};
 ghost use Rattle.desk_session.specs.Words.{TakesLine, TakesLines};
 ghost use Rattle.desk_register.specs.Words.{IsReadyAt, leaves, told};
 ghost use Rattle.desk_warnings.specs.Inside.Rows.{row_texts};
-ghost use Rattle.desk_warnings.specs.Careful.{are_marked, careful_answers, careful_leaves, careful_outcome, held_first, held_for, held_last, held_text, whole_answers, whole_leaves, whole_outcome};
+ghost use Rattle.desk_warnings.specs.Careful.{are_marked, careful_answers, careful_leaves, careful_outcome, held_came, held_first, held_for, held_last, held_text, whole_answers, whole_leaves, whole_outcome};
 ghost use Rattle.desk_warnings.specs.Rows.{came_of_rows};
 
 use crate::rows::{either_came, rows_in};
@@ -128,6 +128,16 @@ fn held_for(held_back: &HeldBack, line: &[u8]) -> HeldBack
     }
 }
 
+// What comes of a line that isn't taken.
+fn held_came(held_back: &HeldBack) -> Outcome
+    ensures { result ≡ held_came held_back.now }
+{
+    match held_back {
+        HeldBack::Nothing => Outcome::Fault,
+        HeldBack::Warned(_) => Outcome::Held,
+    }
+}
+
 impl CarefulRegister {
     // Takes rows one after another.
     fn take_rows(
@@ -172,7 +182,7 @@ impl CarefulRegister {
         }
         let number = self.register.next_number();
         push_held(alloc, text, held_back, number, against.as_str())?;
-        Ok(Outcome::Held)
+        Ok(held_came(held_back))
     }
 }
 

@@ -65,7 +65,7 @@ pub fn try_rows<H: Threads + Wait + Sync, W: Write, E: Write>(
     let mut desk = copied_beside(rt, threads, folder)?;
     desk.hold_back(held_back);
     let marked = held_back.are_marked();
-    match rows_of(rt, errors, desk.court(), lines, marked, true) {
+    match rows_of(rt, errors, desk.court(), lines, marked, false) {
         Ok(Some(rows)) => tried(rt.alloc(), rows.as_slice(), writer, desk),
         Ok(None) => match lines_of(rt, lines) {
             Ok(typed) => tried(rt.alloc(), typed, writer, desk),

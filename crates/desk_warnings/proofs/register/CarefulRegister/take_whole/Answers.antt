@@ -34,7 +34,7 @@ returns-then-are_none-clause-came c = λ kept stands.
     let against = c.in_ok-against.ensures kept stands.at ∙ ap (against_rows under held kept) rows in
     let none = sym against ∙ sym c.as_str.ensures.value ∙ c.are_none.ensures.none c.if-are_none.true in
     IfOk-weaker c.take_rows.result (λ came. came ≡ came_of_rows under kept (row_texts found)) (λ came. came ≡ whole_outcome under held kept line)
-    (λ came is. is ∙ ap (came_of_rows under kept) rows ∙ ap (came_of_taken under kept) (sym (all_taken (rows_in line) (against_rows under held kept (rows_in line)) none)))
+    (λ came is. is ∙ ap (came_of_rows under kept) rows ∙ ap (came_of_taken under held kept) (sym (all_taken (rows_in line) (against_rows under held kept (rows_in line)) none)))
     (c.take_rows.ensures.came kept stands)
 
 pub returns-clause-taken : goal.returns-clause-taken
@@ -57,4 +57,4 @@ returns-clause-came c = λ kept stands.
     let line = c.args.line.now in
     let rows : row_texts c.as_slice-rows.result.now ≡ rows_in line = ap row_texts c.as_slice-rows.ensures.value ∙ c.in_ok-found.ensures in
     let against = c.in_ok-against.ensures kept stands.at ∙ ap (against_rows under held kept) rows in
-    ap (came_of_taken under kept) (sym (none_taken (rows_in line) (against_rows under held kept (rows_in line)) (λ e. c.are_none.ensures.some c.if-are_none.false (c.as_str.ensures.value ∙ against ∙ e))))
+    c.held_came.ensures ∙ ap (came_of_taken under held kept) (sym (none_taken (rows_in line) (against_rows under held kept (rows_in line)) (λ e. c.are_none.ensures.some c.if-are_none.false (c.as_str.ensures.value ∙ against ∙ e))))
