@@ -145,6 +145,6 @@ def check_triggers(desk):
             assert ended.output.decode() == "".join(start + "\n" + label + "\n" for start, label in zip(starts, labels)), (row, name, ended)
             tried += 1
     ended = desk.call("plain", given=b"1,open,12,2025-08-04\n# 1,trigger,12,judgment,2025-08-04\n1, trigger, 12, judgment, 2025-08-32\n")
-    assert not ended.output and ended.errors.count(b"line 3 column 28: ") == 1 == ended.errors.count(b"line "), ended
-    assert b"    1, trigger, 12, judgment, 2025-08-32\n" + 4 * b" " + 27 * b" " + 10 * b"^" + b"\n" in ended.errors, ended
+    assert not ended.output and ended.errors.count(b"line 3 column 27: ") == 1 == ended.errors.count(b"line "), ended
+    assert b"    1, trigger, 12, judgment, 2025-08-32\n" + 4 * b" " + 26 * b" " + 10 * b"^" + b"\n" in ended.errors, ended
     return tried
