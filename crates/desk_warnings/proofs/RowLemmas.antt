@@ -8,6 +8,10 @@ use Rattle.std.specs.declared.vec.Vec.{Vec}
 use Rattle.std.proofs.lemmas.Grind.{flat_map-append}
 use Rattle.std.proofs.lemmas.Iterator.{IsCollectResult, YieldsList, items_from_drains}
 use Rattle.std.proofs.lemmas.List.{map-append, take_more}
+use Rattle.row_forms.specs.declared.fault.RowCause.{RowCause}
+use Rattle.row_forms.specs.declared.fault.RowCause.TheVariants.{BadClerk, BadField, NotText, TooManyRows, UnknownCommand, WrongCount}
+use Rattle.row_forms.specs.declared.line.line.Line.{Line}
+use Rattle.row_forms.specs.declared.line.line.Line.TheVariants as says
 use Rattle.desk_session.specs.Words.{left_by}
 use Rattle.desk_session.specs.declared.outcome.Outcome.{Outcome}
 use Rattle.desk_session.specs.declared.outcome.Outcome.TheVariants.{Blank, Fault, Held, Refused, Taken}
@@ -15,7 +19,7 @@ use Rattle.desk_register.specs.Words.{leaves, outcome}
 use Rattle.desk_register.specs.declared.standing.Standing.{Standing}
 use Rattle.desk_warnings.specs.declared.register.HeldBack.{HeldBack}
 use Rattle.desk_warnings.specs.Inside.Rows.{row_texts}
-use Rattle.desk_warnings.specs.Rows.{against_row, against_said, came_after, came_of_rows, either_came, labels_new, said_at}
+use Rattle.desk_warnings.specs.Rows.{against_row, against_said, came_after, came_of_rows, either_came, labels_as, labels_new, said_at, says_new}
 
 -- what an iterator gives, seen by a view, where it is collected
 pub rows_collected : {S A B Z E : Type 0} {steps : S → Option A → S → Type 0} {v : A → B} {s : S} {all : List B} (r : Result (Vec A Z) E)
@@ -42,6 +46,20 @@ against_more said rows i row there at =
     ap (flat_map said) (rows_more rows i row there at)
     ∙ flat_map-append said (row_texts (take i rows)) (row.now ∷ [])
     ∙ ap (λ (l : List ℕ). flat_map said (row_texts (take i rows)) ++ l) (append-nil (said row.now))
+
+-- the fields of a row count only where one isn't what it should be
+labels_fault : (cause : RowCause) (fields all : List (List ℕ)) → ((column : ℕ) → says.Fault cause ≡ says.Fault (BadField column) → fields ≡ all) → labels_as fields (says.Fault cause) ≡ labels_as all (says.Fault cause)
+labels_fault (BadField column) fields all is = ap says_new (is column refl)
+labels_fault BadClerk fields all is = refl
+labels_fault UnknownCommand fields all is = refl
+labels_fault WrongCount fields all is = refl
+labels_fault NotText fields all is = refl
+labels_fault TooManyRows fields all is = refl
+
+pub labels_same : (said : Line) (fields all : List (List ℕ)) → ((column : ℕ) → said ≡ says.Fault (BadField column) → fields ≡ all) → labels_as fields said ≡ labels_as all said
+labels_same says.Blank fields all is = refl
+labels_same (says.Fault cause) fields all is = labels_fault cause fields all is
+labels_same (says.Row row) fields all is = refl
 
 -- a row that is passed over, and one that isn't
 module _ (under : Standing) (held : HeldBack) (kept : List (List ℕ)) (row : List ℕ) where

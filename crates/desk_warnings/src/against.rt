@@ -1,10 +1,9 @@
 //! What speaks against taking the rows of a line.
-ghost use Rattle.std.specs.Prelude.{◌≡◌, ◌||◌, ℕ, List, IfOk, string_bytes};
+ghost use Rattle.std.specs.Prelude.{◌≡◌, ◌||◌, ℕ, List, IfOk, length, nat_lt, string_bytes};
 ghost use Rattle.std.specs.List.{flat_map};
 ghost use Rattle.row_forms.specs.Words.{names_of};
 ghost use Rattle.row_forms.specs.Line.Words.{line_read};
-ghost use Rattle.desk_register.specs.Words.{StandsAt, asks, has_room, most_clerks, reading_at, within};
-ghost use Rattle.desk_register.specs.declared.standing.Standing.{Standing as StandingOf};
+ghost use Rattle.desk_register.specs.Words.{StandsAt, asks, most_clerks, reading_at, within};
 ghost use Rattle.desk_warnings.specs.Inside.Rows.{row_texts};
 ghost use Rattle.desk_warnings.specs.Rows.{against_one, against_row, against_rows, against_said, warned_at, warnings_at, warnings_said};
 
@@ -26,6 +25,20 @@ fn asks(work: &Work) -> bool
     }
 }
 
+// Whether a row is answered: there is room for it, or it asks a question.
+fn is_answered(room: bool, work: &Work) -> bool
+    ensures { result ≡ (room || asks work.now) }
+{
+    room || asks(work)
+}
+
+// Whether rows are several.
+fn are_several(rows: &[&[u8]]) -> bool
+    ensures { result ≡ nat_lt 1 (length rows.now) }
+{
+    rows.len() > 1
+}
+
 impl CarefulRegister {
     // What a row says as the one that comes next, if there is room for it.
     fn said(&self, alloc: Global, standing: &Standing, row: &[u8]) -> Result<Line, AllocError>
@@ -35,13 +48,6 @@ impl CarefulRegister {
         let mut fields = StringRecord::new(alloc);
         let (said, _) = self.register.read(alloc, standing, row, &mut fields)?;
         Ok(said)
-    }
-
-    // Whether there is room for a row, or it asks a question.
-    fn is_answered(&self, work: &Work) -> bool
-        ensures { (standing : StandingOf) (kept : List (List ℕ)) → StandsAt standing self.now.register kept → result ≡ (has_room kept || asks work.now) }
-    {
-        self.register.has_room() || asks(work)
     }
 
     // What a clerk is warned of a row that says this.
@@ -122,7 +128,7 @@ impl CarefulRegister {
             Line::Blank => Ok(String::new(alloc)),
             Line::Fault(cause) => fault_line(alloc, *cause),
             Line::Row(row) => {
-                if self.is_answered(&row.work) {
+                if is_answered(self.register.has_room(), &row.work) {
                     self.warnings_said(alloc, standing, held_back, said)
                 } else {
                     fault_line(alloc, RowCause::TooManyRows)
@@ -198,6 +204,7 @@ impl CarefulRegister {
     ) -> Result<String, AllocError>
         ensures { (kept : List (List ℕ)) → StandsAt standing.now self.now.register kept → IfOk result (λ text. string_bytes text ≡ against_rows standing.now held_back.now kept (row_texts rows.now)) }
     {
-        self.against_each(alloc, standing, held_back, rows.len() > 1, rows)
+        let several = are_several(rows);
+        self.against_each(alloc, standing, held_back, several, rows)
     }
 }

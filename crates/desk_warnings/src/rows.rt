@@ -2,7 +2,7 @@
 ghost use Rattle.std.specs.Prelude.{◌≡◌, IfOk, string_bytes};
 ghost use Rattle.csv.specs.Records.{fields_of};
 ghost use Rattle.desk_warnings.specs.Inside.Rows.{row_texts};
-ghost use Rattle.desk_warnings.specs.Rows.{either_came, fault_line, labels_new, left_to_do, rows_in, says_new};
+ghost use Rattle.desk_warnings.specs.Rows.{either_came, fault_line, labels_as, labels_new, left_to_do, rows_in, says_new};
 
 use crate::register::RowTypes;
 use csv::StringRecord;
@@ -49,6 +49,16 @@ fn says_new(fields: &StringRecord) -> bool
     column(fields, 2) == "label" && column(fields, 5) == "new"
 }
 
+// The same of a row that is read as this.
+fn labels_as(said: &Line, fields: &StringRecord) -> bool
+    ensures { result ≡ labels_as (fields_of fields.now) said.now }
+{
+    match said {
+        Line::Fault(RowCause::BadField(_)) => says_new(fields),
+        _ => false,
+    }
+}
+
 /// Whether a row says what that is called which the row before it makes.
 pub(crate) fn labels_new(
     alloc: Global,
@@ -59,10 +69,8 @@ pub(crate) fn labels_new(
 {
     let _types: RowTypes = None;
     let mut fields = StringRecord::new(alloc);
-    match read_line(alloc, row, MOST_CLERKS, &standing.court, &mut fields)? {
-        Line::Fault(RowCause::BadField(_)) => Ok(says_new(&fields)),
-        _ => Ok(false),
-    }
+    let said = read_line(alloc, row, MOST_CLERKS, &standing.court, &mut fields)?;
+    Ok(labels_as(&said, &fields))
 }
 
 /// The line that tells of the fault of a row.

@@ -1,4 +1,4 @@
-use Rattle.std.proofs.Common.{◌∙◌, ℕ, Bool, ap}
+use Rattle.std.proofs.Common.{◌∙◌, Bool, ap}
 use Rattle.std.specs.Prelude.{nat_lt}
 use Rattle.std.specs.List.{flat_map}
 use Rattle.std.proofs.lemmas.Result.{IfOk-weaker}
@@ -10,5 +10,5 @@ use Rattle.desk_warnings.proofs.against.CarefulRegister.against_rows.Goals as go
 pub returns : goal.returns
 returns c = λ kept stands.
     IfOk-weaker c.against_each.result _ _
-    (λ text is. is ∙ ap (λ (n : ℕ). flat_map (against_one c.args.standing.now c.args.held_back.now kept (nat_lt 1 n)) (row_texts c.args.rows.now)) (c.len.ensures.value ∙ as_many c.args.rows.now))
+    (λ text is. is ∙ ap (λ (b : Bool). flat_map (against_one c.args.standing.now c.args.held_back.now kept b) (row_texts c.args.rows.now)) (c.are_several-several.ensures ∙ ap (nat_lt 1) (as_many c.args.rows.now)))
     (c.against_each.ensures kept stands)
