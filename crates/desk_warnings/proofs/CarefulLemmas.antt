@@ -22,7 +22,7 @@ use Rattle.desk_warnings.specs.declared.register.HeldBack.{HeldBack}
 use Rattle.desk_warnings.specs.declared.register.HeldBack.TheVariants.{Nothing, Warned}
 use Rattle.desk_warnings.specs.Careful.{careful_answers, careful_leaves, careful_outcome, held_for, held_text, held_unless, left_of_taken, line_for, taken_at, told_of_taken, came_of_taken, whole_answers, whole_leaves, whole_outcome, whole_taken}
 use Rattle.desk_warnings.specs.Laws.{CarefulIsHistory, LineIsKeptWhole, NothingIsHeldBack, RefusedAreHeld, WarningsKeepNothing, lines_taken, with_taken}
-use Rattle.desk_warnings.specs.Rows.{against_one, against_row, against_rows, against_said, labels_new, rows_in, said_at, taken_if, warnings_at, warnings_said}
+use Rattle.desk_warnings.specs.Rows.{against_one, against_row, against_rows, against_said, labels_new, line_rows, said_at, taken_if, warnings_at, warnings_said}
 use Rattle.desk_warnings.specs.Warnings.{if_refused, warnings_of}
 use Rattle.desk_warnings.proofs.RowLemmas.{against_plain, one_came}
 
@@ -51,17 +51,17 @@ whole_or_none under kept rows [] = inr refl
 whole_or_none under kept rows (byte ∷ bytes) = inl refl
 
 pub kept_whole : LineIsKeptWhole
-kept_whole under held kept line = whole_or_none under kept (rows_in (line_for held line)) (against_rows under (held_for held line) kept (rows_in (line_for held line)))
+kept_whole under held kept line = whole_or_none under kept (line_rows (line_for held line)) (against_rows under (held_for held line) kept (line_rows (line_for held line)))
 
 -- what a careful register makes of a line without its mark
 module _ (under : Standing) (held : HeldBack) (register : DocketRegister) (kept : List (List ℕ)) (line : List ℕ) (batch batch_after : List (List ℕ)) (text text_after : List ℕ) where
   -- its rows are taken as without warnings
-  pub as_taken : whole_taken under held kept line ≡ Some (rows_in line)
-      → TakesLines (leaves under) (told under) (IsReadyAt under register) kept (rows_in line) batch batch_after text text_after
+  pub as_taken : whole_taken under held kept line ≡ Some (line_rows line)
+      → TakesLines (leaves under) (told under) (IsReadyAt under register) kept (line_rows line) batch batch_after text text_after
       → TakesLine (whole_leaves under held) (whole_answers under held) (IsReadyAt under register) kept line batch batch_after text text_after
   as_taken is takes =
-      let left : whole_leaves under held kept line ≡ left_by (leaves under) kept (rows_in line) = ap (left_of_taken under kept) is in
-      let same : whole_answers under held kept line ≡ told_to (leaves under) (told under) kept (rows_in line) = ap (told_of_taken under held kept (against_rows under held kept (rows_in line))) is in
+      let left : whole_leaves under held kept line ≡ left_by (leaves under) kept (line_rows line) = ap (left_of_taken under kept) is in
+      let same : whole_answers under held kept line ≡ told_to (leaves under) (told under) kept (line_rows line) = ap (told_of_taken under held kept (against_rows under held kept (line_rows line))) is in
       record {
         stands = subst (λ (l : List (List ℕ)). IsReadyAt under register (kept ++ l)) (sym left) takes.stands;
         left = takes.left ∙ ap (λ (l : List (List ℕ)). batch ++ l) (sym left);
@@ -69,14 +69,14 @@ module _ (under : Standing) (held : HeldBack) (register : DocketRegister) (kept 
       }
 
   -- a line that is held back changes nothing
-  pub held_back : whole_taken under held kept line ≡ None → IsReadyAt under register kept → batch_after ≡ batch → text_after ≡ text ++ held_text held (next_number kept) (against_rows under held kept (rows_in line))
+  pub held_back : whole_taken under held kept line ≡ None → IsReadyAt under register kept → batch_after ≡ batch → text_after ≡ text ++ held_text held (next_number kept) (against_rows under held kept (line_rows line))
       → TakesLine (whole_leaves under held) (whole_answers under held) (IsReadyAt under register) kept line batch batch_after text text_after
   held_back is stands same added =
       let left : whole_leaves under held kept line ≡ [] = ap (left_of_taken under kept) is in
       record {
         stands = subst (IsReadyAt under register) (sym (ap (λ (l : List (List ℕ)). kept ++ l) left ∙ append-nil kept)) stands;
         left = same ∙ sym (append-nil batch) ∙ ap (λ (l : List (List ℕ)). batch ++ l) (sym left);
-        told = added ∙ ap (λ (t : Option (List (List ℕ))). text ++ told_of_taken under held kept (against_rows under held kept (rows_in line)) t) (sym is);
+        told = added ∙ ap (λ (t : Option (List (List ℕ))). text ++ told_of_taken under held kept (against_rows under held kept (line_rows line)) t) (sym is);
       }
 
 -- a line that may have a mark is taken as the line without it, of which this is held back
@@ -141,19 +141,19 @@ refused_held under today kept line before later bytes row asked refused rows is_
     let some : warnings_at under (Warned today) kept bytes ≡ [] → ⊥ =
     λ none. refused_warned under.court (run_by under kept).numbers.moved (cases_of under kept).named (parts_of (docketed_by under kept)) (Warned today) asked (placed_command (run_by under kept).numbers.moved asked) refused is (rw (said_is, work) at none) in
     let same : against_row under (Warned today) kept bytes ≡ warnings_at under (Warned today) kept bytes = sym (against_plain under (Warned today) kept bytes is_judged) ∙ row_against under (Warned today) kept (said_at under kept bytes) row said_is in
-    let judged = nat_lt 1 (length (rows_in line)) in
+    let judged = nat_lt 1 (length (line_rows line)) in
     ap (λ (h : HeldBack). whole_taken under h kept (line_for (Warned today) line)) held
     ∙ ap (whole_taken under (Warned today) kept) whole
-    ∙ none_taken (rows_in line) (against_rows under (Warned today) kept (rows_in line))
+    ∙ none_taken (line_rows line) (against_rows under (Warned today) kept (line_rows line))
     (λ none. one_against under today kept bytes some judged same (each_nil (against_one under (Warned today) kept judged) before later bytes (ap (flat_map (against_one under (Warned today) kept judged)) (sym rows) ∙ none)))
 
 -- a line of one row is taken as without warnings, where nothing is held back
-one_row : (under : Standing) (kept : List (List ℕ)) (line : List ℕ) → rows_in line ≡ line ∷ [] → taken_at under Nothing kept line ≡ Some (line ∷ [])
+one_row : (under : Standing) (kept : List (List ℕ)) (line : List ℕ) → line_rows line ≡ line ∷ [] → taken_at under Nothing kept line ≡ Some (line ∷ [])
 one_row under kept line is = rw is refl
 
 pub nothing_held : NothingIsHeldBack
 nothing_held under kept line is = (
   ap (left_of_taken under kept) (one_row under kept line is) ∙ one_left (leaves under) (told under) kept line,
-  ap (told_of_taken under Nothing kept (against_rows under Nothing kept (rows_in line))) (one_row under kept line is) ∙ one_told (leaves under) (told under) kept line,
+  ap (told_of_taken under Nothing kept (against_rows under Nothing kept (line_rows line))) (one_row under kept line is) ∙ one_told (leaves under) (told under) kept line,
   ap (came_of_taken under Nothing kept) (one_row under kept line is) ∙ one_came under kept line,
 )

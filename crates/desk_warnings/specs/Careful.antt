@@ -8,7 +8,7 @@ use Rattle.desk_register.specs.declared.standing.Standing.{Standing}
 use Rattle.desk_register.specs.Words.{leaves, next_number, told}
 use Rattle.desk_warnings.specs.declared.register.HeldBack.{HeldBack}
 use Rattle.desk_warnings.specs.declared.register.HeldBack.TheVariants.{Nothing, Warned}
-use Rattle.desk_warnings.specs.Rows.{against_rows, came_of_rows, rows_in, taken_if}
+use Rattle.desk_warnings.specs.Rows.{against_rows, came_of_rows, line_rows, taken_if}
 
 -- whether lines may be marked, so that they are taken without warnings
 abbrev pub are_marked : HeldBack → Bool
@@ -65,13 +65,13 @@ came_of_taken under held kept None = held_came held
 came_of_taken under held kept (Some rows) = came_of_rows under kept rows
 
 abbrev pub whole_taken : Standing → HeldBack → (kept : List (List ℕ)) → (line : List ℕ) → Option (List (List ℕ))
-whole_taken under held kept line = taken_if (rows_in line) (against_rows under held kept (rows_in line))
+whole_taken under held kept line = taken_if (line_rows line) (against_rows under held kept (line_rows line))
 
 abbrev pub whole_leaves : Standing → HeldBack → (kept : List (List ℕ)) → (line : List ℕ) → List (List ℕ)
 whole_leaves under held kept line = left_of_taken under kept (whole_taken under held kept line)
 
 abbrev pub whole_answers : Standing → HeldBack → (kept : List (List ℕ)) → (line : List ℕ) → List ℕ
-whole_answers under held kept line = told_of_taken under held kept (against_rows under held kept (rows_in line)) (whole_taken under held kept line)
+whole_answers under held kept line = told_of_taken under held kept (against_rows under held kept (line_rows line)) (whole_taken under held kept line)
 
 abbrev pub whole_outcome : Standing → HeldBack → (kept : List (List ℕ)) → (line : List ℕ) → Outcome
 whole_outcome under held kept line = came_of_taken under held kept (whole_taken under held kept line)

@@ -18,8 +18,8 @@ use Rattle.desk_warnings.specs.declared.register.HeldBack.TheVariants.{Nothing, 
 use Rattle.desk_warnings.specs.Warnings.{warnings_on}
 
 -- The rows of a line: between them is the byte 30, ASCII's record separator. A line without one is its one row.
-abbrev pub rows_in : (line : List ℕ) → List (List ℕ)
-rows_in line = slice_split (λ byte. byte == 30) line
+abbrev pub line_rows : (line : List ℕ) → List (List ℕ)
+line_rows line = slice_split (λ byte. byte == 30) line
 
 -- how much is left to do of a row of which this comes
 abbrev pub left_to_do : Outcome → ℕ
@@ -77,14 +77,14 @@ abbrev pub labels_new : Standing → (row : List ℕ) → Bool
 labels_new under row = labels_as (fields_read row) (line_read most_clerks (names_of under.court) row)
 
 -- `  would be fault 4 BadField 3`
-abbrev pub fault_line : RowCause → List ℕ
-fault_line cause = codes "  would be fault " ++ cause_text cause ++ codes "\n"
+abbrev pub fault_against : RowCause → List ℕ
+fault_against cause = codes "  would be fault " ++ cause_text cause ++ codes "\n"
 
 -- what speaks against one of several rows that says this: a fault, that it would be refused, and what else it is warned of, where such
 -- rows are held back
 abbrev pub against_said : Standing → HeldBack → (kept : List (List ℕ)) → Line → List ℕ
 against_said under held kept says.Blank = []
-against_said under held kept (says.Fault cause) = fault_line cause
+against_said under held kept (says.Fault cause) = fault_against cause
 against_said under held kept (says.Row row) = warnings_said under held kept (says.Row row)
 
 unfoldable pub against_row : Standing → HeldBack → (kept : List (List ℕ)) → (row : List ℕ) → List ℕ

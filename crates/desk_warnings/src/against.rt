@@ -8,7 +8,7 @@ ghost use Rattle.desk_warnings.specs.Inside.Rows.{row_texts};
 ghost use Rattle.desk_warnings.specs.Rows.{against_one, against_row, against_rows, against_said, warned_at, warnings_at, warnings_said};
 
 use crate::register::{CarefulRegister, HeldBack, RowTypes};
-use crate::rows::{fault_line, labels_new};
+use crate::rows::{fault_against, labels_new};
 use crate::warnings::warnings_on;
 use csv::StringRecord;
 use desk_register::Standing;
@@ -126,12 +126,12 @@ impl CarefulRegister {
         let _types: RowTypes = None;
         match said {
             Line::Blank => Ok(String::new(alloc)),
-            Line::Fault(cause) => fault_line(alloc, *cause),
+            Line::Fault(cause) => fault_against(alloc, *cause),
             Line::Row(row) => {
                 if is_answered(self.register.has_room(), &row.work) {
                     self.warnings_said(alloc, standing, held_back, said)
                 } else {
-                    fault_line(alloc, RowCause::TooManyRows)
+                    fault_against(alloc, RowCause::TooManyRows)
                 }
             }
         }

@@ -7,7 +7,7 @@ ghost use Rattle.desk_warnings.specs.Inside.Rows.{row_texts};
 ghost use Rattle.desk_warnings.specs.Careful.{are_marked, careful_answers, careful_leaves, careful_outcome, held_came, held_first, held_for, held_last, held_text, whole_answers, whole_leaves, whole_outcome};
 ghost use Rattle.desk_warnings.specs.Rows.{came_of_rows};
 
-use crate::rows::{either_came, rows_in};
+use crate::rows::{either_came, line_rows};
 use court_clock::Day;
 use desk_register::{DocketRegister, Standing};
 use desk_session::{Outcome, Register, after_mark, unmarked};
@@ -174,7 +174,7 @@ impl CarefulRegister {
             (TakesLine (whole_leaves standing.now held_back.now) (whole_answers standing.now held_back.now) (IsReadyAt standing.now self.new.register) kept line.now (batch_of batch.old.items) (batch_of batch.new.items) text.old.items text.new.items) }
         ensures came { (kept : List (List ℕ)) → IsReadyAt standing.now self.old.register kept → IfOk result (λ came. came ≡ whole_outcome standing.now held_back.now kept line.now) }
     {
-        let found = rows_in(alloc, line)?;
+        let found = line_rows(alloc, line)?;
         let rows = found.as_slice();
         let against = self.against_rows(alloc, standing, held_back, rows)?;
         if are_none(against.as_str()) {

@@ -2,7 +2,7 @@
 ghost use Rattle.std.specs.Prelude.{◌≡◌, IfOk, string_bytes};
 ghost use Rattle.csv.specs.Records.{fields_of};
 ghost use Rattle.desk_warnings.specs.Inside.Rows.{row_texts};
-ghost use Rattle.desk_warnings.specs.Rows.{either_came, fault_line, labels_as, labels_new, left_to_do, rows_in, says_new};
+ghost use Rattle.desk_warnings.specs.Rows.{either_came, fault_against, labels_as, labels_new, left_to_do, line_rows, says_new};
 
 use crate::register::RowTypes;
 use csv::StringRecord;
@@ -12,8 +12,8 @@ use row_forms::{Line, RowCause, column, read_line};
 use std::alloc::{AllocError, Global};
 
 /// The rows of a line, which has a record separator between them: a line without one is its one row.
-pub(crate) fn rows_in<'a>(alloc: Global, line: &'a [u8]) -> Result<Vec<&'a [u8]>, AllocError>
-    ensures { IfOk result (λ rows. row_texts rows.items ≡ rows_in line.now) }
+pub(crate) fn line_rows<'a>(alloc: Global, line: &'a [u8]) -> Result<Vec<&'a [u8]>, AllocError>
+    ensures { IfOk result (λ rows. row_texts rows.items ≡ line_rows line.now) }
 {
     line.split(|byte| *byte == BETWEEN_ROWS).collect(alloc)
 }
@@ -74,8 +74,8 @@ pub(crate) fn labels_new(
 }
 
 /// The line that tells of the fault of a row.
-pub(crate) fn fault_line(alloc: Global, cause: RowCause) -> Result<String, AllocError>
-    ensures { IfOk result (λ text. string_bytes text ≡ fault_line cause) }
+pub(crate) fn fault_against(alloc: Global, cause: RowCause) -> Result<String, AllocError>
+    ensures { IfOk result (λ text. string_bytes text ≡ fault_against cause) }
 {
     format!(in alloc; "  would be fault {cause}\n")
 }

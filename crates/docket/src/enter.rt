@@ -200,8 +200,8 @@ fn entered<H: Threads + Wait + Sync, W: Write, E: Write>(
     requires { has_failed writer.old ≡ false }
 {
     let marked = asked.held_back.are_marked();
-    let together = is_each(&asked.keeping);
-    match rows_of(rt, errors, session.left.court(), asked.lines, marked, together) {
+    let joined = is_each(&asked.keeping);
+    match rows_of(rt, errors, session.left.court(), asked.lines, marked, joined) {
         Ok(Some(rows)) => kept_at_once(rt, threads, writer, errors, folder, asked, session, &rows),
         Ok(None) => plain_entered(rt, threads, writer, errors, folder, asked, session),
         Err(fault) => {

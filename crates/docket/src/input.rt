@@ -91,11 +91,11 @@ fn faultless<E: Write>(
     court: &Court,
     style: Style,
     marked: bool,
-    together: bool,
+    joined: bool,
     input: &[u8],
 ) -> Result<Reading, Fault>
     ensures rows { IfOk result (λ reading. reading.rows.items ≡ rows_of 64 (names_of court.now) court.now.periods.triggers style.order marked None (numbered_lines (strip_bom input.now))) }
-    ensures placed { IfOk result (λ reading. reading.placed.items ≡ placed_from 64 (names_of court.now) court.now.periods.triggers style.order marked together None [] (strip_bom input.now)) }
+    ensures placed { IfOk result (λ reading. reading.placed.items ≡ placed_from 64 (names_of court.now) court.now.periods.triggers style.order marked joined None [] (strip_bom input.now)) }
     ensures faultless { IfOk result (λ reading. reading.faulty.items ≡ []) }
     ensures finished { OnOk result (unfinished_of (strip_bom input.now) ≡ []) }
 {
@@ -104,7 +104,7 @@ fn faultless<E: Write>(
         return Err(Fault::Desk(DeskFault::Unkept(SessionFault::Unfinished)));
     }
     let order = style.order;
-    let reading = read_input(alloc, MOST_CLERKS, court, order, marked, together, input)?;
+    let reading = read_input(alloc, MOST_CLERKS, court, order, marked, joined, input)?;
     if reading.faulty.is_empty() {
         return Ok(reading);
     }
@@ -120,10 +120,10 @@ pub fn reading_of<E: Write>(
     court: &Court,
     style: Style,
     marked: bool,
-    together: bool,
+    joined: bool,
 ) -> Result<Reading, Fault> {
     let input = whole(rt.alloc(), ShortLines::new(rt.stdin()))?;
-    faultless(rt.alloc(), errors, court, style, marked, together, &input)
+    faultless(rt.alloc(), errors, court, style, marked, joined, &input)
 }
 
 /// The plain rows that the lines of standard input are, each on the line that says it, if people write them; and none where
@@ -134,12 +134,12 @@ pub fn rows_of<E: Write>(
     court: &Court,
     lines: Lines,
     marked: bool,
-    together: bool,
+    joined: bool,
 ) -> Result<Option<Vec<u8>>, Fault> {
     match lines {
         Lines::Plain(_) => Ok(None),
         Lines::AsWritten(style) => {
-            let reading = reading_of(rt, errors, court, style, marked, together)?;
+            let reading = reading_of(rt, errors, court, style, marked, joined)?;
             Ok(Some(reading.placed))
         }
     }

@@ -39,17 +39,17 @@ row_of mark row = mark ++ ended row
 
 -- Between two rows of a line: the byte 30, where they are to be kept together; and otherwise a carriage return, which begins no line of a
 -- file, and the line's mark.
-abbrev pub between : (together : Bool) → (mark : List ℕ) → List ℕ
-between true mark = 30 ∷ []
-between false mark = 13 ∷ mark
+abbrev pub between_rows : (joined : Bool) → (mark : List ℕ) → List ℕ
+between_rows true mark = 30 ∷ []
+between_rows false mark = 13 ∷ mark
 
-abbrev pub next_in_place : (together : Bool) → (mark row : List ℕ) → List ℕ
-next_in_place together mark row = between together mark ++ unended row
+abbrev pub next_in_place : (joined : Bool) → (mark row : List ℕ) → List ℕ
+next_in_place joined mark row = between_rows joined mark ++ unended row
 
 -- what is in the place of a line: its plain rows after its mark; or nothing
-abbrev pub in_place : (together : Bool) → (mark : List ℕ) → (rows : List (List ℕ)) → List ℕ
-in_place together mark [] = []
-in_place together mark (row ∷ rows) = (mark ++ unended row) ++ flat_map (next_in_place together mark) rows
+abbrev pub in_place : (joined : Bool) → (mark : List ℕ) → (rows : List (List ℕ)) → List ℕ
+in_place joined mark [] = []
+in_place joined mark (row ∷ rows) = (mark ++ unended row) ++ flat_map (next_in_place joined mark) rows
 
 -- the line of that number with these faults, if there are some
 abbrev pub faulty_as : (number : ℕ) → (line mark : List ℕ) → (faults : List FieldFault) → List FaultyText
@@ -69,8 +69,8 @@ module _ (clerks : ℕ) (names : CourtNames) (own : List NamedTextView) (order :
   abbrev pub lines_as : Option (List (List ℕ)) → (line : List ℕ) → List ℕ
   lines_as header line = flat_map (row_of (mark_of marked line)) (line_as header line).rows
 
-  abbrev pub placed_as : (together : Bool) → Option (List (List ℕ)) → (line : List ℕ) → List ℕ
-  placed_as together header line = in_place together (mark_of marked line) (line_as header line).rows
+  abbrev pub placed_as : (joined : Bool) → Option (List (List ℕ)) → (line : List ℕ) → List ℕ
+  placed_as joined header line = in_place joined (mark_of marked line) (line_as header line).rows
 
   abbrev pub faults_as : Option (List (List ℕ)) → (number : ℕ) → (line : List ℕ) → List FaultyText
   faults_as header number line = faulty_as number line (mark_of marked line) (line_as header line).faults
@@ -87,8 +87,8 @@ module _ (clerks : ℕ) (names : CourtNames) (own : List NamedTextView) (order :
 
   -- Bytes, of which the first line has begun with these, with plain rows in place of their lines: each line has its end as before,
   -- so a row is on the line that says it.
-  unfoldable pub placed_from : (together : Bool) → Option (List (List ℕ)) → (begun : List ℕ) → List ℕ → List ℕ
-  placed_from together header begun [] = []
-  placed_from together header begun (byte ∷ bytes) =
-      if ends_line byte then placed_as together header begun ++ byte ∷ placed_from together (header_then header begun) [] bytes
-      else placed_from together header (begun ++ byte ∷ []) bytes
+  unfoldable pub placed_from : (joined : Bool) → Option (List (List ℕ)) → (begun : List ℕ) → List ℕ → List ℕ
+  placed_from joined header begun [] = []
+  placed_from joined header begun (byte ∷ bytes) =
+      if ends_line byte then placed_as joined header begun ++ byte ∷ placed_from joined (header_then header begun) [] bytes
+      else placed_from joined header (begun ++ byte ∷ []) bytes

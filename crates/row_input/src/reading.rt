@@ -7,7 +7,7 @@ ghost use Rattle.desk_journal.specs.Words.{batch_of};
 ghost use Rattle.desk_session.specs.Words.{mark_of, numbered_lines};
 ghost use Rattle.row_forms.specs.Words.{names_of};
 ghost use Rattle.row_written.specs.Words.{fault_in};
-ghost use Rattle.row_input.specs.Reading.{between, ended, faults_as, faulty_as, faulty_in, faulty_of, header_after, header_then, in_place, lines_as, next_in_place, placed_as, placed_from, row_of, rows_of, unended};
+ghost use Rattle.row_input.specs.Reading.{between_rows, ended, faults_as, faulty_as, faulty_in, faulty_of, header_after, header_then, in_place, lines_as, next_in_place, placed_as, placed_from, row_of, rows_of, unended};
 
 use crate::line_rows::LineRows;
 use crate::triggers::rows_of_line;
@@ -85,10 +85,10 @@ fn push_lines(out: &mut Vec<u8>, mark: &[u8], rows: &[Vec<u8>]) -> Result<(), Al
 }
 
 // Adds what is between two rows of a line.
-fn push_between(out: &mut Vec<u8>, together: bool, mark: &[u8]) -> Result<(), AllocError>
-    ensures { OnOk result (out.new.items ≡ out.old.items ++ between together mark.now) }
+fn push_between(out: &mut Vec<u8>, joined: bool, mark: &[u8]) -> Result<(), AllocError>
+    ensures { OnOk result (out.new.items ≡ out.old.items ++ between_rows joined mark.now) }
 {
-    if together {
+    if joined {
         out.push(BETWEEN_ROWS)?;
         Ok(())
     } else {
@@ -100,27 +100,27 @@ fn push_between(out: &mut Vec<u8>, together: bool, mark: &[u8]) -> Result<(), Al
 // Adds a row after others of its line.
 fn push_next(
     out: &mut Vec<u8>,
-    together: bool,
+    joined: bool,
     mark: &[u8],
     row: &Vec<u8>,
 ) -> Result<(), AllocError>
-    ensures { OnOk result (out.new.items ≡ out.old.items ++ next_in_place together mark.now row.now.items) }
+    ensures { OnOk result (out.new.items ≡ out.old.items ++ next_in_place joined mark.now row.now.items) }
 {
-    push_between(out, together, mark)?;
+    push_between(out, joined, mark)?;
     out.extend_from_slice(unended(row))
 }
 
 // Adds rows after others of their line.
 fn push_others(
     out: &mut Vec<u8>,
-    together: bool,
+    joined: bool,
     mark: &[u8],
     rows: &[Vec<u8>],
 ) -> Result<(), AllocError>
-    ensures { OnOk result (out.new.items ≡ out.old.items ++ flat_map (next_in_place together mark.now) (batch_of rows.now)) }
+    ensures { OnOk result (out.new.items ≡ out.old.items ++ flat_map (next_in_place joined mark.now) (batch_of rows.now)) }
 {
     for row in rows {
-        push_next(out, together, mark, row)?;
+        push_next(out, joined, mark, row)?;
     }
     Ok(())
 }
@@ -128,18 +128,18 @@ fn push_others(
 // Adds the rows of a line, in its place.
 fn push_placed(
     out: &mut Vec<u8>,
-    together: bool,
+    joined: bool,
     mark: &[u8],
     rows: &[Vec<u8>],
 ) -> Result<(), AllocError>
-    ensures { OnOk result (out.new.items ≡ out.old.items ++ in_place together mark.now (batch_of rows.now)) }
+    ensures { OnOk result (out.new.items ≡ out.old.items ++ in_place joined mark.now (batch_of rows.now)) }
 {
     match rows {
         [] => Ok(()),
         [first, rest @ ..] => {
             out.extend_from_slice(mark)?;
             out.extend_from_slice(unended(first))?;
-            push_others(out, together, mark, rest)
+            push_others(out, joined, mark, rest)
         }
     }
 }
@@ -191,13 +191,13 @@ impl Reading {
         court: &Court,
         order: Option<DateOrder>,
         marked: bool,
-        together: bool,
+        joined: bool,
         number: usize,
         line: &[u8],
         end: u8,
     ) -> Result<(), AllocError>
         ensures rows { OnOk result (self.new.rows.items ≡ self.old.rows.items ++ lines_as clerks (names_of court.now) court.now.periods.triggers order marked (option_map fields_of self.old.header) line.now) }
-        ensures placed { OnOk result (self.new.placed.items ≡ self.old.placed.items ++ (placed_as clerks (names_of court.now) court.now.periods.triggers order marked together (option_map fields_of self.old.header) line.now ++ end ∷ [])) }
+        ensures placed { OnOk result (self.new.placed.items ≡ self.old.placed.items ++ (placed_as clerks (names_of court.now) court.now.periods.triggers order marked joined (option_map fields_of self.old.header) line.now ++ end ∷ [])) }
         ensures faulty { OnOk result (map faulty_in self.new.faulty.items ≡ map faulty_in self.old.faulty.items ++ faults_as clerks (names_of court.now) court.now.periods.triggers order marked (option_map fields_of self.old.header) number line.now) }
         ensures header { OnOk result (option_map fields_of self.new.header ≡ header_then clerks (names_of court.now) court.now.periods.triggers order marked (option_map fields_of self.old.header) line.now) }
     {
@@ -210,7 +210,7 @@ impl Reading {
             faults,
         } = said;
         push_lines(&mut self.rows, mark, &rows)?;
-        push_placed(&mut self.placed, together, mark, &rows)?;
+        push_placed(&mut self.placed, joined, mark, &rows)?;
         self.placed.push(end)?;
         drop(rows);
         push_faulty(alloc, &mut self.faulty, number, line, mark, faults)?;
@@ -229,11 +229,11 @@ pub fn read_input(
     court: &Court,
     order: Option<DateOrder>,
     marked: bool,
-    together: bool,
+    joined: bool,
     input: &[u8],
 ) -> Result<Reading, AllocError>
     ensures rows { IfOk result (λ reading. reading.rows.items ≡ rows_of clerks (names_of court.now) court.now.periods.triggers order marked None (numbered_lines input.now)) }
-    ensures placed { IfOk result (λ reading. reading.placed.items ≡ placed_from clerks (names_of court.now) court.now.periods.triggers order marked together None [] input.now) }
+    ensures placed { IfOk result (λ reading. reading.placed.items ≡ placed_from clerks (names_of court.now) court.now.periods.triggers order marked joined None [] input.now) }
     ensures faulty { IfOk result (λ reading. map faulty_in reading.faulty.items ≡ faulty_of clerks (names_of court.now) court.now.periods.triggers order marked None (numbered_lines input.now)) }
 {
     let mut reading = Reading {
@@ -246,7 +246,7 @@ pub fn read_input(
     let mut rest = input;
     while let Some(split) = split_line(rest) {
         reading.read(
-            alloc, clerks, court, order, marked, together, number, split.line, split.end,
+            alloc, clerks, court, order, marked, joined, number, split.line, split.end,
         )?;
         number = number_after(number, split.end);
         rest = split.rest;

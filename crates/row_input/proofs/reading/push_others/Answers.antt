@@ -12,9 +12,9 @@ loop-row-init c = sym (append-nil c.args.out.now.items)
 pub loop-row-preserved : goal.loop-row-preserved
 loop-row-preserved c =
     c.in_ok-push_next.ensures
-    ∙ each_more (next_in_place c.args.together c.args.mark.now) c.args.out.now.items c.loop-row.out.items c.args.rows.now c.loop-row.row-index c.row-item.result c.loop-row-test.true c.row-item.is c.loop-row.invariant
+    ∙ each_more (next_in_place c.args.joined c.args.mark.now) c.args.out.now.items c.loop-row.out.items c.args.rows.now c.loop-row.row-index c.row-item.result c.loop-row-test.true c.row-item.is c.loop-row.invariant
 
 pub returns : goal.returns
 returns c =
     c.loop-row.invariant
-    ∙ ap (λ rows. c.args.out.now.items ++ flat_map (next_in_place c.args.together c.args.mark.now) (batch_of rows)) (take_all c.loop-row.row-index c.args.rows.now c.loop-row-test.false)
+    ∙ ap (λ rows. c.args.out.now.items ++ flat_map (next_in_place c.args.joined c.args.mark.now) (batch_of rows)) (take_all c.loop-row.row-index c.args.rows.now c.loop-row-test.false)

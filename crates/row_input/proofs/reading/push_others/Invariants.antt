@@ -6,4 +6,4 @@ use Rattle.row_input.proofs.reading.push_others.Given as goal
 
 -- the rows so far
 abbrev pub invariant-loop-row : goal.invariant-loop-row
-invariant-loop-row l = l.out.items ≡ l.fn.out.items ++ flat_map (next_in_place l.together l.mark) (batch_of (take l.row-index l.rows))
+invariant-loop-row l = l.out.items ≡ l.fn.out.items ++ flat_map (next_in_place l.joined l.mark) (batch_of (take l.row-index l.rows))

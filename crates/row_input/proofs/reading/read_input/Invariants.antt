@@ -14,7 +14,7 @@ invariant-loop-split l =
     let header = option_map fields_of l.reading.header in
     (l.number + length l.rest ≤ length l.input + 1)
     × (l.reading.rows.items ++ rows_of l.clerks names own l.order l.marked header (numbered_from l.number [] l.rest) ≡ rows_of l.clerks names own l.order l.marked None (numbered_lines l.input))
-    × (l.reading.placed.items ++ placed_from l.clerks names own l.order l.marked l.together header [] l.rest ≡ placed_from l.clerks names own l.order l.marked l.together None [] l.input)
+    × (l.reading.placed.items ++ placed_from l.clerks names own l.order l.marked l.joined header [] l.rest ≡ placed_from l.clerks names own l.order l.marked l.joined None [] l.input)
     × (map faulty_in l.reading.faulty.items ++ faulty_of l.clerks names own l.order l.marked header (numbered_from l.number [] l.rest) ≡ faulty_of l.clerks names own l.order l.marked None (numbered_lines l.input))
 
 abbrev pub decreases-loop-split : goal.decreases-loop-split

@@ -32,18 +32,18 @@ returns-clause-placed c =
     let header = option_map fields_of c.args.self.now.header in
     let line = c.args.line.now in
     let before = c.args.self.now.placed.items in
-    let together = c.args.together in
+    let joined = c.args.joined in
     let said : rows_said c.in_ok-said.said ≡ line_as c.args.clerks names own c.args.order c.args.marked header line =
     c.in_ok-said.ensures ∙ ap (rows_of_line c.args.clerks names own c.args.order header) c.unmarked-text.ensures in
     let placed =
     c.in_ok-push_placed.ensures
-    ∙ ap (λ (m : List ℕ). before ++ in_place together m (batch_of c.deref-2.result.now)) c.mark_of-mark.ensures
-    ∙ ap (λ rows. before ++ in_place together (mark_of c.args.marked line) (batch_of rows)) c.deref-2.ensures.value
-    ∙ ap (λ (l : RowsOfLine). before ++ in_place together (mark_of c.args.marked line) l.rows) said in
+    ∙ ap (λ (m : List ℕ). before ++ in_place joined m (batch_of c.deref-2.result.now)) c.mark_of-mark.ensures
+    ∙ ap (λ rows. before ++ in_place joined (mark_of c.args.marked line) (batch_of rows)) c.deref-2.ensures.value
+    ∙ ap (λ (l : RowsOfLine). before ++ in_place joined (mark_of c.args.marked line) l.rows) said in
     ap (λ placed. placed.items) c.go_on_under.ensures.placed
     ∙ c.in_ok-push.ensures.items
     ∙ ap (λ (l : List ℕ). l ++ c.args.end ∷ []) placed
-    ∙ append_assoc before (in_place together (mark_of c.args.marked line) (line_as c.args.clerks names own c.args.order c.args.marked header line).rows) (c.args.end ∷ [])
+    ∙ append_assoc before (in_place joined (mark_of c.args.marked line) (line_as c.args.clerks names own c.args.order c.args.marked header line).rows) (c.args.end ∷ [])
 
 pub returns-clause-faulty : goal.returns-clause-faulty
 returns-clause-faulty c =

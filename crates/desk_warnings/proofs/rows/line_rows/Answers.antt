@@ -3,7 +3,7 @@ use Rattle.std.proofs.Common.{◌≡◌, ◌==◌, rules, tests}
 use Rattle.std.specs.List.{slice_split}
 use Rattle.std.proofs.lemmas.Iterator.Splits.{YieldsList-from_slice_split}
 use Rattle.desk_warnings.proofs.RowLemmas.{rows_collected}
-use Rattle.desk_warnings.proofs.rows.rows_in.Goals as goal
+use Rattle.desk_warnings.proofs.rows.line_rows.Goals as goal
 
 pub returns : goal.returns
 returns c =
