@@ -52,9 +52,12 @@ in_place joined mark [] = []
 in_place joined mark (row ∷ rows) = (mark ++ unended row) ++ flat_map (next_in_place joined mark) rows
 
 -- the line of that number with these faults, if there are some
+abbrev pub faulty_line : (number : ℕ) → (line mark : List ℕ) → (faults : List FieldFault) → FaultyText
+faulty_line number line mark faults = record { number = number; line = line; mark = length mark; faults = faults }
+
 abbrev pub faulty_as : (number : ℕ) → (line mark : List ℕ) → (faults : List FieldFault) → List FaultyText
 faulty_as number line mark [] = []
-faulty_as number line mark (fault ∷ faults) = record { number = number; line = line; mark = length mark; faults = fault ∷ faults } ∷ []
+faulty_as number line mark (fault ∷ faults) = faulty_line number line mark (fault ∷ faults) ∷ []
 
 -- lines with their numbers, read for that court after a line that names columns, or after none
 module _ (clerks : ℕ) (names : CourtNames) (own : List NamedTextView) (order : Option DateOrder) (marked : Bool) where

@@ -1,6 +1,6 @@
 //! What a line comes to: plain rows, headings or faults.
 
-ghost use Rattle.std.specs.Prelude.{◌≡◌, OnOk, map};
+ghost use Rattle.std.specs.Prelude.{◌≡◌, ◌≢◌, [], false, true, OnOk, map};
 ghost use Rattle.csv.specs.Records.{fields_of};
 ghost use Rattle.row_written.specs.Words.{fault_in, written_map};
 ghost use Rattle.row_input.specs.LineRows.{first_faults, no_rows, rows_said, with_row};
@@ -18,6 +18,14 @@ pub(crate) struct LineRows {
     pub rows: Vec<Vec<u8>>,
     /// What is wrong with its fields: the faults of the first row that has some.
     pub faults: Vec<Fault>,
+}
+
+/// Whether there are no faults.
+pub(crate) fn are_none(faults: &Vec<Fault>) -> bool
+    ensures none { result ≡ true → faults.now.items ≡ [] }
+    ensures some { result ≡ false → faults.now.items ≢ [] }
+{
+    faults.is_empty()
 }
 
 impl LineRows {
@@ -38,7 +46,7 @@ impl LineRows {
         ensures rows { self.new.rows ≡ self.old.rows }
         ensures faults { map fault_in self.new.faults.items ≡ first_faults (map fault_in self.old.faults.items) (map fault_in faults.items) }
     {
-        if self.faults.is_empty() {
+        if are_none(&self.faults) {
             self.faults = faults;
         } else {
             drop(faults);

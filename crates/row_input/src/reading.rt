@@ -7,9 +7,9 @@ ghost use Rattle.desk_journal.specs.Words.{batch_of};
 ghost use Rattle.desk_session.specs.Words.{mark_of, numbered_lines};
 ghost use Rattle.row_forms.specs.Words.{names_of};
 ghost use Rattle.row_written.specs.Words.{fault_in};
-ghost use Rattle.row_input.specs.Reading.{between_rows, ended, faults_as, faulty_as, faulty_in, faulty_of, header_after, header_then, in_place, lines_as, next_in_place, placed_as, placed_from, row_of, rows_of, unended};
+ghost use Rattle.row_input.specs.Reading.{between_rows, ended, faults_as, faulty_as, faulty_in, faulty_line, faulty_of, header_after, header_then, in_place, lines_as, next_in_place, placed_as, placed_from, row_of, rows_of, unended};
 
-use crate::line_rows::LineRows;
+use crate::line_rows::{LineRows, are_none};
 use crate::triggers::rows_of_line;
 use court_days::Court;
 use csv::StringRecord;
@@ -144,6 +144,27 @@ fn push_placed(
     }
 }
 
+// Adds a line that has these faults.
+fn push_found(
+    alloc: Global,
+    faulty: &mut Vec<FaultyLine>,
+    number: usize,
+    line: &[u8],
+    mark: &[u8],
+    faults: Vec<Fault>,
+) -> Result<(), AllocError>
+    ensures { OnOk result (map faulty_in faulty.new.items ≡ map faulty_in faulty.old.items ++ faulty_line number line.now mark.now (map fault_in faults.items) ∷ []) }
+{
+    let line = Vec::from_slice(alloc, line)?;
+    faulty.push(FaultyLine {
+        number,
+        line,
+        mark: mark.len(),
+        faults,
+    })?;
+    Ok(())
+}
+
 // Adds a line that has these faults, if there are some.
 fn push_faulty(
     alloc: Global,
@@ -155,18 +176,12 @@ fn push_faulty(
 ) -> Result<(), AllocError>
     ensures { OnOk result (map faulty_in faulty.new.items ≡ map faulty_in faulty.old.items ++ faulty_as number line.now mark.now (map fault_in faults.items)) }
 {
-    if faults.is_empty() {
+    if are_none(&faults) {
         drop(faults);
-        return Ok(());
+        Ok(())
+    } else {
+        push_found(alloc, faulty, number, line, mark, faults)
     }
-    let line = Vec::from_slice(alloc, line)?;
-    faulty.push(FaultyLine {
-        number,
-        line,
-        mark: mark.len(),
-        faults,
-    })?;
-    Ok(())
 }
 
 impl Reading {
