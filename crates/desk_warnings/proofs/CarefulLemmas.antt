@@ -149,7 +149,7 @@ refused_held under today kept line before later bytes row asked refused rows is_
 
 -- a line of one row is taken as without warnings, where nothing is held back
 one_row : (under : Standing) (kept : List (List ℕ)) (line : List ℕ) → line_rows line ≡ line ∷ [] → taken_at under Nothing kept line ≡ Some (line ∷ [])
-one_row under kept line is = rw is refl
+one_row under kept line is = subst (λ (rows : List (List ℕ)). taken_if rows (against_rows under Nothing kept rows) ≡ Some (line ∷ [])) (sym is) refl
 
 pub nothing_held : NothingIsHeldBack
 nothing_held under kept line is = (

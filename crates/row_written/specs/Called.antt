@@ -12,6 +12,5 @@ use Rattle.row_written.specs.Rows.{row_word, row_worded, stays, with_label}
 -- text that has each field at the same place.
 unfoldable pub row_called : (clerks : ℕ) → CourtNames → Option DateOrder → Option (List (List ℕ)) → (text : List ℕ) → (fields : List (List ℕ)) → (label : List ℕ) → Written (List (List ℕ)) (List ℕ) (List FieldFault)
 row_called clerks names order header text fields label =
-    if stays clerks names header (row_text default_writer fields)
-    then with_label (row_text default_writer fields) (row_of_label (made_by (row_word names order header text fields)) fields label)
+    if stays clerks names header (row_text default_writer fields) then with_label (row_text default_writer fields) (row_of_label (made_by (row_word names order header text fields)) fields label)
     else row_worded names order header text fields clerks (row_word names order header text fields) label
