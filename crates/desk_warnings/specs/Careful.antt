@@ -1,5 +1,5 @@
 -- What lines leave and are answered, where nothing is held back, and where rows that draw a warning are.
-use Rattle.std.specs.Prelude.{ℕ, Bool, true, false, List, [], ◌∷◌, ◌++◌, codes, Option, Some, None}
+use Rattle.std.specs.Prelude.{ℕ, Bool, true, false, List, [], ◌++◌, codes, Option, Some, None}
 use Rattle.std.specs.Fmt.{decimal}
 use Rattle.desk_session.specs.Words.{after_mark, left_by, told_to, unmarked}
 use Rattle.desk_session.specs.declared.outcome.Outcome.{Outcome}
