@@ -21,7 +21,7 @@ import sys
 import tempfile
 
 from lib.case_names import read, spelled
-from lib.desk import Desk, FAULTS, SHORT_COURT, told_of
+from lib.desk import Desk, FAULTS, FAULTY, SHORT_COURT, told_of
 from lib.programs import TOP, programs_of, seed_and_count
 from lib.spoiled_lines import spoiled
 from lib.written_fields import ENTERED as SECTIONS, spelled as spelled_section
@@ -351,6 +351,31 @@ def check_labels(desk):
         assert ended.status == FAULTS and "line 2 {}: ".format(said).encode() in told_of(ended)[0], ended
 
 
+def check_whole(desk):
+    """A trigger is kept whole, or none of its rows; one mark covers them all. What comes after the 64th deadline of a case is refused."""
+    def entered(given, *words):
+        ended = desk.call("enter", "--as-written", *words, given=given.encode())
+        return ended.status, ended.output.decode().splitlines()
+
+    status, lines = entered("1,open,51,2025-08-04\n1,trigger,51,judgment,2025-08-04\n1,trigger,52,judgment,2025-08-04\n")
+    starts, held = lines[1:15], lines[15:]
+    assert status == FAULTY and all(" deadline {} last ".format(n + 1) in starts[2 * n] and starts[2 * n + 1].endswith(" labelled") for n in range(7)), lines
+    assert re.fullmatch("row [0-9]+ not kept:", held[0]) and held[-1] == "the rows of a line are kept together, so none of them is kept", lines
+    assert sum(line == "  would be refused 1 NoSuchCase" for line in held) == 7 and not any("label" in line for line in held), lines
+    labels = [row.split(",", 5)[5] for row in desk.rows().decode().splitlines() if row.startswith("1,label,51,")]
+    assert labels == ["judgment: " + code for code in ["50b", "52b", "59b", "59e", "54d2B", "frap4a1A", "62a"]], labels
+    early = "1,trigger,51,judgment,2025-08-01\n"
+    before = desk.journal.read_bytes()
+    status, lines = entered(early, "--warn")
+    assert status == FAULTY and sum("the event lies before the filing of the case" in line for line in lines) == 7 and desk.journal.read_bytes() == before, lines
+    assert lines[-1] == "enter the row with '!' before it to keep it all the same", lines
+    status, lines = entered("!" + early, "--warn")
+    assert status == 0 and len(lines) == 14 and lines[-1].endswith(" labelled"), lines
+    status, lines = entered("1,start,51,59e,2025-08-04,,,\n" * 47 + "1,trigger,51,judgment,2025-08-04\n")
+    rest = lines[47:]
+    assert status == FAULTY and [" deadline " in line for line in rest[:6:2]] == [True] * 3 and all(" refused " in line or " fault " in line for line in rest[6:]), rest
+
+
 def check_cases(desk, draw):
     """A case that was opened by its number in one form is found by it in all others, with any initials, and no other case is."""
     shown = sorted({read("{}{}-{}-{}".format(draw.choice(["", "1:", "2:", "3:", "4:"]), draw.choice(["24", "25"]), draw.choice(["cv", "cr", "bk", "ap", "mc", "mj"]),
@@ -409,6 +434,7 @@ def main(words):
         check_entering(desk)
         check_names(desk)
         check_labels(desk)
+        check_whole(desk)
         check_lines(desk)
         check_cases(desk, draw)
         print("cases that were opened in one form of their numbers are found in all others")

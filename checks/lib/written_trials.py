@@ -133,13 +133,18 @@ TRIGGERS = [("1,trigger,12,{},2025-08-04", "1,start,12,{},2025-08-04,,,", False)
 
 
 def check_triggers(desk):
-    """Each set is written out as a row of `start` for each of its periods, in their order; and so are periods with commas between them.
-    A row that isn't plain has the texts of sections."""
+    """Each set is written out as a row of `start` for each of its periods, in their order, and a row with its label after each; and so are
+    periods with commas between them. A row that isn't plain has the texts of sections. A trigger with a fault is told once, as it was typed."""
     tried = 0
     for name, codes in list(SETS.items()) + [('"59e, 50b"', ["59e", "50b"])]:
         for row, wanted, is_read in TRIGGERS:
             ended = desk.call("plain", given=(row.format(name) + "\n").encode())
-            periods = [SECTIONS[folded(code)][0] if is_read else code for code in codes]
-            assert ended.output.decode() == "".join(wanted.format(period) + "\n" for period in periods), (row, name, ended)
+            called, clerk = name if name in SETS else "trigger", wanted[0]
+            starts = [wanted.format(SECTIONS[folded(code)][0] if is_read else code) for code in codes]
+            labels = ["{},label,12,deadline,new,{}: {}".format(clerk, called, code) for code in codes]
+            assert ended.output.decode() == "".join(start + "\n" + label + "\n" for start, label in zip(starts, labels)), (row, name, ended)
             tried += 1
+    ended = desk.call("plain", given=b"1,open,12,2025-08-04\n# 1,trigger,12,judgment,2025-08-04\n1, trigger, 12, judgment, 2025-08-32\n")
+    assert not ended.output and ended.errors.count(b"line 3 column 27: ") == 1 == ended.errors.count(b"line "), ended
+    assert b"    1, trigger, 12, judgment, 2025-08-32\n" + 4 * b" " + 26 * b" " + 10 * b"^" + b"\n" in ended.errors, ended
     return tried

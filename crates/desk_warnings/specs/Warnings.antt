@@ -25,6 +25,8 @@ use Rattle.row_forms.specs.declared.row.Work.TheVariants.{Command, Query}
 use Rattle.office_texts.specs.Named.Words.{motion_called, named_answer, named_calendar}
 use Rattle.desk_numbers.specs.declared.moved.Moved.{Moved}
 use Rattle.desk_numbers.specs.Words.{numbered_booking, numbered_refusal, placed_command}
+use Rattle.desk_warnings.specs.declared.register.HeldBack.{HeldBack}
+use Rattle.desk_warnings.specs.declared.register.HeldBack.TheVariants.{Nothing, Warned}
 use Rattle.desk_warnings.specs.Instead.{instead}
 
 -- on a deadline, as it would start in the case: the notes that the memo of the case would have on it
@@ -96,12 +98,17 @@ if_refused court moved named parts asked command refusal =
     ++ hearings_kept court moved named parts command refusal
     ++ instead (setup_of court) parts command refusal
 
--- on what was asked, and the command for which the docket is asked
-unfoldable pub warnings_of : CourtView → List Moved → List NamedCase → Parts → (today : Option ℤ) → (asked command : CommandOf) → List ℕ
-warnings_of court moved named parts today asked command =
-    option_map_or (if_refused court moved named parts asked command) (refusal (setup_of court) parts command) (if_made court moved named parts today command)
+-- on a command that isn't refused, where rows that draw a warning are held back; where nothing is, only a refusal counts
+abbrev pub if_taken : CourtView → List Moved → List NamedCase → Parts → HeldBack → CommandOf → List ℕ
+if_taken court moved named parts Nothing command = []
+if_taken court moved named parts (Warned today) command = if_made court moved named parts today command
 
--- what a clerk is warned of what a row asks for, where a day may count as today; a question draws none
-abbrev pub warnings_on : CourtView → List Moved → List NamedCase → Parts → (today : Option ℤ) → Work → List ℕ
-warnings_on court moved named parts today (Command asked) = warnings_of court moved named parts today asked (placed_command moved asked)
-warnings_on court moved named parts today (Query query) = []
+-- on what was asked, and the command for which the docket is asked
+unfoldable pub warnings_of : CourtView → List Moved → List NamedCase → Parts → HeldBack → (asked command : CommandOf) → List ℕ
+warnings_of court moved named parts held asked command =
+    option_map_or (if_refused court moved named parts asked command) (refusal (setup_of court) parts command) (if_taken court moved named parts held command)
+
+-- what a clerk is warned of what a row asks for; a question draws no warning
+abbrev pub warnings_on : CourtView → List Moved → List NamedCase → Parts → HeldBack → Work → List ℕ
+warnings_on court moved named parts held (Command asked) = warnings_of court moved named parts held asked (placed_command moved asked)
+warnings_on court moved named parts held (Query query) = []

@@ -4,11 +4,12 @@ ghost use Rattle.std.specs.Prelude.{◌≡◌, ◌++◌, None, IfOk, OnOk, strin
 ghost use Rattle.docket_rows.specs.Words.{Rows, parts_of, refusal, setup_of};
 ghost use Rattle.docket_core.specs.Words.{parts_held};
 ghost use Rattle.office_texts.specs.Run.Words.{Holds};
-ghost use Rattle.desk_warnings.specs.Warnings.{if_made, warnings_of, warnings_on};
+ghost use Rattle.desk_warnings.specs.Warnings.{if_made, if_taken, warnings_of, warnings_on};
 
 use crate::deadline::{push_act, push_request};
 use crate::hearings::push_outage;
 use crate::refused::push_refused;
+use crate::register::HeldBack;
 use crate::start::push_start;
 use case_numbers::Cases;
 use court_clock::Day;
@@ -28,11 +29,11 @@ fn push_warnings(
     moved: &MovedNumbers,
     cases: &Cases,
     docket: &Docket,
-    today: Option<Day>,
+    held_back: &HeldBack,
     asked: &Command,
     command: &Command,
 ) -> Result<(), AllocError>
-    ensures { docket.now.setup ≡ setup_of court.now → OnOk result (string_bytes text.new ≡ string_bytes text.old ++ warnings_of court.now moved.now cases.now.named (parts_held docket.now) today asked.now command.now) }
+    ensures { docket.now.setup ≡ setup_of court.now → OnOk result (string_bytes text.new ≡ string_bytes text.old ++ warnings_of court.now moved.now cases.now.named (parts_held docket.now) held_back.now asked.now command.now) }
 {
     let refused = docket.refusal(alloc, command)?;
     match refused {
@@ -41,7 +42,30 @@ fn push_warnings(
                 alloc, text, court, moved, cases, docket, asked, command, &refusal,
             )
         }
-        None => push_if_made(alloc, text, court, moved, cases, docket, today, command),
+        None => push_if_taken(
+            alloc, text, court, moved, cases, docket, held_back, command,
+        ),
+    }
+}
+
+/// Adds what a clerk is warned of a command that isn't refused, where rows that draw a warning are held back.
+fn push_if_taken(
+    alloc: Global,
+    text: &mut String,
+    court: &Court,
+    moved: &MovedNumbers,
+    cases: &Cases,
+    docket: &Docket,
+    held_back: &HeldBack,
+    command: &Command,
+) -> Result<(), AllocError>
+    ensures { docket.now.setup ≡ setup_of court.now → refusal (setup_of court.now) (parts_held docket.now) command.now ≡ None → OnOk result (string_bytes text.new ≡ string_bytes text.old ++ if_taken court.now moved.now cases.now.named (parts_held docket.now) held_back.now command.now) }
+{
+    match held_back {
+        HeldBack::Nothing => Ok(()),
+        HeldBack::Warned(today) => {
+            push_if_made(alloc, text, court, moved, cases, docket, *today, command)
+        }
     }
 }
 
@@ -93,16 +117,16 @@ fn push_warnings_on(
     moved: &MovedNumbers,
     cases: &Cases,
     docket: &Docket,
-    today: Option<Day>,
+    held_back: &HeldBack,
     work: &Work,
 ) -> Result<(), AllocError>
-    ensures { docket.now.setup ≡ setup_of court.now → OnOk result (string_bytes text.new ≡ string_bytes text.old ++ warnings_on court.now moved.now cases.now.named (parts_held docket.now) today work.now) }
+    ensures { docket.now.setup ≡ setup_of court.now → OnOk result (string_bytes text.new ≡ string_bytes text.old ++ warnings_on court.now moved.now cases.now.named (parts_held docket.now) held_back.now work.now) }
 {
     match work {
         Work::Command(asked) => {
             let command = moved.place_command(asked);
             push_warnings(
-                alloc, text, court, moved, cases, docket, today, asked, &command,
+                alloc, text, court, moved, cases, docket, held_back, asked, &command,
             )
         }
         Work::Query(_) => Ok(()),
@@ -110,19 +134,21 @@ fn push_warnings_on(
 }
 
 /// What a clerk is warned of a row, a line each, by what is docketed, with the names of cases that have one: nothing where it
-/// asks a question. `Err` says that memory ran out.
+/// asks a question, and of a command its refusal alone where nothing is held back. `Err` says that memory ran out.
 pub fn warnings_on(
     alloc: Global,
     court: &Court,
     moved: &MovedNumbers,
     cases: &Cases,
     docket: &Docket,
-    today: Option<Day>,
+    held_back: &HeldBack,
     work: &Work,
 ) -> Result<String, AllocError>
-    ensures { (docketed : Rows) → Holds (setup_of court.now) docket.now docketed → IfOk result (λ text. string_bytes text ≡ warnings_on court.now moved.now cases.now.named (parts_of docketed) today work.now) }
+    ensures { (docketed : Rows) → Holds (setup_of court.now) docket.now docketed → IfOk result (λ text. string_bytes text ≡ warnings_on court.now moved.now cases.now.named (parts_of docketed) held_back.now work.now) }
 {
     let mut text = String::new(alloc);
-    push_warnings_on(alloc, &mut text, court, moved, cases, docket, today, work)?;
+    push_warnings_on(
+        alloc, &mut text, court, moved, cases, docket, held_back, work,
+    )?;
     Ok(text)
 }

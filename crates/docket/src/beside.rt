@@ -65,7 +65,8 @@ pub fn try_rows<H: Threads + Wait + Sync, W: Write, E: Write>(
 {
     let mut desk = copied_beside(rt, threads, folder)?;
     desk.hold_back(held_back);
-    match rows_of(rt, errors, desk.court(), lines, held_back.are_marked()) {
+    let marked = held_back.are_marked();
+    match rows_of(rt, errors, desk.court(), lines, marked, false) {
         Ok(Some(rows)) => tried(rt.alloc(), rows.as_slice(), writer, desk),
         Ok(None) => match lines_of(rt, lines) {
             Ok(typed) => tried(rt.alloc(), typed, writer, desk),
@@ -129,7 +130,7 @@ pub fn ask<H: Threads + Wait + Sync, W: Write, E: Write>(
 {
     let (docketed, entries) = docketed_beside(rt, threads, folder, as_of)?;
     drop(entries);
-    match rows_of(rt, errors, &docketed.standing.court, lines, false) {
+    match rows_of(rt, errors, &docketed.standing.court, lines, false, false) {
         Ok(Some(rows)) => answered(rt.alloc(), rows.as_slice(), writer, docketed),
         Ok(None) => match lines_of(rt, lines) {
             Ok(typed) => answered(rt.alloc(), typed, writer, docketed),
@@ -158,7 +159,7 @@ pub fn plain<H: Threads + Wait + Sync, W: Write, E: Write>(
 {
     let (docketed, entries) = docketed_beside(rt, threads, folder, None)?;
     drop(entries);
-    let reading = reading_of(rt, errors, &docketed.standing.court, style, false);
+    let reading = reading_of(rt, errors, &docketed.standing.court, style, false, false);
     drop(docketed);
     let reading = reading?;
     let written = put(writer, &reading.rows);

@@ -1,2 +1,3 @@
 mod InputLemmas
+mod RowLemmas
 mod TriggerLemmas

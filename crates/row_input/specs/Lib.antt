@@ -1,3 +1,4 @@
-pub mod Reading
+pub mod LineRows
 pub mod Triggers
+pub mod Reading
 pub mod Words

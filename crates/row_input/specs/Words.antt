@@ -1,5 +1,3 @@
 -- The words for the crates above, from one place.
 unfoldable pub use Rattle.row_input.specs.Reading.{faulty_of, placed_from, rows_of}
 pub use Rattle.row_input.specs.Reading.{FaultyText, faulty_in}
-pub use Rattle.row_input.specs.Triggers.{written_out}
-unfoldable pub use Rattle.row_input.specs.Triggers.{written_from}

@@ -3,6 +3,7 @@
 
 mod advice;
 mod later;
+mod line_rows;
 mod nearest;
 mod objects;
 mod periods;
@@ -16,4 +17,3 @@ pub use later::json_of_said;
 pub use objects::json_of;
 pub use reading::{FaultyLine, Reading, read_input};
 pub use report::report_of;
-pub use triggers::written_out;

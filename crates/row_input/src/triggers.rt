@@ -1,17 +1,18 @@
-//! Rows that start several periods from one event: each is written out as a row of `start` for each period of its set.
+//! Rows that start several periods from one event: each is read as a row of `start` for each period of its set, with a label.
 
-ghost use Rattle.std.specs.Prelude.{◌≡◌, ◌++◌, ◌∷◌, [], IfOk, OnOk, option_map};
+ghost use Rattle.std.specs.Prelude.{◌≡◌, IfOk, OnOk, map, option_map, string_bytes};
 ghost use Rattle.csv.specs.Records.{fields_of};
-ghost use Rattle.row_fields.specs.Words.{folded};
-ghost use Rattle.row_input.specs.Triggers.{fields_out, is_trigger, line_out, periods_meant, row_out, rows_out, set_meant, set_of, start_fields, written_out};
+ghost use Rattle.row_forms.specs.Words.{names_of};
+ghost use Rattle.row_written.specs.Words.{fault_in, written_map};
+ghost use Rattle.row_input.specs.LineRows.{rows_said};
+ghost use Rattle.row_input.specs.Triggers.{has_word, is_passed, is_trigger, label_for, label_if, rows_of_line, period_row, periods_meant, rows_typed, set_meant, set_of, set_word, start_fields, with_periods};
 
-use crate::reading::unended;
+use crate::line_rows::LineRows;
 use court_days::Court;
 use csv::StringRecord;
-use desk_session::{mark_of, split_line, unmarked};
-use row_fields::{cut_line, folded, typed};
-use row_forms::{column, push_row_text};
-use row_written::{fields_written, word_at};
+use row_fields::{DateOrder, cut_line, folded, typed};
+use row_forms::column;
+use row_written::{WrittenLine, fields_written, is_label, read_called, read_written, word_at};
 use std::alloc::{AllocError, Global};
 
 /// How many fields a row of `start` has.
@@ -56,12 +57,27 @@ fn periods_meant(alloc: Global, court: &Court, field: &str) -> Result<StringReco
     cut_line(alloc, set_meant(alloc, court, field)?, b',')
 }
 
+// Whether fields have the command word `trigger`, and no more are there than a row of `start` has.
+fn has_word(alloc: Global, fields: &StringRecord) -> Result<bool, AllocError>
+    ensures { IfOk result (λ so. so ≡ has_word (fields_of fields.now)) }
+{
+    let word = folded(alloc, column(fields, 2))?;
+    Ok(word.as_str() == "trigger" && fields.len() <= MOST_FIELDS)
+}
+
+// Whether a line with these fields is passed over.
+fn is_passed(fields: &StringRecord) -> bool
+    ensures { result ≡ is_passed (fields_of fields.now) }
+{
+    column(fields, 1).as_bytes().starts_with(b"#")
+}
+
 // Whether fields say a trigger.
 fn is_trigger(alloc: Global, fields: &StringRecord) -> Result<bool, AllocError>
     ensures { IfOk result (λ so. so ≡ is_trigger (fields_of fields.now)) }
 {
-    let word = folded(alloc, column(fields, 2))?;
-    Ok(word.as_str() == "trigger" && fields.len() <= MOST_FIELDS)
+    let asks = has_word(alloc, fields)?;
+    Ok(asks && !is_passed(fields))
 }
 
 // The fields of the row of `start` for a period, with the same case, event and service.
@@ -84,96 +100,145 @@ fn start_fields(
     Ok(row)
 }
 
-// Adds the row of a period, after a mark, with an end that counts no line.
-fn push_row(
+// What the deadlines of a set are called before their periods.
+fn set_word(alloc: Global, court: &Court, field: &str) -> Result<String, AllocError>
+    ensures { IfOk result (λ word. string_bytes word ≡ set_word court.now.periods.triggers field.now) }
+{
+    let word = folded(alloc, field)?;
+    match court.trigger_text(field) {
+        Some(_) => String::from_str(alloc, field),
+        None => match set_of(word.as_str()) {
+            Some(_) => Ok(word),
+            None => String::from_str(alloc, "trigger"),
+        },
+    }
+}
+
+// A text, where something may be called so.
+fn label_if(alloc: Global, text: String) -> Result<String, AllocError>
+    ensures { IfOk result (λ label. string_bytes label ≡ label_if (string_bytes text)) }
+{
+    if is_label(text.as_str()) {
+        Ok(text)
+    } else {
+        Ok(String::new(alloc))
+    }
+}
+
+// What the deadline of a period of a set is called.
+fn label_for(
     alloc: Global,
-    out: &mut Vec<u8>,
-    mark: &[u8],
+    court: &Court,
+    field: &str,
+    period: &str,
+) -> Result<String, AllocError>
+    ensures { IfOk result (λ label. string_bytes label ≡ label_for court.now.periods.triggers field.now period.now) }
+{
+    let mut label = set_word(alloc, court, field)?;
+    label.push_str(": ")?;
+    label.push_str(period)?;
+    label_if(alloc, label)
+}
+
+// What the row of a period is read as.
+fn period_row(
+    alloc: Global,
+    clerks: u8,
+    court: &Court,
+    order: Option<DateOrder>,
+    header: &Option<StringRecord>,
+    text: &str,
     fields: &StringRecord,
     period: &str,
-) -> Result<(), AllocError>
-    ensures { OnOk result (out.new.items ≡ out.old.items ++ row_out mark.now (fields_of fields.now) period.now) }
+) -> Result<WrittenLine, AllocError>
+    ensures { IfOk result (λ row. written_map fields_of (λ t. t.items) (λ f. map fault_in f.items) row ≡ period_row clerks (names_of court.now) court.now.periods.triggers order (option_map fields_of header.now) text.now (fields_of fields.now) period.now) }
 {
     let row = start_fields(alloc, fields, period)?;
-    let mut text = Vec::new(alloc);
-    push_row_text(&mut text, &row)?;
-    out.extend_from_slice(mark)?;
-    out.extend_from_slice(unended(&text))?;
-    out.push(b'\r')?;
-    Ok(())
+    let label = label_for(alloc, court, column(fields, 4), period)?;
+    read_called(
+        alloc,
+        clerks,
+        court,
+        order,
+        header,
+        text,
+        &row,
+        label.as_str(),
+    )
 }
 
-// Adds the rows of all periods.
-fn push_rows(
+// Adds what the rows of these periods are read as.
+fn push_periods(
     alloc: Global,
-    out: &mut Vec<u8>,
-    mark: &[u8],
+    clerks: u8,
+    court: &Court,
+    order: Option<DateOrder>,
+    header: &Option<StringRecord>,
+    text: &str,
     fields: &StringRecord,
     periods: &StringRecord,
+    said: &mut LineRows,
 ) -> Result<(), AllocError>
-    ensures { OnOk result (out.new.items ≡ out.old.items ++ rows_out mark.now (fields_of fields.now) (fields_of periods.now)) }
+    ensures { OnOk result (rows_said said.new ≡ with_periods clerks (names_of court.now) court.now.periods.triggers order (option_map fields_of header.now) text.now (fields_of fields.now) (rows_said said.old) (fields_of periods.now)) }
 {
     for i in 0..periods.len() {
-        push_row(alloc, out, mark, fields, word_at(periods, i))?;
+        let row = period_row(
+            alloc,
+            clerks,
+            court,
+            order,
+            header,
+            text,
+            fields,
+            word_at(periods, i),
+        )?;
+        said.take(row)?;
     }
     Ok(())
 }
 
-// Adds a line with these fields, after a mark: the rows that a trigger starts, or else the line.
-fn push_fields_out(
+// What a line without its mark comes to, which has this text and these fields as it is typed on plain keys.
+fn rows_typed(
     alloc: Global,
+    clerks: u8,
     court: &Court,
-    out: &mut Vec<u8>,
-    mark: &[u8],
+    order: Option<DateOrder>,
+    header: &Option<StringRecord>,
     line: &[u8],
+    text: &str,
     fields: &StringRecord,
-) -> Result<(), AllocError>
-    ensures { OnOk result (out.new.items ≡ out.old.items ++ fields_out court.now.periods.triggers mark.now line.now (fields_of fields.now)) }
+) -> Result<LineRows, AllocError>
+    ensures { IfOk result (λ said. rows_said said ≡ rows_typed clerks (names_of court.now) court.now.periods.triggers order (option_map fields_of header.now) line.now text.now (fields_of fields.now)) }
 {
+    let mut said = LineRows::new(alloc);
     if is_trigger(alloc, fields)? {
         let periods = periods_meant(alloc, court, column(fields, 4))?;
-        push_rows(alloc, out, mark, fields, &periods)
+        push_periods(
+            alloc, clerks, court, order, header, text, fields, &periods, &mut said,
+        )?;
     } else {
-        out.extend_from_slice(line)
+        let row = read_written(alloc, clerks, court, order, header, line)?;
+        said.take(row)?;
     }
+    Ok(said)
 }
 
-// Adds a line, written out, and its end.
-#[tactic(auto, unfolding(crate::specs::Triggers::line_out))]
-fn push_line(
+/// What a line without its mark comes to, as people write it: a trigger, whose command word is `trigger`, comes to a row of `start` for
+/// each period of its set, and one with a label for each. The set's name is in its fourth field, where a row of `start` has its period:
+/// `judgment`, `complaint`, `served` or `removed`, or a name that the court's file gives to a set, or periods with commas between them.
+#[tactic(auto, unfolding(crate::specs::Triggers::rows_of_line))]
+pub(crate) fn rows_of_line(
     alloc: Global,
+    clerks: u8,
     court: &Court,
-    marked: bool,
-    out: &mut Vec<u8>,
+    order: Option<DateOrder>,
+    header: &Option<StringRecord>,
     line: &[u8],
-    end: u8,
-) -> Result<(), AllocError>
-    ensures { OnOk result (out.new.items ≡ out.old.items ++ (line_out court.now.periods.triggers marked line.now ++ end ∷ [])) }
+) -> Result<LineRows, AllocError>
+    ensures { IfOk result (λ said. rows_said said ≡ rows_of_line clerks (names_of court.now) court.now.periods.triggers order (option_map fields_of header.now) line.now) }
 {
-    let text = typed(alloc, unmarked(marked, line))?;
-    let fields = fields_written(alloc, text.as_str())?;
-    push_fields_out(alloc, court, out, mark_of(marked, line), line, &fields)?;
-    out.push(end)?;
-    Ok(())
-}
-
-/// An input as people write it, with a row of `start` for each period that a trigger starts, in place of the trigger. These rows are
-/// on its line: each ends with a carriage return, which counts no line. The set's name is in its fourth field, where a row of `start` has
-/// its period: `judgment`, `complaint`, `served` or `removed`, or a name that the court's file gives to a set, or periods with commas
-/// between them. A last line that has no end is left out. `Err` says that memory ran out.
-pub fn written_out(
-    alloc: Global,
-    court: &Court,
-    marked: bool,
-    input: &[u8],
-) -> Result<Vec<u8>, AllocError>
-    ensures { IfOk result (λ out. out.items ≡ written_out court.now.periods.triggers marked input.now) }
-{
-    let mut out = Vec::new(alloc);
-    let mut rest = input;
-    while let Some(split) = split_line(rest) {
-        push_line(alloc, court, marked, &mut out, split.line, split.end)?;
-        rest = split.rest;
-    }
-    Ok(out)
+    let text = typed(alloc, line)?;
+    let text = text.as_str();
+    let fields = fields_written(alloc, text)?;
+    rows_typed(alloc, clerks, court, order, header, line, text, &fields)
 }

@@ -9,9 +9,9 @@ use Rattle.row_forms.specs.declared.line.line.Line.{Line}
 use Rattle.row_forms.specs.declared.line.line.Line.TheVariants as line
 use Rattle.row_forms.specs.Line.Words.{line_read}
 use Rattle.row_fields.specs.declared.dates.DateOrder.{DateOrder}
-use Rattle.row_fields.specs.Words.{folded, typed}
+use Rattle.row_fields.specs.Words.{typed}
 use Rattle.row_forms.specs.declared.headings.columns.Column.{Column}
-use Rattle.row_forms.specs.declared.headings.columns.Column.TheVariants.{Command, Deadline, Motion, Number}
+use Rattle.row_forms.specs.declared.headings.columns.Column.TheVariants.{Deadline, Motion, Number}
 use Rattle.row_written.specs.declared.rows.Written.{Written}
 use Rattle.row_written.specs.declared.rows.Written.TheVariants.{Nothing, Plain, Faulty}
 use Rattle.row_written.specs.Cases.{asked, is_case, is_subject_name, name_in, names_subject, with_case, with_one, with_subject}
@@ -21,7 +21,7 @@ use Rattle.row_written.specs.Headings.{heading_faults, heading_of, names_columns
 use Rattle.row_written.specs.Known.{names_known}
 use Rattle.row_written.specs.Labels.{label_at, row_of_label, made_by, wanted_columns}
 use Rattle.row_written.specs.Laws.{IsPlainRow, IsRow, IsSubjectName, PlainRowsStay, PutsOne, RowsArePlain}
-use Rattle.row_written.specs.Rows.{column_faults, excess_faults, fault_of_column, fields_written, header_said, if_faultless, in_columns, label_faults, plain_in, plain_of, read_as, row_said, says_nothing, says_row, stays, taken, typed_as, value_at, with_label}
+use Rattle.row_written.specs.Rows.{column_faults, excess_faults, fault_of_column, fields_written, header_said, if_faultless, in_columns, label_faults, plain_in, plain_of, read_as, row_said, row_word, says_nothing, says_row, stays, taken, typed_as, with_label}
 
 -- a plain row stays
 pub plain_rows_stay_lem : PlainRowsStay
@@ -101,16 +101,18 @@ module _ (clerks : ℕ) (names : CourtNames) (text : List ℕ) where
   faultless_plain order header keyed fields columns plain label [] took = taken_plain header keyed fields columns plain label (line_read clerks names (row_text default_writer (asked columns plain))) refl took
   faultless_plain order header keyed fields columns plain label (fault ∷ faults) took = cc took
 
-  columns_plain : (order : Option DateOrder) (header : Option (List (List ℕ))) (keyed : List ℕ) (fields : List (List ℕ)) (made : List ℕ) (columns : Option (List Column)) → plain_of (in_columns names order header keyed fields clerks made columns) ≡ Some text
+  columns_plain : (order : Option DateOrder) (header : Option (List (List ℕ))) (keyed : List ℕ) (fields : List (List ℕ)) (made label : List ℕ) (columns : Option (List Column)) → plain_of (in_columns names order header keyed fields clerks made label columns) ≡ Some text
       → (row : Row) × IsRow clerks names text row
-  columns_plain order header keyed fields made None took = cc took
-  columns_plain order header keyed fields made (Some columns) took =
-      faultless_plain order header keyed fields columns (plain_in names order header keyed fields 0 columns) (row_of_label made (plain_in names order header keyed fields 0 columns) (label_at header made fields))
-      (column_faults names order header keyed fields 0 columns ++ excess_faults header (wanted_columns header made columns) keyed 0 fields ++ label_faults header keyed (label_at header made fields)) took
+  columns_plain order header keyed fields made label None took = cc took
+  columns_plain order header keyed fields made label (Some columns) took =
+      faultless_plain order header keyed fields columns (plain_in names order header keyed fields 0 columns) (row_of_label made (plain_in names order header keyed fields 0 columns) label)
+      (column_faults names order header keyed fields 0 columns ++ excess_faults header (wanted_columns header made columns) keyed 0 fields ++ label_faults header keyed label) took
 
   row_plain : (order : Option DateOrder) (header : Option (List (List ℕ))) (keyed : List ℕ) (fields : List (List ℕ)) → plain_of (row_said names order header keyed fields clerks) ≡ Some text → (row : Row) × IsRow clerks names text row
   unfolding row_said
-  row_plain order header keyed fields took = columns_plain order header keyed fields (made_by (folded (value_at header fields 1 Command))) (columns_of (folded (value_at header fields 1 Command))) took
+  row_plain order header keyed fields took =
+      let word = row_word names order header keyed fields in
+      columns_plain order header keyed fields (made_by word) (label_at header (made_by word) fields) (columns_of word) took
 
   header_plain : (headings : List (List ℕ)) (faults : List FieldFault) → plain_of (header_said headings faults) ≡ Some text → (row : Row) × IsRow clerks names text row
   header_plain headings [] took = cc took

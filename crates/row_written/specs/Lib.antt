@@ -7,5 +7,6 @@ pub mod Headings
 pub mod Cases
 pub mod Labels
 pub mod Rows
+pub mod Called
 pub mod Laws
 pub mod Words

@@ -139,16 +139,24 @@ module _ (names : CourtNames) (order : Option DateOrder) (header : Option (List 
       taken names header text fields columns (row_text default_writer plain) label (line_read clerks names (row_text default_writer (asked columns plain)))
   if_faultless clerks columns plain label (fault ∷ faults) = written.Faulty (fault ∷ faults)
 
-  -- what a row with these columns is read as: each field says one thing in its column, and no other field is there
-  abbrev pub in_columns : (clerks : ℕ) → (made : List ℕ) → Option (List Column) → Written (List (List ℕ)) (List ℕ) (List FieldFault)
-  in_columns clerks made None = written.Faulty (fault_at text (column_place header 1 Command) NoCommand (value_at header fields 1 Command) [] [] ∷ [])
-  in_columns clerks made (Some columns) =
-      if_faultless clerks columns (plain_in 0 columns) (row_of_label made (plain_in 0 columns) (label_at header made fields))
-      (column_faults 0 columns ++ excess_faults header (wanted_columns header made columns) text 0 fields ++ label_faults header text (label_at header made fields))
+  -- what a row with these columns is read as, where what it makes is called so: each field says one thing in its column, and no other
+  -- field is there
+  abbrev pub in_columns : (clerks : ℕ) → (made label : List ℕ) → Option (List Column) → Written (List (List ℕ)) (List ℕ) (List FieldFault)
+  in_columns clerks made label None = written.Faulty (fault_at text (column_place header 1 Command) NoCommand (value_at header fields 1 Command) [] [] ∷ [])
+  in_columns clerks made label (Some columns) =
+      if_faultless clerks columns (plain_in 0 columns) (row_of_label made (plain_in 0 columns) label)
+      (column_faults 0 columns ++ excess_faults header (wanted_columns header made columns) text 0 fields ++ label_faults header text label)
 
   -- what a row is read as: its columns are those of its command word
+  abbrev pub row_worded : (clerks : ℕ) → (word label : List ℕ) → Written (List (List ℕ)) (List ℕ) (List FieldFault)
+  row_worded clerks word label = in_columns clerks (made_by word) label (columns_of word)
+
+  -- the command word of a row
+  abbrev pub row_word : List ℕ
+  row_word = folded (value_at header fields 1 Command)
+
   unfoldable pub row_said : (clerks : ℕ) → Written (List (List ℕ)) (List ℕ) (List FieldFault)
-  row_said clerks = in_columns clerks (made_by (folded (value_at header fields 1 Command))) (columns_of (folded (value_at header fields 1 Command)))
+  row_said clerks = row_worded clerks row_word (label_at header (made_by row_word) fields)
 
 -- a line that names columns, with these headings and these faults
 abbrev pub header_said : (headings : List (List ℕ)) → List FieldFault → Written (List (List ℕ)) (List ℕ) (List FieldFault)

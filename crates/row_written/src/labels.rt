@@ -87,8 +87,8 @@ fn wanted_columns(
     Ok(all)
 }
 
-// Whether something may be called so, as a row written by hand says it.
-fn is_label(text: &str) -> bool
+/// Whether something may be called so, as a row written by hand says it.
+pub fn is_label(text: &str) -> bool
     ensures { result ≡ is_label text.now }
 {
     is_text(text.as_bytes()) && !has_mark(text.as_bytes())

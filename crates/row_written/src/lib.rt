@@ -1,6 +1,7 @@
 //! Lines as people write them, read as plain rows.
 #![tactic(auto)]
 
+mod called;
 mod cases;
 mod excess;
 mod fault;
@@ -13,9 +14,11 @@ mod names;
 mod rows;
 mod subjects;
 
+pub use called::read_called;
 pub use fault::{Fault, Flaw};
 pub use fields::field_said;
 pub use headings::word_at;
+pub use labels::is_label;
 pub use laws::{
     lengths_keep_their_numbers, numbers_are_their_fields, plain_rows_stay, rows_are_plain,
 };

@@ -12,13 +12,13 @@ ghost use Rattle.row_written.specs.declared.rows.Written.TheVariants as written;
 ghost use Rattle.row_written.specs.Cases.{asked};
 ghost use Rattle.row_written.specs.Fault.{fault_in};
 ghost use Rattle.row_written.specs.Headings.{heading_of, is_filled};
-ghost use Rattle.row_written.specs.Rows.{clear_text, column_faults, column_of_cause, column_place, fault_of_column, fields_written, plain_in, read_as, row_said, said_in, says_nothing, stays, taken, typed_as, unclear, value_at, with_label, written_map};
+ghost use Rattle.row_written.specs.Rows.{clear_text, column_faults, column_of_cause, column_place, fault_of_column, fields_written, plain_in, read_as, row_said, row_worded, said_in, says_nothing, taken, typed_as, unclear, value_at, with_label, written_map};
 
 use crate::cases::{asked_text, text_of};
 use crate::fault::{Fault, Flaw, fault_at};
 use crate::fields::field_said;
 use crate::headings::{headings_of, index_of, names_columns, word_at};
-use crate::known::names_known;
+use crate::known::{names_known, stays};
 use crate::labels::{label_at, row_of_label, made_by, push_others};
 use court_clock::Day;
 use court_days::Court;
@@ -30,7 +30,7 @@ use rule_periods::{Grant, Request};
 use std::alloc::{AllocError, Global};
 
 // The types inside a row, which the checker finds only where they have names.
-type RowTypes = Option<
+pub(crate) type RowTypes = Option<
     (
         Row,
         Work,
@@ -98,7 +98,7 @@ pub(crate) fn column_place(header: &Option<StringRecord>, number: usize, column:
 }
 
 // The field of a row's column.
-fn value_at<'a>(
+pub(crate) fn value_at<'a>(
     header: &Option<StringRecord>,
     fields: &'a StringRecord,
     number: usize,
@@ -222,7 +222,7 @@ fn faulty_column(
 }
 
 // A plain row, with the one that says what it makes is called, if there is one.
-fn with_label(plain: Vec<u8>, label: Option<Vec<u8>>) -> WrittenLine
+pub(crate) fn with_label(plain: Vec<u8>, label: Option<Vec<u8>>) -> WrittenLine
     ensures { written_map fields_of (λ t. t.items) (λ f. map fault_in f.items) result ≡ with_label plain.items (option_map (λ t. t.items) label) }
 {
     match label {
@@ -259,9 +259,8 @@ fn taken(
     }
 }
 
-// What a row is read as, in a file with these headings.
-#[tactic(auto, unfolding(crate::specs::Rows::row_said))]
-fn row_said(
+// What a row with this command word is read as, where what it makes is called so.
+pub(crate) fn row_worded(
     alloc: Global,
     clerks: u8,
     court: &Court,
@@ -269,19 +268,19 @@ fn row_said(
     header: &Option<StringRecord>,
     text: &str,
     fields: &StringRecord,
+    word: &str,
+    label: &str,
 ) -> Result<WrittenLine, AllocError>
-    ensures { IfOk result (λ line. written_map fields_of (λ t. t.items) (λ f. map fault_in f.items) line ≡ row_said (names_of court.now) order (option_map fields_of header.now) text.now (fields_of fields.now) clerks) }
+    ensures { IfOk result (λ line. written_map fields_of (λ t. t.items) (λ f. map fault_in f.items) line ≡ row_worded (names_of court.now) order (option_map fields_of header.now) text.now (fields_of fields.now) clerks word.now label.now) }
 {
-    let value = value_at(header, fields, 1, Column::Command);
-    let word = folded(alloc, value)?;
-    let Some(columns) = columns_of(word.as_str()) else {
+    let Some(columns) = columns_of(word) else {
         let place = column_place(header, 1, Column::Command);
+        let value = value_at(header, fields, 1, Column::Command);
         let mut faults = Vec::new(alloc);
         faults.push(fault_at(alloc, text, place, Flaw::NoCommand, value, ("", ""))?)?;
         return Ok(Written::Faulty(faults));
     };
-    let made = made_by(word.as_str());
-    let label = label_at(header, made, fields);
+    let made = made_by(word);
     let (plain, mut faults) = plain_in(alloc, court, order, header, text, fields, columns)?;
     push_others(
         alloc,
@@ -299,6 +298,27 @@ fn row_said(
     let label = row_of_label(alloc, made, &plain, label)?;
     taken(
         alloc, clerks, court, header, text, fields, columns, &plain, label,
+    )
+}
+
+// What a row is read as, in a file with these headings.
+#[tactic(auto, unfolding(crate::specs::Rows::row_said))]
+fn row_said(
+    alloc: Global,
+    clerks: u8,
+    court: &Court,
+    order: Option<DateOrder>,
+    header: &Option<StringRecord>,
+    text: &str,
+    fields: &StringRecord,
+) -> Result<WrittenLine, AllocError>
+    ensures { IfOk result (λ line. written_map fields_of (λ t. t.items) (λ f. map fault_in f.items) line ≡ row_said (names_of court.now) order (option_map fields_of header.now) text.now (fields_of fields.now) clerks) }
+{
+    let word = folded(alloc, value_at(header, fields, 1, Column::Command))?;
+    let word = word.as_str();
+    let label = label_at(header, made_by(word), fields);
+    row_worded(
+        alloc, clerks, court, order, header, text, fields, word, label,
     )
 }
 
@@ -327,27 +347,6 @@ fn typed_as(
         }
     } else {
         row_said(alloc, clerks, court, order, header, text, &fields)
-    }
-}
-
-// Whether a plain row stays as it is: where columns have no headings.
-fn stays(
-    alloc: Global,
-    clerks: u8,
-    court: &Court,
-    header: &Option<StringRecord>,
-    line: &[u8],
-) -> Result<bool, AllocError>
-    ensures { IfOk result (λ so. so ≡ stays clerks (names_of court.now) (option_map fields_of header.now) line.now) }
-{
-    let _types: RowTypes = None;
-    if header.is_some() {
-        return Ok(false);
-    }
-    let mut fields = StringRecord::new(alloc);
-    match read_line(alloc, line, clerks, court, &mut fields)? {
-        Line::Row(row) => Ok(names_known(court, &row.work)),
-        _ => Ok(false),
     }
 }
 
