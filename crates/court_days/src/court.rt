@@ -14,7 +14,7 @@ use crate::days::Days;
 use crate::days::holidays::Holidays;
 use court_clock::{Clock, Day, zone_from_text};
 use court_file_text::{
-    CourtFault, Key, Names, NamedText, PeriodNames, date_at, minute_at, minute_if_there, names_by,
+    CourtFault, Key, NamedText, Names, PeriodNames, date_at, minute_at, minute_if_there, names_by,
     period_names, text_at,
 };
 use jiff::tz::TimeZone;

@@ -252,12 +252,7 @@ pub fn names_by(alloc: Global, file: &Table, key: Key, desk: bool) -> Result<Nam
     }
 }
 
-fn names_of(
-    alloc: Global,
-    values: &[Value],
-    key: Key,
-    desk: bool,
-) -> Result<Names, CourtFault>
+fn names_of(alloc: Global, values: &[Value], key: Key, desk: bool) -> Result<Names, CourtFault>
     ensures value { Gives (λ n. n) result (each_item (and_name_by desk key) [] (items_view values.now)) }
     ensures most { IfOk result (λ n. length n ≤ length values.now) }
 {

@@ -22,7 +22,9 @@ pub(crate) fn push_periods(sheet: &mut Sheet<'_>, file: &Table) -> Result<(), Al
     };
     let Some(table) = value.as_table() else {
         begin(sheet, "", PERIODS)?;
-        return sheet.end("this is no table, and nothing reads it; write [periods] in a line, and below it a line such as opposition = \"14d/after/service/served/plain\"");
+        return sheet.end(
+            "this is no table, and nothing reads it; write [periods] in a line, and below it a line such as opposition = \"14d/after/service/served/plain\"",
+        );
     };
     for (name, value) in table.iter() {
         let name = name.as_str();
@@ -41,7 +43,9 @@ pub(crate) fn push_triggers(sheet: &mut Sheet<'_>, file: &Table) -> Result<(), A
     };
     let Some(table) = value.as_table() else {
         begin(sheet, "", TRIGGERS)?;
-        return sheet.end("this is no table, and nothing reads it; write [triggers] in a line, and below it a line such as judgment = \"50b, 59e\"");
+        return sheet.end(
+            "this is no table, and nothing reads it; write [triggers] in a line, and below it a line such as judgment = \"50b, 59e\"",
+        );
     };
     for (name, value) in table.iter() {
         push_set(sheet, file, name.as_str(), value)?;
@@ -62,7 +66,9 @@ fn push_set(
     };
     if !is_name(name) || !is_printed(text) {
         begin(sheet, "[triggers]", name)?;
-        return sheet.end("nothing reads this; a name is of 1 to 32 letters, digits, -, _ and ., and a set is written as \"50b, 59e\"");
+        return sheet.end(
+            "nothing reads this; a name is of 1 to 32 letters, digits, -, _ and ., and a set is written as \"50b, 59e\"",
+        );
     }
     let periods = cut_line(sheet.alloc(), text, b',')?;
     for i in 0..periods.len() {
@@ -71,7 +77,9 @@ fn push_set(
             begin(sheet, "[triggers]", name)?;
             let part = shown(period.as_bytes(), 0, period.len());
             write!(sheet.text, "{part} is no period")?;
-            sheet.end(", and rows that name this set are faults; its periods are as rows name them, with commas between them")?;
+            sheet.end(
+                ", and rows that name this set are faults; its periods are as rows name them, with commas between them",
+            )?;
         }
     }
     Ok(())
@@ -100,7 +108,9 @@ fn push_period(sheet: &mut Sheet<'_>, name: &str, value: &Value) -> Result<(), A
         Some(text) if is_period(text) => push_hidden(sheet, name),
         _ => {
             begin(sheet, "[periods]", name)?;
-            sheet.end("this is no period, and rows that name it are faults; a period is written as \"14d/after/service/served/plain\"")
+            sheet.end(
+                "this is no period, and rows that name it are faults; a period is written as \"14d/after/service/served/plain\"",
+            )
         }
     }
 }
@@ -112,7 +122,9 @@ fn push_hidden(sheet: &mut Sheet<'_>, name: &str) -> Result<(), AllocError> {
         Said::Unknown => Ok(()),
         Said::Clear(_) | Said::Unclear(_, _) => {
             begin(sheet, "[periods]", name)?;
-            sheet.end("rows mean a section of the Rules or of a statute by this; give the period another name")
+            sheet.end(
+                "rows mean a section of the Rules or of a statute by this; give the period another name",
+            )
         }
     }
 }
@@ -127,7 +139,9 @@ fn push_cites(sheet: &mut Sheet<'_>, table: &Table, cites: &Table) -> Result<(),
         };
         if !is_read {
             begin(sheet, "[periods.cite]", name)?;
-            sheet.end("this is no text that can be shown in a line, and nothing reads it; write it as \"LRCiv 7.2(c)\"")?;
+            sheet.end(
+                "this is no text that can be shown in a line, and nothing reads it; write it as \"LRCiv 7.2(c)\"",
+            )?;
         } else if table.get(name).is_none() {
             begin(sheet, "[periods.cite]", name)?;
             sheet.end("[periods] has no such name")?;
