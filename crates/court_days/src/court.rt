@@ -173,6 +173,13 @@ impl Court {
         self.periods.trigger(name)
     }
 
+    /// The name of the judge or the room to which the court's file gives this short name.
+    pub fn long_name(&self, short: &str) -> Option<&str>
+        ensures { option_map (λ text. text.now) result ≡ text_named self.now.periods.shorts short.now }
+    {
+        self.periods.long_name(short)
+    }
+
     /// The periods to which the court's file gives names, in its order, each with its text.
     pub fn periods(&self) -> &[NamedText]
         ensures { result.now ≡ self.now.periods.texts }
