@@ -132,7 +132,7 @@ pub record DeskReadsAlike : Type 0 where
   pub to_midnight : (bytes : List ℕ) (file : CourtFile) → court_in bytes ≡ Ok file → file.efiling_until ≡ None
   pub without_names : (bytes : List ℕ) (file : CourtFile) → court_in bytes ≡ Ok file → file.periods ≡ no_period_names
 
--- The desk takes a list of names exactly where each is one that it takes, and is there once.
+-- The names that clerk_office reads at a key the desk reads too, and each that the desk reads is one that it takes.
 pub record DeskTakesNames : Type 0 where
   pub of_the_office : (k : Key) (document : Members) (names : List (List ℕ)) → names_at k document ≡ Ok names → desk_names_at k document ≡ Ok names
   pub each : (k : Key) (document : Members) (names : List (List ℕ)) → desk_names_at k document ≡ Ok names → All (λ name. is_desk_name name ≡ true) names
