@@ -194,6 +194,14 @@ def spoiled():
     way("a set with a section that sets two periods", sets('judgment = "50b, FRAP 4(a)(1)"\n'))
     way("a set that is a list", sets('judgment = ["50b"]\n'))
 
+    def shorts(text):
+        return COURT + "\n[short_names]\n" + text
+
+    way("short names", shorts('Am = "Ames"\n11 = "11A"\n'))
+    way("a short name of nobody", shorts('Am = "Amos"\n'))
+    way("a blank in a short name", shorts('"Am es" = "Ames"\n'))
+    way("the short names are a text", COURT + 'short_names = "Ames"\n')
+
     # the span
     way("to is before from", put('to = "2026-12-31"', 'to = "2024-12-31"'))
     way("to is moved", put('to = "2026-12-31"', 'to = "2030-12-31"'))

@@ -15,6 +15,9 @@ const CITE: &str = "cite";
 /// The table that has sets of periods.
 const TRIGGERS: &str = "triggers";
 
+/// The table that has short names of judges and rooms.
+pub(crate) const SHORT_NAMES: &str = "short_names";
+
 /// Adds a line for each entry of the table of periods that no row can name.
 pub(crate) fn push_periods(sheet: &mut Sheet<'_>, file: &Table) -> Result<(), AllocError> {
     let Some(value) = file.get(PERIODS) else {
@@ -151,7 +154,7 @@ fn push_cites(sheet: &mut Sheet<'_>, table: &Table, cites: &Table) -> Result<(),
 }
 
 /// Begins a line about a name, at its line below a header.
-fn begin(sheet: &mut Sheet<'_>, header: &str, name: &str) -> Result<(), AllocError> {
+pub(crate) fn begin(sheet: &mut Sheet<'_>, header: &str, name: &str) -> Result<(), AllocError> {
     let bytes = sheet.bytes();
     match start_of(bytes, header.as_bytes(), name.as_bytes()) {
         Some(at) => sheet.begin(Some(place_at(bytes, at)))?,
@@ -164,6 +167,8 @@ fn begin(sheet: &mut Sheet<'_>, header: &str, name: &str) -> Result<(), AllocErr
     };
     let table = if header == "[triggers]" || name == TRIGGERS {
         TRIGGERS
+    } else if header == "[short_names]" || name == SHORT_NAMES {
+        SHORT_NAMES
     } else {
         PERIODS
     };
