@@ -5,7 +5,7 @@ ghost use Rattle.std.specs.Option.{ok_or};
 ghost use Rattle.toml.specs.View.{table_view};
 ghost use Rattle.jiff.specs.Words.{plain_zone};
 ghost use Rattle.court_clock.specs.Words.{is_ruled, zone_view};
-ghost use Rattle.court_days.specs.Court.{CourtView, file_of, court_of, court_in, desk_court_of, desk_court_in, zone_at, hours_at, days_at, is_span};
+ghost use Rattle.court_days.specs.Court.{CourtView, file_of, court_by, court_of, court_in, desk_court_of, desk_court_in, zone_at, hours_at, days_at, is_span};
 ghost use Rattle.court_file_text.specs.declared.fault.CourtFault.TheVariants.{NotToml};
 ghost use Rattle.court_file_text.specs.Words.{Gives, name_index, text_named, toml_of};
 
@@ -14,7 +14,7 @@ use crate::days::Days;
 use crate::days::holidays::Holidays;
 use court_clock::{Clock, Day, zone_from_text};
 use court_file_text::{
-    CourtFault, Key, Names, NamedText, PeriodNames, date_at, minute_at, minute_if_there, names_at,
+    CourtFault, Key, NamedText, Names, PeriodNames, date_at, minute_at, minute_if_there, names_by,
     period_names, text_at,
 };
 use jiff::tz::TimeZone;
@@ -62,11 +62,18 @@ impl Court {
     pub fn from_table(alloc: Global, file: &Table) -> Result<Court, CourtFault>
         ensures { Gives file_of result (court_of (table_view file.now)) }
     {
+        Court::read(alloc, file, false)
+    }
+
+    // The same, with the names that the desk takes, or without.
+    fn read(alloc: Global, file: &Table, desk: bool) -> Result<Court, CourtFault>
+        ensures { Gives file_of result (court_by desk (table_view file.now)) }
+    {
         let zone = zone_at(file)?;
         let hours = hours_at(file)?;
         let days = days_at(alloc, file)?;
-        let judges = names_at(alloc, file, Key::Judges)?;
-        let rooms = names_at(alloc, file, Key::Rooms)?;
+        let judges = names_by(alloc, file, Key::Judges, desk)?;
+        let rooms = names_by(alloc, file, Key::Rooms, desk)?;
         Ok(Court {
             clock: Clock::new(alloc, zone, hours, days.from(), days.to())?,
             days,
@@ -76,8 +83,8 @@ impl Court {
         })
     }
 
-    /// The same as the desk reads it, which also takes the minute to which a local rule lets electronic filing run, and the names that
-    /// the file gives to periods.
+    /// The same as the desk reads it, which also takes other names of judges and rooms, the minute to which a local rule lets electronic
+    /// filing run, and the names that the file gives to periods.
     #[tactic(auto, unfolding(crate::specs::Court::desk_court_in))]
     pub fn from_desk_bytes(alloc: Global, bytes: &[u8]) -> Result<Court, CourtFault>
         ensures { Gives file_of result (desk_court_in bytes.now) }
@@ -91,7 +98,7 @@ impl Court {
     pub fn from_desk_table(alloc: Global, file: &Table) -> Result<Court, CourtFault>
         ensures { Gives file_of result (desk_court_of (table_view file.now)) }
     {
-        let mut court = Court::from_table(alloc, file)?;
+        let mut court = Court::read(alloc, file, true)?;
         let minute = minute_if_there(file, Key::EfilingUntil)?;
         court.periods = period_names(alloc, file)?;
         match minute {
@@ -164,6 +171,13 @@ impl Court {
         ensures { option_map (λ text. text.now) result ≡ text_named self.now.periods.triggers name.now }
     {
         self.periods.trigger(name)
+    }
+
+    /// The name of the judge or the room to which the court's file gives this short name.
+    pub fn long_name(&self, short: &str) -> Option<&str>
+        ensures { option_map (λ text. text.now) result ≡ text_named self.now.periods.shorts short.now }
+    {
+        self.periods.long_name(short)
     }
 
     /// The periods to which the court's file gives names, in its order, each with its text.

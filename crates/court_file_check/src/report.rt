@@ -6,6 +6,7 @@ mod near_key;
 mod period_lines;
 mod report;
 mod sheet;
+mod short_lines;
 mod syntax_lines;
 mod warning_lines;
 

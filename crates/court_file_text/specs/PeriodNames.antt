@@ -1,5 +1,6 @@
 -- The names that a court's file gives to periods which are entered: a table `[periods]` has the text of each, and in it a table
--- `[periods.cite]` says where the period is from. A table `[triggers]` gives names to sets of periods. The desk alone reads them.
+-- `[periods.cite]` says where the period is from. A table `[triggers]` gives names to sets of periods, and a table `[short_names]` short
+-- ones to judges and rooms. The desk alone reads them.
 use Rattle.std.specs.Prelude.{ℕ, ◌==◌, ◌&&◌, ◌||◌, not, nat_lt, Bool, List, [], ◌∷◌, ◌++◌, length, Option, Some, None, codes, if◌then◌else◌}
 use Rattle.std.specs.List.{list_all}
 use Rattle.std.specs.Option.{option_and_then}
@@ -12,14 +13,15 @@ pub record NamedTextView : Type 0 where
   pub name : List ℕ
   pub text : List ℕ
 
--- the texts of periods, where they are from, and the sets of periods, each in the order of its table
+-- the texts of periods, where they are from, the sets of periods, and the names that have short ones, each in the order of its table
 pub record PeriodNamesView : Type 0 where
   pub texts : List NamedTextView
   pub cites : List NamedTextView
   pub triggers : List NamedTextView
+  pub shorts : List NamedTextView
 
 abbrev pub no_period_names : PeriodNamesView
-no_period_names = record { texts = []; cites = []; triggers = [] }
+no_period_names = record { texts = []; cites = []; triggers = []; shorts = [] }
 
 -- a byte of no ASCII control character
 abbrev pub is_printed_byte : ℕ → Bool
@@ -57,12 +59,13 @@ abbrev pub cites_if : Option Members → List NamedTextView
 cites_if (Some table) = texts_if (table_at (codes "cite") table)
 cites_if None = []
 
--- the names that a document gives to periods, and to sets of them
+-- the names that a document gives to periods and to sets of them, and the short ones of judges and rooms
 unfoldable pub period_names : Members → PeriodNamesView
 period_names document = record {
   texts = texts_if (table_at (codes "periods") document);
   cites = cites_if (table_at (codes "periods") document);
   triggers = texts_if (table_at (codes "triggers") document);
+  shorts = texts_if (table_at (codes "short_names") document);
 }
 
 -- the first text that has this name, if one has it

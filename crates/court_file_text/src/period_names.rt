@@ -1,4 +1,4 @@
-//! The names that a court's file gives to periods which are entered.
+//! The names that a court's file gives to periods which are entered, and short ones of judges and rooms.
 
 ghost use Rattle.std.specs.Prelude.{◌≡◌, ◌++◌, [], IfOk, Ok, OnOk, codes, option_map, string_bytes};
 ghost use Rattle.std.specs.List.{list_all};
@@ -51,12 +51,14 @@ impl NamedText {
     }
 }
 
-/// The names of a court's periods: the text of each, and where it is from; and those of sets of periods.
+/// The names of a court's periods: the text of each, and where it is from; those of sets of periods; and the short names of judges and
+/// rooms.
 #[derive(Debug, Drop)]
 pub struct PeriodNames {
     texts: Vec<NamedText>,
     cites: Vec<NamedText>,
     triggers: Vec<NamedText>,
+    shorts: Vec<NamedText>,
 }
 
 impl Model for PeriodNames {
@@ -64,7 +66,7 @@ impl Model for PeriodNames {
 
     ghost Value = { PeriodNamesView };
 
-    ghost view = { λ p. record { texts = p.texts.items; cites = p.cites.items; triggers = p.triggers.items } };
+    ghost view = { λ p. record { texts = p.texts.items; cites = p.cites.items; triggers = p.triggers.items; shorts = p.shorts.items } };
 }
 
 impl PeriodNames {
@@ -76,6 +78,7 @@ impl PeriodNames {
             texts: Vec::new(alloc),
             cites: Vec::new(alloc),
             triggers: Vec::new(alloc),
+            shorts: Vec::new(alloc),
         }
     }
 
@@ -106,10 +109,18 @@ impl PeriodNames {
     {
         text_named(&self.triggers, name)
     }
+
+    /// The name of the judge or the room with this short name.
+    pub fn long_name(&self, short: &str) -> Option<&str>
+        ensures { option_map (λ text. text.now) result ≡ text_named self.now.shorts short.now }
+    {
+        text_named(&self.shorts, short)
+    }
 }
 
-/// The names that a document gives to periods, in its table `periods`, and to sets of them, in its table `triggers`. Passed over are an entry whose name isn't one of 1 to 32 letters,
-/// digits, `-`, `_` and `.`, and one whose value is no text, is empty or has an ASCII control character. `OutOfMemory` where memory
+/// The names that a document gives to periods, in its table `periods`, to sets of them, in its table `triggers`, and to judges and rooms
+/// for short, in its table `short_names`. Passed over are an entry whose name isn't one of 1 to 32 letters, digits, `-`, `_` and `.`, and
+/// one whose value is no text, is empty or has an ASCII control character. `OutOfMemory` where memory
 /// ran out, and no other fault.
 pub fn period_names(alloc: Global, document: &Table) -> Result<PeriodNames, CourtFault>
     ensures { Gives (λ names. names) result (Ok (period_names (table_view document.now))) }
@@ -129,10 +140,12 @@ fn names_in(alloc: Global, document: &Table) -> Result<PeriodNames, AllocError>
     let texts = texts_if(alloc, periods)?;
     let cites = cites_if(alloc, periods)?;
     let triggers = texts_if(alloc, table_at(document, "triggers"))?;
+    let shorts = texts_if(alloc, table_at(document, "short_names"))?;
     Ok(PeriodNames {
         texts,
         cites,
         triggers,
+        shorts,
     })
 }
 

@@ -21,9 +21,13 @@ pub(crate) fn is_same_end(x: &Shown, y: &Shown) -> bool
     ensures { result ≡ is_same_end x.now y.now }
 {
     match (x, y) {
-        (Shown::Last { day, act }, Shown::Last { day: other, act: due }) => {
-            *day == *other && is_same_act(act, due)
-        }
+        (
+            Shown::Last { day, act },
+            Shown::Last {
+                day: other,
+                act: due,
+            },
+        ) => { *day == *other && is_same_act(act, due) }
         (Shown::Until(at), Shown::Until(other)) => *at == *other,
         (Shown::Beyond, Shown::Beyond) => true,
         _ => false,

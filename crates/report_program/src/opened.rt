@@ -168,10 +168,7 @@ fn unless_sheet(view: &View, case: u32) -> Option<u32>
 }
 
 /// What is chosen, unless a case isn't open.
-fn found_unless(
-    chosen: Result<Chosen, Missing>,
-    closed: Option<u32>,
-) -> Result<Chosen, Missing>
+fn found_unless(chosen: Result<Chosen, Missing>, closed: Option<u32>) -> Result<Chosen, Missing>
     ensures { result ≡ found_unless chosen closed }
 {
     match closed {

@@ -15,6 +15,9 @@ const CITE: &str = "cite";
 /// The table that has sets of periods.
 const TRIGGERS: &str = "triggers";
 
+/// The table that has short names of judges and rooms.
+pub(crate) const SHORT_NAMES: &str = "short_names";
+
 /// Adds a line for each entry of the table of periods that no row can name.
 pub(crate) fn push_periods(sheet: &mut Sheet<'_>, file: &Table) -> Result<(), AllocError> {
     let Some(value) = file.get(PERIODS) else {
@@ -22,7 +25,9 @@ pub(crate) fn push_periods(sheet: &mut Sheet<'_>, file: &Table) -> Result<(), Al
     };
     let Some(table) = value.as_table() else {
         begin(sheet, "", PERIODS)?;
-        return sheet.end("this is no table, and nothing reads it; write [periods] in a line, and below it a line such as opposition = \"14d/after/service/served/plain\"");
+        return sheet.end(
+            "this is no table, and nothing reads it; write [periods] in a line, and below it a line such as opposition = \"14d/after/service/served/plain\"",
+        );
     };
     for (name, value) in table.iter() {
         let name = name.as_str();
@@ -41,7 +46,9 @@ pub(crate) fn push_triggers(sheet: &mut Sheet<'_>, file: &Table) -> Result<(), A
     };
     let Some(table) = value.as_table() else {
         begin(sheet, "", TRIGGERS)?;
-        return sheet.end("this is no table, and nothing reads it; write [triggers] in a line, and below it a line such as judgment = \"50b, 59e\"");
+        return sheet.end(
+            "this is no table, and nothing reads it; write [triggers] in a line, and below it a line such as judgment = \"50b, 59e\"",
+        );
     };
     for (name, value) in table.iter() {
         push_set(sheet, file, name.as_str(), value)?;
@@ -62,7 +69,9 @@ fn push_set(
     };
     if !is_name(name) || !is_printed(text) {
         begin(sheet, "[triggers]", name)?;
-        return sheet.end("nothing reads this; a name is of 1 to 32 letters, digits, -, _ and ., and a set is written as \"50b, 59e\"");
+        return sheet.end(
+            "nothing reads this; a name is of 1 to 32 letters, digits, -, _ and ., and a set is written as \"50b, 59e\"",
+        );
     }
     let periods = cut_line(sheet.alloc(), text, b',')?;
     for i in 0..periods.len() {
@@ -71,7 +80,9 @@ fn push_set(
             begin(sheet, "[triggers]", name)?;
             let part = shown(period.as_bytes(), 0, period.len());
             write!(sheet.text, "{part} is no period")?;
-            sheet.end(", and rows that name this set are faults; its periods are as rows name them, with commas between them")?;
+            sheet.end(
+                ", and rows that name this set are faults; its periods are as rows name them, with commas between them",
+            )?;
         }
     }
     Ok(())
@@ -100,7 +111,9 @@ fn push_period(sheet: &mut Sheet<'_>, name: &str, value: &Value) -> Result<(), A
         Some(text) if is_period(text) => push_hidden(sheet, name),
         _ => {
             begin(sheet, "[periods]", name)?;
-            sheet.end("this is no period, and rows that name it are faults; a period is written as \"14d/after/service/served/plain\"")
+            sheet.end(
+                "this is no period, and rows that name it are faults; a period is written as \"14d/after/service/served/plain\"",
+            )
         }
     }
 }
@@ -112,7 +125,9 @@ fn push_hidden(sheet: &mut Sheet<'_>, name: &str) -> Result<(), AllocError> {
         Said::Unknown => Ok(()),
         Said::Clear(_) | Said::Unclear(_, _) => {
             begin(sheet, "[periods]", name)?;
-            sheet.end("rows mean a section of the Rules or of a statute by this; give the period another name")
+            sheet.end(
+                "rows mean a section of the Rules or of a statute by this; give the period another name",
+            )
         }
     }
 }
@@ -127,7 +142,9 @@ fn push_cites(sheet: &mut Sheet<'_>, table: &Table, cites: &Table) -> Result<(),
         };
         if !is_read {
             begin(sheet, "[periods.cite]", name)?;
-            sheet.end("this is no text that can be shown in a line, and nothing reads it; write it as \"LRCiv 7.2(c)\"")?;
+            sheet.end(
+                "this is no text that can be shown in a line, and nothing reads it; write it as \"LRCiv 7.2(c)\"",
+            )?;
         } else if table.get(name).is_none() {
             begin(sheet, "[periods.cite]", name)?;
             sheet.end("[periods] has no such name")?;
@@ -137,7 +154,7 @@ fn push_cites(sheet: &mut Sheet<'_>, table: &Table, cites: &Table) -> Result<(),
 }
 
 /// Begins a line about a name, at its line below a header.
-fn begin(sheet: &mut Sheet<'_>, header: &str, name: &str) -> Result<(), AllocError> {
+pub(crate) fn begin(sheet: &mut Sheet<'_>, header: &str, name: &str) -> Result<(), AllocError> {
     let bytes = sheet.bytes();
     match start_of(bytes, header.as_bytes(), name.as_bytes()) {
         Some(at) => sheet.begin(Some(place_at(bytes, at)))?,
@@ -150,6 +167,8 @@ fn begin(sheet: &mut Sheet<'_>, header: &str, name: &str) -> Result<(), AllocErr
     };
     let table = if header == "[triggers]" || name == TRIGGERS {
         TRIGGERS
+    } else if header == "[short_names]" || name == SHORT_NAMES {
+        SHORT_NAMES
     } else {
         PERIODS
     };

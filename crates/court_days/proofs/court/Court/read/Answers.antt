@@ -1,5 +1,5 @@
 use Rattle.std.proofs.lemmas.Result.{err_from_is_err_and}
-use Rattle.court_days.proofs.court.Court.from_table.Goals as goal
+use Rattle.court_days.proofs.court.Court.read.Goals as goal
 
 pub returns-in_err-new : goal.returns-in_err-new
 returns-in_err-new c =
