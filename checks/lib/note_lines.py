@@ -13,7 +13,7 @@ from reference.periods import granted, is_in_range, is_order, is_set, shown
 from reference.rule6 import AFTER, BEFORE, BEYOND, ELECTRONIC, FILING, PAPER, Filing, day_end, is_timely, permitted
 
 # The codes and marks of motions that give the time for an appeal another beginning.
-MOVES_APPEAL = {"50b", "52b", "59b", "59e"}
+MOVES_APPEAL = {"50b", "50d", "52b", "59b", "59e"}
 # The texts of the time for an appeal.
 APPEAL = {"30d/after/filing/event/60b", "60d/after/filing/event/60b"}
 
