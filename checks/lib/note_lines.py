@@ -13,7 +13,7 @@ from reference.periods import granted, is_in_range, is_order, is_set, shown
 from reference.rule6 import AFTER, BEFORE, BEYOND, ELECTRONIC, FILING, PAPER, Filing, day_end, is_timely, permitted
 
 # The codes and marks of motions that give the time for an appeal another beginning.
-MOVES_APPEAL = {"50b", "52b", "59b", "59e"}
+MOVES_APPEAL = {"50b", "50d", "52b", "59b", "59e"}
 # The texts of the time for an appeal.
 APPEAL = {"30d/after/filing/event/60b", "60d/after/filing/event/60b"}
 
@@ -366,7 +366,7 @@ REFUSED = {
     7: unsuited,
     8: span("beyond the days covered, "),
     9: recorded,
-    10: by_grant("this time must not be extended", "this time isn't reset to a later end", "6(b)(2)"),
+    10: by_grant("this time must not be extended", "isn't reset later, nor between a day and a time", "6(b)(2)"),
     11: alone("an extension takes good cause, which wasn't found", "6(b)(1)"),
     12: late("a motion is needed"),
     13: late("neglect must be excused"),
@@ -384,7 +384,7 @@ REFUSED = {
     25: by_command(MOST),
     26: alone("the court's file names no such judge", "ours"),
     27: alone("the court's file names no such room", "ours"),
-    28: alone("hours are extended by hours, days by days", "ours"),
+    28: alone("extend hours by hours and days by days, or `reset`", "ours"),
     29: by_command(PANELS),
     30: alone("the case is closed; `reopen` opens it again", "ours"),
     31: alone("the case isn't closed; `close` closes one", "ours"),

@@ -177,7 +177,7 @@ def refused_extension(days, clock, deadline, request):
         return 8
     if period.extended == "never":
         return 10
-    if not fits(period, grant):
+    if not fits(period, grant) or (grant.unit == "h") != (now.kind == "until"):
         return 28
     if grant.unit != "until" and not is_in_range(grant.unit, grant.value):
         return 6

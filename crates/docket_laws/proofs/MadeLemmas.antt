@@ -159,7 +159,7 @@ request_made : (c : DaysView) (clock : ClockView) (row : DeadlineRowView) (reque
 unfolding request_refusal
 request_made c clock row request h =
     let n = none_of (extension_checks c clock row request) h in
-    record { ranged = when-not-None _ _ n.1.1.1.1.0; fits = when-not-None _ _ n.1.1.1.0 }
+    record { ranged = when-not-None _ _ n.1.1.1.1.1.0; fits = when-not-None _ _ n.1.1.1.0 }
 
 pub extension_made : (c : DaysView) (clock : ClockView) (row : DeadlineRowView) (request : Request) → extension_refusal c clock row request ≡ None → CanExtend row request
 unfolding extension_refusal

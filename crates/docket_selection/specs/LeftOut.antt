@@ -1,4 +1,4 @@
--- The deadlines that would be due on the chosen days if they weren't ended.
+-- The deadlines that would be due on the chosen days, by the ends that are shown, if they weren't ended.
 use Rattle.std.specs.Prelude.{ℕ, Bool, ◌&&◌, not, List, Option, Some, None, if◌then◌else◌}
 use Rattle.std.specs.List.{filter_map, flat_map}
 use Rattle.std.specs.Option.{option_and_then}

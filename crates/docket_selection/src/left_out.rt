@@ -1,4 +1,4 @@
-//! The deadlines that would be due on the chosen days if they weren't ended.
+//! The deadlines that would be due on the chosen days, by the ends that are shown, if they weren't ended.
 
 ghost use Rattle.std.specs.Prelude.{◌≡◌, ◌++◌, IfOk, OnOk};
 ghost use Rattle.std.specs.List.{filter_map, flat_map};
@@ -17,7 +17,8 @@ use docket_core::Docket;
 use docket_rows::{Sheet, SheetDeadline};
 use std::alloc::{AllocError, Global};
 
-/// The deadlines that would be due on the chosen days if they weren't ended, by case and number. `Err` says that memory ran out.
+/// The deadlines that would be due on the chosen days, by the ends that are shown, if they weren't ended: by case and number. `Err` says
+/// that memory ran out.
 pub fn deadlines_left_out(
     alloc: Global,
     court: &Court,

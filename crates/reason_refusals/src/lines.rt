@@ -77,7 +77,7 @@ pub fn push_refusal(
         Refusal::WrongGrant => push_note(
             text,
             None,
-            "hours are extended by hours, days by days",
+            "extend hours by hours and days by days, or `reset`",
             "ours",
         ),
         Refusal::NotACourtDay => push_closed(alloc, text, days, setting_asked(command)),
@@ -108,12 +108,12 @@ fn is_ordered(request: Option<Request>) -> bool
     }
 }
 
-/// Why a time isn't extended, or isn't reset by an order to a later end.
+/// Why a time isn't extended, or isn't reset by an order to a later end, nor from a day to a time of day or back.
 fn never_words(order: bool) -> &'static str
     ensures { result.now ≡ never_words order }
 {
     if order {
-        "this time isn't reset to a later end"
+        "isn't reset later, nor between a day and a time"
     } else {
         "this time must not be extended"
     }

@@ -129,6 +129,7 @@ named_periods =
     ∷ two_periods AppellateRules (codes "FRAP 4(a)(1)") (codes "4a1") (codes "30d/after/filing/event/60b") (codes "60d/after/filing/event/60b")
     ∷ one_period AppellateRules (codes "FRAP 4(a)(1)(A)") (codes "4a1a") (codes "frap4a1A") (codes "30d/after/filing/event/60b")
     ∷ one_period AppellateRules (codes "FRAP 4(a)(1)(B)") (codes "4a1b") (codes "frap4a1B") (codes "60d/after/filing/event/60b")
+    ∷ one_period AppellateRules (codes "FRAP 4(a)(3)") (codes "4a3") (codes "frap4a3") (codes "14d/after/filing/event/60b")
     ∷ two_periods AppellateRules (codes "FRAP 4(a)(4)") (codes "4a4") (codes "30d/after/filing/event/60b") (codes "60d/after/filing/event/60b")
     ∷ two_periods AppellateRules (codes "FRAP 4(a)(5)") (codes "4a5") (codes "30d/after/filing/event/60b") (codes "14d/after/filing/event/60b")
     ∷ [])

@@ -69,7 +69,7 @@ macro_rules! entered {
 }
 
 /// The sections, in the order of docs/law/RULES.md.
-static SECTIONS: [NamedPeriod; 78] = [
+static SECTIONS: [NamedPeriod; 79] = [
     entered!(CivilRules, "4(d)(1)(F)", "4d1f": "30d/after/service/event/plain", "60d/after/service/event/plain"),
     entered!(CivilRules, "5.1(c)", "5 1c", "5.1c": "60d/after/filing/event/plain"),
     entered!(CivilRules, "6(c)(1)", "6c1", "6c1": "14d/before/service/event/plain"),
@@ -146,6 +146,7 @@ static SECTIONS: [NamedPeriod; 78] = [
     entered!(AppellateRules, "FRAP 4(a)(1)", "4a1": "30d/after/filing/event/60b", "60d/after/filing/event/60b"),
     entered!(AppellateRules, "FRAP 4(a)(1)(A)", "4a1a", "frap4a1A": "30d/after/filing/event/60b"),
     entered!(AppellateRules, "FRAP 4(a)(1)(B)", "4a1b", "frap4a1B": "60d/after/filing/event/60b"),
+    entered!(AppellateRules, "FRAP 4(a)(3)", "4a3", "frap4a3": "14d/after/filing/event/60b"),
     entered!(AppellateRules, "FRAP 4(a)(4)", "4a4": "30d/after/filing/event/60b", "60d/after/filing/event/60b"),
     entered!(AppellateRules, "FRAP 4(a)(5)", "4a5": "30d/after/filing/event/60b", "14d/after/filing/event/60b"),
 ];

@@ -63,8 +63,15 @@ is_no_later (shown.Last d act) (shown.Last e act') = int_le e d
 is_no_later (shown.Until t) (shown.Until u) = int_le u t
 is_no_later _ _ = false
 
+-- The extension is of the kind of the end as it is, which is another than the period's where an order set it: by days or to a date from a
+-- last day, and by hours from an instant.
+abbrev pub fits_end : Shown → Grant → Bool
+fits_end (shown.Last d act) grant = grant_fits false grant
+fits_end (shown.Until t) grant = grant_fits true grant
+fits_end shown.Beyond grant = true
+
 -- In this order: the day asked or that of a date certain isn't covered; the deadline is beyond; its time must not be
--- extended; the extension is of another kind than the period; its length is out of range; there is no good cause
+-- extended; the extension is of another kind than the period, or than its end as it is; its length is out of range; there is no good cause
 -- (6(b)(1)); asked late, there is no motion, and no excusable neglect (6(b)(1)(B)); the extended deadline would be
 -- beyond; it wouldn't be later.
 abbrev pub extension_checks : DaysView → ClockView → DeadlineRowView → Request → List (Option PeriodRefusal)
@@ -77,6 +84,7 @@ extension_checks c clock row request =
     ∷ when (is_beyond now) Beyond
     ∷ when (is_never rule) NotExtendable
     ∷ when (not (grant_fits (is_in_hours row.period) request.grant)) WrongGrant
+    ∷ when (not (fits_end now request.grant)) WrongGrant
     ∷ when (not (is_grant_length request.grant)) BadLength
     ∷ when (asks_findings rule && not request.cause) NoGoodCause
     ∷ when (asks_findings rule && late && not request.motion) LateWithoutMotion

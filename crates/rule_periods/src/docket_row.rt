@@ -14,8 +14,8 @@ use rule6::{Filing, ServiceKind};
 use std::alloc::{AllocError, Global};
 use std::marker::Model;
 
-/// A deadline of the docket. Each of its extensions is by hours or to a time where its period ends at an instant, and by days
-/// or to a date where it ends with a day. An extension and an act are put into it in place.
+/// A deadline of the docket. Each of its extensions is by hours where its period ends at an instant, and by days or to a date
+/// where it ends with a day; an order may set either end of either. An extension and an act are put into it in place.
 #[derive(Debug, Drop)]
 pub struct DocketRow {
     row: DeadlineRow,

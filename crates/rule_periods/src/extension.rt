@@ -3,7 +3,7 @@
 ghost use Rattle.std.specs.Prelude.{◌≡◌, true, OnOk};
 ghost use Rattle.std.specs.Result.{result_err};
 ghost use Rattle.rule_periods.specs.Deadline.{with_grant};
-ghost use Rattle.rule_periods.specs.Extension.{extension_refusal, request_refusal, reset_refusal, is_covered_grant, is_beyond, is_never, asks_findings, is_asked_in_time, is_later, is_no_later};
+ghost use Rattle.rule_periods.specs.Extension.{extension_refusal, request_refusal, reset_refusal, is_covered_grant, is_beyond, is_never, asks_findings, is_asked_in_time, is_later, is_no_later, fits_end};
 ghost use Rattle.rule_periods.specs.Grant.{grant_fits, is_grant_length};
 ghost use Rattle.rule_periods.specs.Period.{is_in_hours};
 ghost use Rattle.rule_periods.specs.Showing.{shown_of};
@@ -66,10 +66,10 @@ fn check_order(
 
 /// Whether the request may be granted (Fed. R. Civ. P. 6(b); 4(m) for a period of that Rule). The first refusal that
 /// applies: `BadDay` where the day asked, or that of a date certain, isn't covered; `Beyond` where the deadline is;
-/// `NotExtendable`; `WrongGrant`; `BadLength`; then, unless the period is one of Rule 4(m), `NoGoodCause`, and, where
-/// the request came after the time had expired, `LateWithoutMotion` and `LateWithoutNeglect`; `Beyond` where the
-/// extended deadline would be; `NotLonger` where it wouldn't be later. A request is in time where an electronic filing
-/// at its moment would be timely.
+/// `NotExtendable`; `WrongGrant`, by the kind of the period and by that of the end as it is; `BadLength`; then, unless the
+/// period is one of Rule 4(m), `NoGoodCause`, and, where the request came after the time had expired, `LateWithoutMotion`
+/// and `LateWithoutNeglect`; `Beyond` where the extended deadline would be; `NotLonger` where it wouldn't be later. A
+/// request is in time where an electronic filing at its moment would be timely.
 #[tactic(auto, unfolding(crate::specs::Extension::request_refusal))]
 fn check_request(
     days: &Days,
@@ -93,6 +93,9 @@ fn check_request(
         return Err(PeriodRefusal::NotExtendable);
     }
     if !grant_fits(row.period().is_in_hours(), request.grant) {
+        return Err(PeriodRefusal::WrongGrant);
+    }
+    if !fits_end(&now, request.grant) {
         return Err(PeriodRefusal::WrongGrant);
     }
     if !is_grant_length(request.grant) {
@@ -171,6 +174,18 @@ fn is_instant_before(now: Instant, then: &Shown) -> bool
     match *then {
         Shown::Until(instant) => now.seconds() < instant.seconds(),
         _ => false,
+    }
+}
+
+/// Whether the extension is of the kind of the end as it is, which is another than the period's where an order set it: by days or to a
+/// date from a last day, and by hours from an instant.
+fn fits_end(now: &Shown, grant: Grant) -> bool
+    ensures { result ≡ fits_end now.now grant }
+{
+    match *now {
+        Shown::Last { .. } => grant_fits(false, grant),
+        Shown::Until(_) => grant_fits(true, grant),
+        Shown::Beyond => true,
     }
 }
 

@@ -17,7 +17,7 @@ pub enum Grant {
     Until(Day),
     /// To that day, which an order sets in place of the end so far, sooner or later. It isn't rolled. It is for any period.
     Reset(Day),
-    /// To that minute of a day, in the same way. It is for a period that ends at an instant.
+    /// To that minute of a day by the court's clock, in the same way. It is for any period.
     ResetAt(Event),
 }
 

@@ -9,7 +9,7 @@ use Rattle.rule6.specs.declared.timeliness.Shown.{Shown}
 use Rattle.rule_periods.specs.declared.grant.Grant.{Grant}
 use Rattle.rule_periods.specs.declared.grant.Request.{Request}
 use Rattle.rule_periods.specs.declared.mark.Mark.{Mark}
-use Rattle.rule_periods.specs.declared.mark.Mark.TheVariants.{Rule50b, Rule52b, Rule59b as Mark59b, Rule59e as Mark59e}
+use Rattle.rule_periods.specs.declared.mark.Mark.TheVariants.{Rule50b, Rule50d, Rule52b, Rule59b as Mark59b, Rule59e as Mark59e}
 use Rattle.rule_periods.specs.declared.period.Period.{Period}
 use Rattle.rule_periods.specs.declared.period.Period.TheVariants.{Rule as OfRule, Entered as OfText}
 use Rattle.rule_periods.specs.declared.rule.RulePeriod.{RulePeriod}
@@ -98,8 +98,8 @@ before_start direction start act = []
 abbrev pub early_act : Period → (start : ℤ) → (act : Option Filing) → List ℕ
 early_act period start act = if is_set period then [] else before_start (direction_of period) start act
 
--- a motion under one of these Rules gives the time for an appeal another beginning (Fed. R. App. P. 4(a)(4)): a period of the Rules, and
--- the mark of one that is entered
+-- A motion under one of these Rules gives the time for an appeal another beginning (Fed. R. App. P. 4(a)(4)): a period of the Rules, and
+-- the mark of one that is entered. 50(d) is the time of a losing party's motion under Rule 59.
 abbrev pub is_of_judgment : RulePeriod → Bool
 is_of_judgment Rule59b = true
 is_of_judgment Rule59e = true
@@ -107,6 +107,7 @@ is_of_judgment rule = false
 
 abbrev pub marks_judgment : Mark → Bool
 marks_judgment Rule50b = true
+marks_judgment Rule50d = true
 marks_judgment Rule52b = true
 marks_judgment Mark59b = true
 marks_judgment Mark59e = true

@@ -107,7 +107,7 @@ fn marks_judgment(mark: Mark) -> bool
 {
     matches!(
         mark,
-        Mark::Rule50b | Mark::Rule52b | Mark::Rule59b | Mark::Rule59e
+        Mark::Rule50b | Mark::Rule50d | Mark::Rule52b | Mark::Rule59b | Mark::Rule59e
     )
 }
 
