@@ -12,13 +12,13 @@ from lib.memo_head import HEAD
 
 # Texts with quotes, commas and backslashes too, and the longest.
 HOSTILE = TEXTS + ["\"quoted\" and 'single'", "a,b;c", "'); DROP TABLE cases; --", "back\\slash \\n \\, \\;", "</title></h3><b onclick=x>", "&lt;b&gt;",
-                   "%s {} `id`", "x" * 200, "\u20ac" * 66]
+                   "%s {} `id`", "\uff1d1\uff0b1", "x" * 200, "\u20ac" * 66]
 # The rows before those that call things something: a case, a deadline, and a motion with a hearing.
 BEGUN = ["1,open,1:25-cv-5,2025-01-06", "1,start,1:25-cv-5,59e,2025-08-04,,,", "1,motion,1:25-cv-5,2025-08-01,14",
          "1,book,1:25-cv-5,1,Ames,R1,2025-09-15,10:00,2,2025-08-29"]
 STAMP = ["--stamp", "20250901T120000Z"]
 # A day on which the motion has been pending for more than six months, and by what a program for tables takes a text for a formula.
-ON, FORMULAS = ["--on", "2026-03-31"], ("=", "+", "-", "@")
+ON, FORMULAS = ["--on", "2026-03-31"], ("=", "+", "-", "@", "\uff1d", "\uff0b", "\uff0d", "\uff20")
 # What an iCalendar text has in place of a character.
 ESCAPED = re.compile(r"\\(.)")
 

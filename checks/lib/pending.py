@@ -63,7 +63,7 @@ def table_of(names, lists):
     """The table for other programs, without titles and labels."""
     rows = [[item.judge, "case" if item.motion is None else "motion", called(names, item.case),
              "" if item.motion is None else str(item.motion), str(item.since), "", ""] for items in lists for item in items]
-    guarded = (("'" + field if field[:1] in ("=", "+", "-", "@", "\t", "\r") else field for field in row) for row in rows)
+    guarded = (("'" + field if field[:1] in ("=", "+", "-", "@", "\t", "\r", "\uff1d", "\uff0b", "\uff0d", "\uff20") else field for field in row) for row in rows)
     return "".join(line + "\n" for line in [",".join(HEADS), *(",".join('"{}"'.format(field.replace('"', '""')) for field in row) for row in guarded)])
 
 

@@ -2,7 +2,7 @@
 
 ghost use Rattle.std.specs.Prelude.{◌≡◌, ◌++◌, OnOk};
 ghost use Rattle.std.specs.List.{flat_map};
-ghost use Rattle.report_texts.specs.Csv.{begins_formula, csv_field, guard, guard_if, quote_doubled};
+ghost use Rattle.report_texts.specs.Csv.{begins_formula, begins_sign, begins_wide_sign, csv_field, guard, guard_if, is_sign, quote_doubled};
 
 use std::alloc::AllocError;
 
@@ -22,10 +22,7 @@ pub(crate) fn push_csv_field(bytes: &mut Vec<u8>, text: &[u8]) -> Result<(), All
 fn push_guard(bytes: &mut Vec<u8>, text: &[u8]) -> Result<(), AllocError>
     ensures { OnOk result (bytes.new.items ≡ bytes.old.items ++ guard text.now) }
 {
-    match text.split_first() {
-        Some((first, _)) => push_guard_if(bytes, begins_formula(*first)),
-        None => Ok(()),
-    }
+    push_guard_if(bytes, begins_formula(text))
 }
 
 fn push_guard_if(bytes: &mut Vec<u8>, begins: bool) -> Result<(), AllocError>
@@ -38,12 +35,37 @@ fn push_guard_if(bytes: &mut Vec<u8>, begins: bool) -> Result<(), AllocError>
     }
 }
 
+/// Whether a program for tables takes the text for a formula.
+fn begins_formula(text: &[u8]) -> bool
+    ensures { result ≡ begins_formula text.now }
+{
+    begins_sign(text) || begins_wide_sign(text)
+}
+
+/// Whether a text begins with a byte by which a formula begins.
+fn begins_sign(text: &[u8]) -> bool
+    ensures { result ≡ begins_sign text.now }
+{
+    match text.split_first() {
+        Some((first, _)) => is_sign(*first),
+        None => false,
+    }
+}
+
 /// Whether a formula begins by this byte, in one program or another.
-fn begins_formula(byte: u8) -> bool
-    ensures { result ≡ begins_formula byte }
+fn is_sign(byte: u8) -> bool
+    ensures { result ≡ is_sign byte }
 {
     (byte == b'=' || byte == b'+')
         || ((byte == b'-' || byte == b'@') || (byte == b'\t' || byte == b'\r'))
+}
+
+/// Whether a text begins with one of the four signs at full width.
+fn begins_wide_sign(text: &[u8]) -> bool
+    ensures { result ≡ begins_wide_sign text.now }
+{
+    (text.starts_with(&[0xEF, 0xBC, 0x9D]) || text.starts_with(&[0xEF, 0xBC, 0x8B]))
+        || (text.starts_with(&[0xEF, 0xBC, 0x8D]) || text.starts_with(&[0xEF, 0xBC, 0xA0]))
 }
 
 /// Adds each byte of a text, and a quote twice.
