@@ -3,7 +3,8 @@ use Rattle.std.proofs.Common.{◌≡◌, ◌∙◌, ◌||◌, ◌+◌, ◌-◌, 
 use Rattle.std.proofs.lemmas.Bool.Decides.{nat_tests}
 use Rattle.std.specs.List.{list_any}
 use Rattle.indexmap.specs.IndexSet.{insert_key}
-use Rattle.case_numbers.specs.Cases.{AreOpened, first_free}
+use Rattle.case_numbers.specs.Cases.{first_free}
+use Rattle.case_numbers.specs.Inside.Cases.{AreOpened}
 
 module _ (opened : List ℕ) (number : ℕ) where
   one_more : number < 4097 → 4097 - number ≡ suc (4097 - (number + 1))

@@ -1,5 +1,5 @@
 -- The cases that were opened, and the names of those that have one.
-use Rattle.std.specs.Prelude.{◌≡◌, ◌≤◌, ◌<◌, ℕ, zero, suc, ◌+◌, ◌||◌, true, List, [], ◌∷◌, ◌++◌, Option, Some, None, is_some, nat_eq, option_map, unwrap_or, if◌then◌else◌}
+use Rattle.std.specs.Prelude.{ℕ, zero, suc, ◌+◌, ◌||◌, List, [], ◌∷◌, ◌++◌, Option, Some, None, is_some, nat_eq, option_map, unwrap_or, if◌then◌else◌}
 use Rattle.std.specs.Fmt.{decimal}
 use Rattle.std.specs.List.{find, list_any}
 use Rattle.std.specs.Str.{bytes_eq}
@@ -38,12 +38,6 @@ first_free opened first (suc count) = if list_any (nat_eq first) opened then fir
 -- the least number that no case has
 abbrev pub fresh : CasesView → Option ℕ
 fresh cases = first_free cases.opened 1 last_number
-
--- each number from 1 to below this one was opened, which is one past the last number at most
-pub record AreOpened (opened : List ℕ) (first : ℕ) : Type 0 where
-  pub from_one : 1 ≤ first
-  pub within : first ≤ 4097
-  pub each : (n : ℕ) → 1 ≤ n → n < first → list_any (nat_eq n) opened ≡ true
 
 -- the named cases with one more: a number or a key that has its name already gets no other
 abbrev pub with_name : List NamedCase → (number : ℕ) → Option NameView → List NamedCase

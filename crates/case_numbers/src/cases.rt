@@ -1,6 +1,7 @@
 //! The cases that were opened, and the names of those that have one.
 ghost use Rattle.std.specs.Prelude.{◌≡◌, option_map, IfOk, OnErr, OnOk};
-ghost use Rattle.case_numbers.specs.Cases.{AreOpened, CasesView, fresh, name_of, no_cases, number_of, with_case};
+ghost use Rattle.case_numbers.specs.Cases.{CasesView, fresh, name_of, no_cases, number_of, with_case};
+ghost use Rattle.case_numbers.specs.Inside.Cases.{AreOpened};
 ghost use Rattle.case_numbers.specs.Laws.{AreApart};
 
 use crate::name::CaseName;

@@ -1,5 +1,5 @@
 use Rattle.std.proofs.Common.{◌∙◌, arith, subst, sym}
-use Rattle.case_numbers.specs.Cases.{AreOpened}
+use Rattle.case_numbers.specs.Inside.Cases.{AreOpened}
 use Rattle.case_numbers.proofs.FreeLemmas.{opened_more}
 use Rattle.case_numbers.proofs.cases.free_from.Goals as goal
 

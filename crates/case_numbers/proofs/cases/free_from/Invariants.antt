@@ -1,4 +1,4 @@
-use Rattle.case_numbers.specs.Cases.{AreOpened}
+use Rattle.case_numbers.specs.Inside.Cases.{AreOpened}
 use Rattle.case_numbers.proofs.cases.free_from.Given as goal
 
 -- all below the number were opened
