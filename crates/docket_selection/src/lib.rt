@@ -15,7 +15,7 @@ mod lists;
 mod pending;
 mod sheets;
 
-pub use bookings::{DayBookings, bookings_on, week_days, week_start};
+pub use bookings::{DayBookings, bookings_on, day_numbered, week_days, week_start};
 pub use calendars::{JudgeCalendar, calendars_of};
 pub use changes::{
     Change, HearingChange, HearingHistories, HearingHistory, RowChange, change_made,

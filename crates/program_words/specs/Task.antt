@@ -1,5 +1,5 @@
 -- What a subcommand asks for with what it was given, and the faults of what it was given.
-use Rattle.std.specs.Prelude.{◌≡◌, ℤ, ◌&&◌, ◌||◌, Bool, true, false, not, List, [], ◌∷◌, Option, None, Some, String, codes, is_some, option_map, string_bytes, if◌then◌else◌}
+use Rattle.std.specs.Prelude.{◌≡◌, ℤ, ◌||◌, Bool, false, List, [], ◌∷◌, Option, None, Some, String, codes, is_some, option_map, string_bytes, if◌then◌else◌}
 use Rattle.std.specs.Option.{option_and_then}
 use Rattle.std.specs.Str.{bytes_eq}
 use Rattle.std.specs.declared.alloc.Global.{Global}

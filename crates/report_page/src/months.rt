@@ -5,10 +5,10 @@ ghost use Rattle.office_texts.specs.Words.{AddsText};
 ghost use Rattle.court_clock.specs.Words.{day_in_month};
 ghost use Rattle.report_page.specs.Months.{back_heads, caption_back, first_of_month, front_heads, is_month_before, is_near, month_at, month_caption, month_heads, month_if_new, month_table, months_part};
 
-use crate::weeks::{day_numbered, is_month_of, push_weeks};
+use crate::weeks::{is_month_of, push_weeks};
 use court_clock::Day;
 use court_days::Court;
-use docket_selection::{JudgeCalendar, week_start};
+use docket_selection::{JudgeCalendar, day_numbered, week_start};
 use hearing_slots::Booking;
 use office_texts::judge_name;
 use page_markup::{Page, Tag};
@@ -51,7 +51,16 @@ fn push_each_month(
 {
     let mut before = None;
     for booking in bookings {
-        push_month_if_new(alloc, page, line, court, labels, calendar, before, booking.day)?;
+        push_month_if_new(
+            alloc,
+            page,
+            line,
+            court,
+            labels,
+            calendar,
+            before,
+            booking.day,
+        )?;
         before = Some(booking.day);
     }
     Ok(())

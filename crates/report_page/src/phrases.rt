@@ -36,13 +36,11 @@ pub(crate) fn set_day(line: &mut String, day: Day) -> Result<(), AllocError>
 }
 
 /// Makes the line the name of a case.
-#[tactic(auto, unfolding(crate::specs::Phrases::case_name))]
 pub(crate) fn set_case(line: &mut String, labels: &Labels<'_>, case: u32) -> Result<(), AllocError>
     ensures { OnOk result (string_bytes line.new ≡ case_name labels.now.cases case) }
 {
     line.clear();
-    line.push_str("case ")?;
-    push_case_text(line, labels.cases, case)
+    push_case_name(line, labels, case)
 }
 
 /// Adds the name of a case.
@@ -59,13 +57,11 @@ pub(crate) fn push_case_name(
 }
 
 /// Makes the line the name of a motion after that of its case.
-#[tactic(auto, unfolding(crate::specs::Phrases::motion_name))]
 pub(crate) fn set_motion(line: &mut String, motion: u32) -> Result<(), AllocError>
     ensures { OnOk result (string_bytes line.new ≡ motion_name motion) }
 {
     line.clear();
-    line.push_str(", motion ")?;
-    push_number(line, u64::from(motion))
+    push_motion_name(line, motion)
 }
 
 /// Adds the name of a motion after that of its case.

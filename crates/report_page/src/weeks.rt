@@ -3,7 +3,6 @@
 ghost use Rattle.std.specs.Prelude.{◌≡◌, ◌++◌, ◌*◌, ◌+ℤ◌, pos, codes, OnOk, string_bytes};
 ghost use Rattle.std.specs.Fmt.{decimal};
 ghost use Rattle.std.specs.List.{flat_map};
-ghost use Rattle.docket_selection.specs.Words.{day_numbered};
 ghost use Rattle.report_texts.specs.Words.{span_words};
 ghost use Rattle.report_page.specs.Weeks.{block, block_if_on, date_tag, day_cell, is_month_of, month_weeks, week_if_in, week_on, week_row};
 
@@ -11,7 +10,7 @@ use crate::load::{push_load, week_load};
 use crate::phrases::set_motion;
 use crate::tables::push_case_link;
 use court_clock::Day;
-use docket_selection::{week_days, week_start};
+use docket_selection::{day_numbered, week_days, week_start};
 use hearing_slots::Booking;
 use office_texts::push_number;
 use page_markup::{Page, Tag};
@@ -23,14 +22,6 @@ pub(crate) fn is_month_of(x: Day, y: Day) -> bool
     ensures { result ≡ is_month_of x y }
 {
     x.month_after(0) == y.month_after(0)
-}
-
-/// The day of that number, if it is one.
-pub(crate) fn day_numbered(number: i32) -> Option<Day>
-    ensures { result ≡ day_numbered number }
-{
-    let day = Day::new(number)?;
-    Some(day)
 }
 
 /// Adds a number of weeks, from that on in which the month begins.
