@@ -1,6 +1,6 @@
 //! The months of a judge, each as a grid of weeks.
 
-ghost use Rattle.std.specs.Prelude.{◌≡◌, ◌++◌, ◌+ℤ◌, ◌-ℤ◌, pos, filter, IfOk, OnOk, string_bytes};
+ghost use Rattle.std.specs.Prelude.{◌≡◌, ◌++◌, ◌∷◌, [], ◌+ℤ◌, ◌-ℤ◌, pos, filter, IfOk, OnOk, string_bytes, if◌then◌else◌};
 ghost use Rattle.office_texts.specs.Words.{AddsText};
 ghost use Rattle.court_clock.specs.Words.{day_in_month};
 ghost use Rattle.report_page.specs.Months.{back_heads, caption_back, first_of_month, front_heads, is_month_before, is_near, month_at, month_caption, month_heads, month_if_new, month_table, months_part};
@@ -9,7 +9,7 @@ use crate::weeks::{is_month_of, push_weeks};
 use court_clock::Day;
 use court_days::Court;
 use docket_selection::{JudgeCalendar, day_numbered, week_start};
-use hearing_slots::Booking;
+use hearing_slots::{Booking, Need};
 use office_texts::judge_name;
 use page_markup::{Page, Tag};
 use report_texts::{Labels, push_whole_day};
@@ -140,7 +140,7 @@ fn push_month_at(
     }
 }
 
-/// Those of the bookings that are in the six weeks from that on in which the month begins.
+/// Those of the bookings that are in the six weeks from that on in which the month begins. No other is copied.
 fn near_bookings(
     alloc: Global,
     bookings: &[Booking],
@@ -148,9 +148,23 @@ fn near_bookings(
 ) -> Result<Vec<Booking>, AllocError>
     ensures { IfOk result (λ list. list.items ≡ filter (is_near first) bookings.now) }
 {
-    let mut list = Vec::from_slice(alloc, bookings)?;
-    list.retain(|booking| is_near(first, booking));
+    let mut list = Vec::new(alloc);
+    for booking in bookings {
+        push_if_near(&mut list, first, booking)?;
+    }
     Ok(list)
+}
+
+/// Adds a booking, if it is in these six weeks.
+fn push_if_near(list: &mut Vec<Booking>, first: Day, booking: &Booking) -> Result<(), AllocError>
+    ensures { OnOk result (list.new.items ≡ list.old.items ++ (if is_near first booking.now then booking.now ∷ [] else [])) }
+{
+    // The types inside a booking: the checker finds them only where they have names.
+    let _types: Option<(Need, Day)> = None;
+    if is_near(first, booking) {
+        list.push(*booking)?;
+    }
+    Ok(())
 }
 
 /// Whether a booking is in these six weeks.
