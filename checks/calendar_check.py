@@ -456,11 +456,11 @@ def made_words(chance, names, court, docket, sheets, reasons):
     counted, overdue = (words == ["due"] and chance.random() < often for often in (0.2, 0.3))
     first, last, asked_for = counted_days(chance, days) if counted else asked_days(chance, days, *span, 0.6)
     words += asked_for
+    said = missing_days(first, last, *span)
     if overdue and not counted:
-        today = chance.choice(days) + datetime.timedelta(chance.randint(0, 3))
+        today = chance.choice(days + [span[0]]) + datetime.timedelta(chance.randint(0, 3))
         words += ["--overdue", "--today", str(today)]
         last = min(last, today - datetime.timedelta(1))
-    said = missing_days(first, last, *span)
     if judges and chance.random() < 0.4:
         judge = chance.choice(judges)
         words += ["--judge", judge]

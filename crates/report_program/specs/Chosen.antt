@@ -36,12 +36,6 @@ today_of court asked = unwrap_or asked.today (today_by court.clock asked.clock_t
 abbrev pub day_asked : CourtView → Asked → Option DaySaid → (other : ℤ) → ℤ
 day_asked court asked said other = unwrap_or (option_map (day_on (today_of court asked)) said) other
 
--- the last day: what is overdue ended before today
-abbrev pub last_asked : CourtView → Asked → ℤ
-last_asked court asked =
-    let to = day_asked court asked asked.to court.days.to in
-    if asked.overdue then earlier_day to (day_on (today_of court asked) (Before 1)) else to
-
 -- of that judge or of any, and of that case or of any: all days of the court's file, as far as nothing else is asked for
 abbrev pub choice_of : CourtView → (case : Option ℕ) → Asked → (met : Bool) → (judge : Option ℕ) → Choice
 choice_of court case asked met judge = record {
@@ -49,7 +43,7 @@ choice_of court case asked met judge = record {
   elsewhere = false;
   case = case;
   from = day_asked court asked asked.from court.days.from;
-  to = last_asked court asked;
+  to = day_asked court asked asked.to court.days.to;
   met = met;
   overdue = asked.overdue;
 }
@@ -150,6 +144,18 @@ missing_days days (Json choice) = missing_between days choice
 missing_days days Lines = None
 missing_days days Sql = None
 
+-- the last day on which something ended that is listed: what is overdue ended before today
+abbrev pub last_ended : CourtView → Asked → (to : ℤ) → ℤ
+last_ended court asked to = if asked.overdue then earlier_day to (day_on (today_of court asked) (Before 1)) else to
+
+abbrev pub ended_choice : CourtView → Asked → Choice → Choice
+ended_choice court asked choice = record choice { to = last_ended court asked choice.to }
+
+-- What is chosen up to that day. All days that are asked for may be later; then nothing is overdue.
+abbrev pub up_to_ended : CourtView → Asked → Chosen → Chosen
+up_to_ended court asked (Listed (Due choice)) = Listed (Due (ended_choice court asked choice))
+up_to_ended court asked other = other
+
 abbrev pub unless_missing : Chosen → Option Missing → Result Chosen Missing
 unless_missing chosen (Some missing) = Err missing
 unless_missing chosen None = Ok chosen
@@ -159,4 +165,4 @@ unfoldable pub chosen_of : CourtView → List NamedCase → Asked → Result Cho
 chosen_of court named asked = do
   case ← ok_or (case_given named asked.case) missing.Case
   chosen ← ok_or (chosen_by court case asked) missing.Judge
-  unless_missing chosen (missing_days court.days chosen)
+  unless_missing (up_to_ended court asked chosen) (missing_days court.days chosen)

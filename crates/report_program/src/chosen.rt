@@ -2,7 +2,7 @@
 
 ghost use Rattle.std.specs.Prelude.{◌≡◌, option_map, string_bytes};
 ghost use Rattle.court_clock.specs.Words.{earlier_day};
-ghost use Rattle.report_program.specs.Chosen.{case_given, choice_asked, choice_of, chosen_by, chosen_of, day_asked, due_chosen, form_asked, ics_chosen, json_chosen, judge_given, last_asked, missing_backwards, missing_between, missing_day, missing_days, missing_listed, page_chosen, page_of_case, pending_chosen, sheet_chosen, today_of, week_chosen};
+ghost use Rattle.report_program.specs.Chosen.{case_given, choice_asked, choice_of, chosen_by, chosen_of, day_asked, due_chosen, ended_choice, form_asked, ics_chosen, json_chosen, judge_given, last_ended, missing_backwards, missing_between, missing_day, missing_days, missing_listed, page_chosen, page_of_case, pending_chosen, sheet_chosen, today_of, up_to_ended, week_chosen};
 
 use crate::asked::{Asked, Task};
 use court_clock::{Day, Instant};
@@ -92,7 +92,7 @@ pub(crate) fn chosen_of(
     };
     match missing_days(court, &chosen) {
         Some(missing) => Err(missing),
-        None => Ok(chosen),
+        None => Ok(up_to_ended(court, asked, &chosen)),
     }
 }
 
@@ -289,17 +289,37 @@ fn choice_of(
         elsewhere: false,
         case,
         from: day_asked(court, asked, asked.from, court.days().from()),
-        to: last_asked(court, asked),
+        to: day_asked(court, asked, asked.to, court.days().to()),
         met,
         overdue: asked.overdue,
     }
 }
 
-/// The last day: the one that is asked for, and where only what is overdue is asked for at the latest the day before today.
-fn last_asked(court: &Court, asked: &Asked) -> Day
-    ensures { result ≡ last_asked court.now asked.now }
+/// What is chosen, up to the last day on which something ended that is listed.
+fn up_to_ended(court: &Court, asked: &Asked, chosen: &Chosen) -> Chosen
+    ensures { result ≡ up_to_ended court.now asked.now chosen.now }
 {
-    let to = day_asked(court, asked, asked.to, court.days().to());
+    match chosen {
+        Chosen::Listed(Listing::Due(choice)) => {
+            Chosen::Listed(Listing::Due(ended_choice(court, asked, choice)))
+        }
+        _ => *chosen,
+    }
+}
+
+/// The same choice, up to that day.
+fn ended_choice(court: &Court, asked: &Asked, choice: &Choice) -> Choice
+    ensures { result ≡ ended_choice court.now asked.now choice.now }
+{
+    let mut ended = *choice;
+    ended.to = last_ended(court, asked, choice.to);
+    ended
+}
+
+/// That day, where this is the last that is asked for: at the latest the day before today, where only what is overdue is listed.
+fn last_ended(court: &Court, asked: &Asked, to: Day) -> Day
+    ensures { result ≡ last_ended court.now asked.now to }
+{
     if !asked.overdue {
         return to;
     }
