@@ -15,6 +15,6 @@ pub use Rattle.desk_program.specs.RowCorrection.{CorrectsRow, IsCorrected, Leave
 pub use Rattle.desk_program.specs.Rows.{written_rows}
 pub use Rattle.desk_program.specs.Shown.{lines_shown}
 pub use Rattle.desk_program.specs.Struck.{struck_text}
-pub use Rattle.desk_program.specs.TimeOrder.{earlier_in}
+pub use Rattle.desk_program.specs.TimeOrder.{earlier_in, earlier_line}
 pub use Rattle.desk_program.specs.Together.{IsAtFault, IsDocketAllOrNone, KeepsTogether, RefusesLines, SaysWhatIsKept, StopsList, faults_in, line_faults_text, stop_of, stopped_text}
 pub use Rattle.desk_program.specs.Trial.{IsTried, IsTriedInPart}

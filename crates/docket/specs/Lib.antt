@@ -1,3 +1,4 @@
+pub mod Beside
 pub mod CasePage
 pub mod Endings
 pub mod Folder

@@ -1,10 +1,11 @@
 //! What the program does beside another one that may enter rows.
-ghost use Rattle.std.specs.Prelude.{◌≡◌, ◌≤◌, ℕ, List, None, false, length, IfOk, IfSome, OnOk};
+ghost use Rattle.std.specs.Prelude.{◌≡◌, ◌≤◌, ℕ, List, None, false, length, IfErr, IfOk, IfSome, OnOk};
 ghost use Rattle.desk_session.specs.declared.outcome.Tally.{Tally};
 ghost use Rattle.desk_entries.specs.Words.{IsDocketed, most_entries};
 ghost use Rattle.desk_journal.specs.Words.{batch_of};
 ghost use Rattle.desk_program.specs.Words.{AnswersQuestions, IsTried, KeepsDocket, earlier_in, held_at, leaves_at, outcome_at, standing_at};
 ghost use Rattle.desk_session.specs.Words.{lines_of, tally_of};
+ghost use Rattle.docket.specs.Beside.{IsTimesFault};
 ghost use Rattle.docket.specs.Reports.{WritesCases, WritesRows};
 ghost use Rattle.docket.specs.Sessions.{WithTally};
 ghost use Rattle.program_streams.specs.Words.{has_failed, watched};
@@ -211,11 +212,13 @@ pub fn struck<W: Write>(
 
 // Looks whether an entry of a journal is of an earlier time than the one before it.
 fn check_times(alloc: Global, entries: &[Vec<u8>], stamps: &[Stamp]) -> Result<(), Fault>
-    ensures { OnOk result (earlier_in (batch_of entries.now) stamps.now ≡ None) }
+    ensures onward { OnOk result (earlier_in (batch_of entries.now) stamps.now ≡ None) }
+    ensures back { IfErr result (IsTimesFault (earlier_in (batch_of entries.now) stamps.now)) }
 {
-    match earlier_entry(alloc, entries, stamps)? {
-        None => Ok(()),
-        Some(line) => Err(Fault::Unusable(line)),
+    match earlier_entry(alloc, entries, stamps) {
+        Ok(None) => Ok(()),
+        Ok(Some(line)) => Err(Fault::Unusable(line)),
+        Err(_) => Err(Fault::Desk(DeskFault::OutOfMemory)),
     }
 }
 

@@ -201,7 +201,14 @@ fn entered<H: Threads + Wait + Sync, W: Write, E: Write>(
 {
     let marked = asked.held_back.are_marked();
     let joined = is_each(&asked.keeping);
-    match rows_of(rt, errors, session.left.court(), asked.lines, marked, joined) {
+    match rows_of(
+        rt,
+        errors,
+        session.left.court(),
+        asked.lines,
+        marked,
+        joined,
+    ) {
         Ok(Some(rows)) => kept_at_once(rt, threads, writer, errors, folder, asked, session, &rows),
         Ok(None) => plain_entered(rt, threads, writer, errors, folder, asked, session),
         Err(fault) => {

@@ -1,6 +1,6 @@
 -- A docket that has taken all rows shows what the rows come to.
 use Rattle.std.proofs.Common.{◌≡◌, ◌∙◌, ℕ, false, List, Option, Some, None, Result, Ok, Err, Vec, option_map, refl, sym, ap, subst}
-use Rattle.std.specs.Prelude.{IfSome, IsOkAnd, if◌then◌else◌}
+use Rattle.std.specs.Prelude.{IfSome, IsOkAnd, is_some, if◌then◌else◌}
 use Rattle.std.specs.declared.alloc.Global.{Global}
 use Rattle.case_numbers.specs.declared.names.NamedCase.{NamedCase}
 use Rattle.court_days.specs.Words.{CourtView}
@@ -60,3 +60,8 @@ text_is asked court labels past rows chosen is None found same so =
 text_is asked court labels past rows chosen is (Some text) found same so =
     subst (λ (f : Option (Finding (Vec ℕ Global))). IfSome f (IsFinding (λ t. t.items) (IsCalendar asked court labels past rows) (IsMissing asked court labels.cases rows))) (sym same)
     (subst (λ (r : Result Chosen Missing). IsOkAnd r (λ ch. IsTextOf court labels past rows ch text.items)) (sym is) so)
+
+-- something is found where there is a text
+pub found_if_text : (text : Option (Vec ℕ Global)) (found : Option (Finding (Vec ℕ Global))) → found ≡ option_map (λ (t : Vec ℕ Global). Text t) text → is_some found ≡ is_some text
+found_if_text None found same = ap is_some same
+found_if_text (Some text) found same = ap is_some same

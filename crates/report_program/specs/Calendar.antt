@@ -1,5 +1,5 @@
 -- What is written of a docket after all its rows.
-use Rattle.std.specs.Prelude.{◌≡◌, ℕ, ℤ, Bool, true, false, List, [], ◌++◌, Option, Some, None, codes, length, map, string_bytes, IsErrAnd, IsOkAnd, IsSome}
+use Rattle.std.specs.Prelude.{◌≡◌, ℕ, ℤ, Bool, true, false, not, List, [], ◌++◌, Option, Some, None, Result, Ok, Err, codes, length, map, string_bytes, IsErrAnd, IsOkAnd, IsSome}
 use Rattle.std.specs.declared.alloc.Global.{Global}
 use Rattle.std.specs.Prelude.{String}
 use Rattle.office_texts.specs.Names.Words.{called_text}
@@ -146,6 +146,16 @@ lost_of court past rows = lost_since past ++ lost_made past.given (setup_of cour
 abbrev pub is_calendar : Listing → Bool
 is_calendar (Ics choice stamp) = true
 is_calendar other = false
+
+-- what is chosen rests on the docket alone
+abbrev pub is_of_docket : Chosen → Bool
+is_of_docket (Listed listing) = not (is_calendar listing)
+is_of_docket other = false
+
+-- so does what is found of what was asked for, also where it isn't there
+abbrev pub rests_on_docket : Result Chosen Missing → Bool
+rests_on_docket (Ok chosen) = is_of_docket chosen
+rests_on_docket (Err missing) = true
 
 -- the text of what is chosen
 abbrev pub IsTextOf : CourtView → LabelsView → PastView → List NumberedRow → Chosen → List ℕ → Type 0

@@ -1,12 +1,12 @@
 //! What is asked for of a docket that has taken all rows already: they aren't decided again.
 
-ghost use Rattle.std.specs.Prelude.{◌≡◌, List, Ok, Err, option_map, IfOk, IfSome};
+ghost use Rattle.std.specs.Prelude.{◌≡◌, true, not, List, Ok, Err, is_some, option_map, IfOk, IfSome};
 ghost use Rattle.docket_rows.specs.Words.{setup_of};
 ghost use Rattle.row_forms.specs.declared.numbered.NumberedRow.{NumberedRow as NumberedRowOf};
 ghost use Rattle.office_texts.specs.Run.Words.{Holds};
 ghost use Rattle.program_runs.specs.declared.report.Finding.TheVariants.{Text as TextFound};
 ghost use Rattle.program_runs.specs.Words.{IsFinding};
-ghost use Rattle.report_program.specs.Calendar.{IsCalendar, IsListing, IsMissing, IsTextOf, changes_by, docketed_by, is_calendar, lost_of};
+ghost use Rattle.report_program.specs.Calendar.{IsCalendar, IsListing, IsMissing, IsTextOf, changes_by, docketed_by, is_calendar, is_of_docket, lost_of, rests_on_docket};
 ghost use Rattle.report_program.specs.Opened.{found_of};
 ghost use Rattle.report_program.specs.Past.{PastView};
 ghost use Rattle.report_texts.specs.Words.{labels_of};
@@ -25,7 +25,7 @@ use program_runs::Finding;
 use report_texts::{Labels, holiday_names};
 use std::alloc::{AllocError, Global};
 
-/// What was asked for of this docket, as `report_of` finds it of the rows that the docket has taken; nothing where it rests on
+/// What was asked for of this docket, as `report_of` finds it of the rows that the docket has taken; None just where it rests on
 /// the rows themselves, as a calendar for calendar programs, JSON and SQL do. `Err` says that memory ran out.
 pub fn report_of_docket(
     alloc: Global,
@@ -38,8 +38,10 @@ pub fn report_of_docket(
     docket: &Docket,
 ) -> Result<Option<Finding<Vec<u8>>>, AllocError>
     requires { docket.now.setup ≡ setup_of court.now }
-    ensures { (past : PastView) (rows : List NumberedRowOf) → Holds (setup_of court.now) docket.now (docketed_by court.now rows)
+    ensures found { (past : PastView) (rows : List NumberedRowOf) → Holds (setup_of court.now) docket.now (docketed_by court.now rows)
         → IfOk result (λ found. IfSome found (IsFinding (λ text. text.items) (IsCalendar asked.now court.now (labels_of file.now cases.now.named moved.now called.now) past rows) (IsMissing asked.now court.now cases.now.named rows))) }
+    ensures some { (rows : List NumberedRowOf) → Holds (setup_of court.now) docket.now (docketed_by court.now rows)
+        → IfOk result (λ found. is_some found ≡ rests_on_docket (found_of court.now cases.now.named rows asked.now)) }
 {
     let found = holiday_names(alloc, file)?;
     let labels = Labels {
@@ -61,8 +63,10 @@ fn answer_in(
     docket: &Docket,
 ) -> Result<Option<Finding<Vec<u8>>>, AllocError>
     requires court { docket.now.setup ≡ setup_of court.now }
-    ensures { (past : PastView) (rows : List NumberedRowOf) → Holds (setup_of court.now) docket.now (docketed_by court.now rows)
+    ensures found { (past : PastView) (rows : List NumberedRowOf) → Holds (setup_of court.now) docket.now (docketed_by court.now rows)
         → IfOk result (λ found. IfSome found (IsFinding (λ text. text.items) (IsCalendar asked.now court.now labels.now past rows) (IsMissing asked.now court.now labels.now.cases rows))) }
+    ensures some { (rows : List NumberedRowOf) → Holds (setup_of court.now) docket.now (docketed_by court.now rows)
+        → IfOk result (λ found. is_some found ≡ rests_on_docket (found_of court.now labels.now.cases rows asked.now)) }
 {
     let _types: ChosenTypes = None;
     let found = found_in(alloc, court, labels, docket, asked)?;
@@ -82,8 +86,9 @@ fn text_found(
     chosen: &Chosen,
 ) -> Result<Option<Finding<Vec<u8>>>, AllocError>
     requires court { docket.now.setup ≡ setup_of court.now }
-    ensures { (past : PastView) (rows : List NumberedRowOf) → Holds (setup_of court.now) docket.now (docketed_by court.now rows) → found_of court.now labels.now.cases rows asked.now ≡ Ok chosen.now
+    ensures found { (past : PastView) (rows : List NumberedRowOf) → Holds (setup_of court.now) docket.now (docketed_by court.now rows) → found_of court.now labels.now.cases rows asked.now ≡ Ok chosen.now
         → IfOk result (λ found. IfSome found (IsFinding (λ text. text.items) (IsCalendar asked.now court.now labels.now past rows) (IsMissing asked.now court.now labels.now.cases rows))) }
+    ensures some { IfOk result (λ found. is_some found ≡ is_of_docket chosen.now) }
 {
     let text = text_in(alloc, court, labels, docket, chosen)?;
     Ok(as_found(text))
@@ -107,8 +112,9 @@ fn line_found(
     labels: &Labels<'_>,
     missing: &Missing,
 ) -> Result<Option<Finding<Vec<u8>>>, AllocError>
-    ensures { (past : PastView) (rows : List NumberedRowOf) → found_of court.now labels.now.cases rows asked.now ≡ Err missing.now
+    ensures found { (past : PastView) (rows : List NumberedRowOf) → found_of court.now labels.now.cases rows asked.now ≡ Err missing.now
         → IfOk result (λ found. IfSome found (IsFinding (λ text. text.items) (IsCalendar asked.now court.now labels.now past rows) (IsMissing asked.now court.now labels.now.cases rows))) }
+    ensures some { IfOk result (λ found. is_some found ≡ true) }
 {
     let line = missing_line(alloc, court, labels, asked, missing)?;
     Ok(Some(Finding::Missing(line)))
@@ -123,8 +129,9 @@ fn text_in(
     chosen: &Chosen,
 ) -> Result<Option<Vec<u8>>, AllocError>
     requires court { docket.now.setup ≡ setup_of court.now }
-    ensures { (past : PastView) (rows : List NumberedRowOf) → Holds (setup_of court.now) docket.now (docketed_by court.now rows)
+    ensures found { (past : PastView) (rows : List NumberedRowOf) → Holds (setup_of court.now) docket.now (docketed_by court.now rows)
         → IfOk result (λ text. IfSome text (λ text. IsTextOf court.now labels.now past rows chosen.now text.items)) }
+    ensures some { IfOk result (λ text. is_some text ≡ is_of_docket chosen.now) }
 {
     match chosen {
         Chosen::Listed(listing) => listed_in(alloc, court, labels, docket, listing),
@@ -141,8 +148,9 @@ fn listed_in(
     listing: &Listing,
 ) -> Result<Option<Vec<u8>>, AllocError>
     requires court { docket.now.setup ≡ setup_of court.now }
-    ensures { (past : PastView) (rows : List NumberedRowOf) → Holds (setup_of court.now) docket.now (docketed_by court.now rows)
+    ensures found { (past : PastView) (rows : List NumberedRowOf) → Holds (setup_of court.now) docket.now (docketed_by court.now rows)
         → IfOk result (λ text. IfSome text (λ text. IsListing court.now labels.now (docketed_by court.now rows) (changes_by court.now past rows) (lost_of court.now past rows) past.corrections listing.now text.items)) }
+    ensures some { IfOk result (λ text. is_some text ≡ not (is_calendar listing.now)) }
 {
     if is_calendar(listing) {
         return Ok(None);

@@ -19,7 +19,7 @@ returns-in-Some c =
     let rows = rows_standing under entries in
     let holds = subst (Holds (setup_of under.court) c.docket.result.now) (sym (of_the_docket under entries at.begun)) (c.docket.ensures under entries at) in
     found_of_entries c.args.asked.now entries under c.requires.docketed.standing c.in-Some.found
-    (rw (c.standing_file.ensures, c.cases.ensures under entries at, c.moved.ensures, c.numbers.ensures under entries at, c.called.ensures under entries at, c.in-Some.is) at (c.in_ok-found.ensures (past_of under entries) rows holds))
+    (rw (c.standing_file.ensures, c.cases.ensures under entries at, c.moved.ensures, c.numbers.ensures under entries at, c.called.ensures under entries at, c.in-Some.is) at (c.in_ok-found.ensures.found (past_of under entries) rows holds))
 
 pub returns-in-None : goal.returns-in-None
 returns-in-None c = c.report_by_rows.ensures c.requires.docketed
