@@ -29,8 +29,10 @@ from lib.written_trials import check_broken, check_misspelt, check_sections, che
 
 SAID = TOP / "runs" / "written" / "said.txt"
 COURT = SHORT_COURT.replace(b'["Ames", "Brandt"]', b'["Ames", "Brandt", "OBrien", "Smith-Jones", "J.Kaplan"]').replace(
-    b'["R1"]', b'["11A", "11B", "Annex-2"]')
+    b'["R1"]', b'["11A", "11B", "Annex-2"]') + b'[short_names]\nKaplan = "J.Kaplan"\nannex = "Annex-2"\nnobody = "Cole"\n'
 JUDGES, ROOMS = ["Ames", "Brandt", "OBrien", "Smith-Jones", "J.Kaplan"], ["11A", "11B", "Annex-2"]
+# Names of these for short, and one of nobody.
+SHORTS = {"Kaplan": "J.Kaplan", "annex": "Annex-2", "nobody": "Cole"}
 MONTHS = ["Jan", "Feb", "Mar", "Apr", "May", "Jun", "Jul", "Aug", "Sep", "Oct", "Nov", "Dec"]
 LONG = ["January", "February", "March", "April", "May", "June", "July", "August", "September", "October", "November", "December"]
 # The periods of the Rules, and how they are cited.
@@ -176,6 +178,8 @@ def loosened(draw, style, column, text):
         return draw.choice(spelled_section(draw.choice(NAMED[text])))
     if column == "kind?":
         return draw.choice(KINDS[text] + [text, text.lower()])
+    if column in ("judge", "judge.", "referred?") and draw.random() < 0.2:
+        return text.replace("J.Kaplan", "Kaplan")
     if column in ("judge", "judge.", "referred?"):
         return draw.choice([str, str.upper, str.lower])(text).replace("+", draw.choice(["+", " + "])).replace("J.", draw.choice(["J.", "J. "]))
     if column in ("room", "command", "motion"):
@@ -427,7 +431,7 @@ def main(words):
             for _ in range(4):
                 check_style(desk, draw, style, max(1, count // len(STYLES) // 4 + 1))
         print("{} rows in {} styles, each read as the row it was made from".format(count, len(STYLES)))
-        print("{} of {} fields with blanks and dots in them are read, and the others are faults".format(check_broken(desk, draw, count, JUDGES, ROOMS), count))
+        print("{} of {} fields with blanks and dots in them are read, and the others are faults".format(check_broken(desk, draw, count, JUDGES, ROOMS, SHORTS), count))
         print("{} misspelt periods, each with its suggestion or with none".format(check_misspelt(desk, draw, count // 10)))
         print("{} sections whose periods are entered, each read as its text or said to be one of two".format(check_sections(desk, draw)))
         print("{} triggers, each written out as the rows that it starts".format(check_triggers(desk)))

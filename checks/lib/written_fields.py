@@ -78,10 +78,12 @@ def time_in(text):
     return "{:02}:{:02}".format(hour, minute)
 
 
-def name_in(text, names):
-    """The very name, or the only one that differs in capitals, blanks, and dots after letters alone."""
+def name_in(text, names, shorts):
+    """The very name, or the one of which it is the short one, or the only one that differs in capitals, blanks, and dots after letters alone."""
     if text.strip() in names:
         return text.strip()
+    if shorts.get(text.strip()) in names:
+        return shorts[text.strip()]
     fits = [name for name in names if passed_over(name) == passed_over(text)]
     return fits[0] if len(fits) == 1 else None
 

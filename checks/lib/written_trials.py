@@ -14,8 +14,11 @@ START = "1,start,12,{},2025-08-04,,,"
 BOOK = "1,book,12,1,{},{},2025-10-06,10:00,{},2025-09-15"
 
 
-def kinds_of(judges, rooms):
+def kinds_of(judges, rooms, shorts):
     """Rows with a place for a field: the row, fields that may be there, and what reads them."""
+    def or_short(names):
+        return names + [short for short, name in shorts.items() if name in names]
+
     return [
         ("{},sheet,12", ["1", "12", "64"], lambda text: number_in(text, 1, 64)),
         ("1,sheet,{}", ["7", "12", "409", "1:25-cv-01234", "25-cv-12-ABC", "4:25-CR-00007-A.B.C.", "26-CV-2011 (MTL)", "25-cv-7 (JRT/DLM)",
@@ -24,8 +27,8 @@ def kinds_of(judges, rooms):
         ("1,cancel,12,{}", ["1", "23"], lambda text: number_in(text, 1, 10**9)),
         ("1,motion,12,2025-09-15,{}", ["7", "14", "21"], lambda text: number_in(text, 0, 10**9)),
         (BOOK.format("Ames", "11A", "{}"), ["2", "12", "3q", "12Q"], slots_in),
-        (BOOK.format("Ames", "{}", "2"), rooms, lambda text: name_in(text, rooms)),
-        (BOOK.format("{}", "11A", "2"), judges, lambda text: name_in(text, judges)),
+        (BOOK.format("Ames", "{}", "2"), or_short(rooms), lambda text: name_in(text, rooms, shorts)),
+        (BOOK.format("{}", "11A", "2"), or_short(judges), lambda text: name_in(text, judges, shorts)),
         ("1,extend,12,2,{},2025-09-10,11:30,no,yes,no", ["+14d", "+24H", "+120d"], grant_in),
         (START, ["59(e)", "Rule 12(a)(3)", "Fed. R. Civ. P. 12(a)(1)(A)(i)", "FRCP 4(m)", "33(b)(2)", "28 U.S.C. 1447(c)", "14d/after/filing/event/plain",
                  "120h/before/service/event/plain"], period_in),
@@ -47,9 +50,9 @@ def faults_in(desk, lines):
     return {fault["line"]: fault for fault in faults}
 
 
-def check_broken(desk, draw, count, judges, rooms):
+def check_broken(desk, draw, count, judges, rooms, shorts):
     """So many fields with blanks and dots in them are each read as the formats have it, or are a fault."""
-    tried, kinds = [], kinds_of(judges, rooms)
+    tried, kinds = [], kinds_of(judges, rooms, shorts)
     for _ in range(count):
         row, fields, reader = draw.choice(kinds)
         field = broken(draw, draw.choice(fields))

@@ -1,10 +1,9 @@
 //! Faults of a list of names.
 
 ghost use Rattle.std.specs.Prelude.{◌≡◌, ◌||◌, ◌++◌, [], Some, OnOk};
-ghost use Rattle.std.specs.List.{list_all};
 ghost use Rattle.std.specs.Str.{bytes_eq};
 ghost use Rattle.toml.specs.View.{table_view, view, items_view};
-ghost use Rattle.court_file_text.specs.Words.{and_desk_name, is_name, is_name_byte, is_named};
+ghost use Rattle.court_file_text.specs.Words.{and_desk_name, is_named};
 ghost use Rattle.court_file_check.specs.Faults.{and_good, each_name, faulty, names_faults};
 ghost use Rattle.court_file_check.specs.Inside.Names.{texts_of};
 
@@ -93,24 +92,4 @@ fn is_same_or(found: bool, text: &str, name: &str) -> bool
     ensures { result ≡ (found || bytes_eq text.now name.now) }
 {
     found || text == name
-}
-
-/// Whether a text may name a judge or a room.
-pub fn is_name(text: &str) -> bool
-    ensures { result ≡ is_name text.now }
-{
-    let length = text.len();
-    1 <= length && length <= 32 && are_name_bytes(text.as_bytes())
-}
-
-fn are_name_bytes(text: &[u8]) -> bool
-    ensures { result ≡ list_all is_name_byte text.now }
-{
-    text.iter().all(|b| is_name_byte(*b))
-}
-
-fn is_name_byte(b: u8) -> bool
-    ensures { result ≡ is_name_byte b }
-{
-    b.is_ascii_alphabetic() || b.is_ascii_digit() || b == b'-' || b == b'_' || b == b'.'
 }
