@@ -20,7 +20,7 @@ use program_runs::{Finding, Report, run_report};
 use program_streams::Watched;
 use program_words::Source;
 use report_memo::{Asked as MemoAsked, day_made, memo_of};
-use report_program::{Asked as ReportAsked, Past, report_of, report_of_docket};
+use report_program::{Asked as ReportAsked, Past, report_of_docket, report_of_rows};
 use std::alloc::{AllocError, Global};
 use std::io::{IsTerminal, Read, Write};
 use std::sync::Wait;
@@ -102,23 +102,23 @@ fn report_by_rows(
 ) -> Result<Finding<Vec<u8>>, AllocError>
     requires some { 0 < length entries.now }
     requires few { length entries.now ≤ most_entries }
-    ensures { IsDocketed docketed.now (batch_of entries.now) → IfOk result (IsFinding (λ text. text.items) (IsReport asked.now (batch_of entries.now)) (IsNoReport asked.now (batch_of entries.now))) }
+    requires docketed { IsDocketed docketed.now (batch_of entries.now) }
+    ensures { IfOk result (IsFinding (λ text. text.items) (IsReport asked.now (batch_of entries.now)) (IsNoReport asked.now (batch_of entries.now))) }
 {
     let reported = standing_rows(alloc, &docketed.standing, entries)?;
     let past = past_of(alloc, docketed, entries, &reported.differences)?;
     let register = &docketed.register;
-    let moved = register.numbers().moved();
-    let court = &docketed.standing.court;
-    report_of(
+    report_of_rows(
         alloc,
         asked,
         standing_file(entries),
-        court,
+        &docketed.standing.court,
         register.cases(),
-        moved,
+        register.numbers().moved(),
         &reported.called,
         &past,
         &reported.rows,
+        register.docket(),
     )
 }
 

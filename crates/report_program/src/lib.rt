@@ -24,6 +24,6 @@ mod week;
 pub use asked::{Asked, Task, asked_by};
 pub use clock::clock_time;
 pub use past::Past;
-pub use report::report_of;
+pub use report::report_of_rows;
 pub use subcommands::with_reports;
 pub use taken::report_of_docket;

@@ -25,7 +25,7 @@ use program_runs::Finding;
 use report_texts::{Labels, holiday_names};
 use std::alloc::{AllocError, Global};
 
-/// What was asked for of this docket, as `report_of` finds it of the rows that the docket has taken; None just where it rests on
+/// What was asked for of this docket, as `report_of_rows` finds it of the rows that the docket has taken; None just where it rests on
 /// the rows themselves, as a calendar for calendar programs, JSON and SQL do. `Err` says that memory ran out.
 pub fn report_of_docket(
     alloc: Global,

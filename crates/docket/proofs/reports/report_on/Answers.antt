@@ -22,4 +22,4 @@ returns-in-Some c =
     (rw (c.standing_file.ensures, c.cases.ensures under entries at, c.moved.ensures, c.numbers.ensures under entries at, c.called.ensures under entries at, c.in-Some.is) at (c.in_ok-found.ensures.found (past_of under entries) rows holds))
 
 pub returns-in-None : goal.returns-in-None
-returns-in-None c = c.report_by_rows.ensures c.requires.docketed
+returns-in-None c = c.report_by_rows.ensures
