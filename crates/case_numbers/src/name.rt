@@ -64,13 +64,7 @@ fn without_office(key: &[u8]) -> &[u8]
     match key {
         [] => key,
         [_] => key,
-        [_, mark, rest @ ..] => {
-            if *mark == b':' {
-                rest
-            } else {
-                key
-            }
-        }
+        [_, mark, rest @ ..] => { if *mark == b':' { rest } else { key } }
     }
 }
 

@@ -141,14 +141,21 @@ fn same_period(alloc: Global, period: Period, other: Period) -> Result<bool, All
 }
 
 /// A period, as rows name it.
-#[tactic(auto, unfolding(office_texts::specs::Words::period_text))]
 fn period_words(alloc: Global, period: &Period) -> Result<String, AllocError>
     ensures { IfOk result (λ text. string_bytes text ≡ period_text period.now) }
 {
     let mut text = String::new(alloc);
-    match period {
-        Period::Rule(rule) => text.push_str(rule.code())?,
-        Period::Entered(entered) => push_entered(&mut text, entered)?,
-    }
+    push_period(&mut text, period)?;
     Ok(text)
+}
+
+/// Adds a period, as rows name it.
+#[tactic(auto, unfolding(office_texts::specs::Words::period_text))]
+fn push_period(text: &mut String, period: &Period) -> Result<(), AllocError>
+    ensures { OnOk result (string_bytes text.new ≡ string_bytes text.old ++ period_text period.now) }
+{
+    match period {
+        Period::Rule(rule) => text.push_str(rule.code()),
+        Period::Entered(entered) => push_entered(text, entered),
+    }
 }

@@ -42,12 +42,7 @@ fn push_if_dated(
 }
 
 /// Adds the note on a day, where it lies after that of entry.
-fn push_if_later(
-    alloc: Global,
-    text: &mut String,
-    today: Day,
-    day: Day,
-) -> Result<(), AllocError>
+fn push_if_later(alloc: Global, text: &mut String, today: Day, day: Day) -> Result<(), AllocError>
     ensures { OnOk result (string_bytes text.new ≡ string_bytes text.old ++ note_if_later today day) }
 {
     if today.number() < day.number() {
@@ -78,7 +73,7 @@ fn dated_of(today: Day, command: &Command) -> Option<Day>
             ..
         } => if_near(today, start_dated(period, event.day(), second)),
         Command::FileAct { filing, .. } => Some(filing.day),
-        Command::Extend { request, .. } => Some(request.asked.day),
+        Command::Extend { request, .. } => Some(request.asked.day()),
         Command::Motion { served, .. } => Some(served),
         Command::Book(setting) | Command::MoveHearing(setting) => Some(setting.notice),
         Command::Cancel { .. } | Command::Holiday { .. } | Command::Inaccessible { .. } => None,

@@ -34,11 +34,7 @@ fn push_if_ordered(
 }
 
 /// Adds the same for a hearing that is asked for.
-fn push_if_set(
-    alloc: Global,
-    text: &mut String,
-    setting: Option<Setting>,
-) -> Result<(), AllocError>
+fn push_if_set(alloc: Global, text: &mut String, setting: Option<Setting>) -> Result<(), AllocError>
     ensures { OnOk result (string_bytes text.new ≡ string_bytes text.old ++ note_if_set setting) }
 {
     match setting {

@@ -32,11 +32,7 @@ fn named_alike<'a>(named: &'a [NamedCase], name: &CaseName) -> Option<&'a NamedC
 }
 
 /// Adds the note on such a case, if there is one.
-fn push_alike(
-    alloc: Global,
-    text: &mut String,
-    case: Option<&NamedCase>,
-) -> Result<(), AllocError>
+fn push_alike(alloc: Global, text: &mut String, case: Option<&NamedCase>) -> Result<(), AllocError>
     ensures { OnOk result (string_bytes text.new ≡ string_bytes text.old ++ alike_note (option_copied case.entry)) }
 {
     match case {

@@ -95,8 +95,9 @@ fn push_last(text: &mut Vec<u8>, held_back: &HeldBack) -> Result<(), AllocError>
         HeldBack::Nothing => text.extend_from_slice(
             b"the rows of a line are kept together, so none of them is kept\n",
         ),
-        HeldBack::Warned(_) => text
-            .extend_from_slice(b"enter the row with '!' before it to keep it all the same\n"),
+        HeldBack::Warned(_) => text.extend_from_slice(
+            b"enter the row with '!' before it to keep it all the same\n",
+        ),
     }
 }
 
