@@ -18,9 +18,9 @@ moved_by row other = moved_note row other.row other.row.filed
 abbrev pub moved_notes : DeadlineRowView → (others : List SheetDeadline) → List ℕ
 moved_notes row others = flat_map (moved_by row) others
 
--- `if timely, deadline 7 of the case moves: FRAP 4(a)(4)`
+-- `if timely, it moves deadline 7: FRAP 4(a)(4)`
 abbrev pub moves_words : (number : ℕ) → List ℕ
-moves_words number = codes "if timely, deadline " ++ decimal number ++ codes " of the case moves: FRAP 4(a)(4)"
+moves_words number = codes "if timely, it moves deadline " ++ decimal number ++ codes ": FRAP 4(a)(4)"
 
 -- the line on an act, where the memo would say something of that deadline for it
 abbrev pub moves_if_said : (said : List ℕ) → (day : ℤ) → (number : ℕ) → List ℕ

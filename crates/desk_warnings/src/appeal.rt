@@ -142,5 +142,5 @@ fn push_if_said(
 fn moves_words(alloc: Global, number: u32) -> Result<String, AllocError>
     ensures { IfOk result (λ what. string_bytes what ≡ moves_words number) }
 {
-    format!(in alloc; "if timely, deadline {number} of the case moves: FRAP 4(a)(4)")
+    format!(in alloc; "if timely, it moves deadline {number}: FRAP 4(a)(4)")
 }
