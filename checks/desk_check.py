@@ -214,7 +214,8 @@ CAREFUL = [
      b"  Mon 2025-02-03  the event lies before the filing of the case        note\n" + HELD_LAST),
     (b"1,start,7,59e,2025-03-03,,,\n", b"2 1 deadline 1 last 2025-03-31\n"),
     (b"1,file,7,1,2025-02-28,10:00,electronic\n", b"row 3 not kept:\n"
-     b"  Fri 2025-02-28  the act was done before its event                   note\n" + HELD_LAST),
+     b"  Fri 2025-02-28  the act was done before its event                   note\n"
+     b"  Fri 2025-02-28  if timely, the time to appeal moves: FRAP 4(a)(4)   note\n" + HELD_LAST),
     (b"!1,file,7,1,2025-02-28,10:00,electronic\n", b"3 1 filed timely\n"),
     (b"1,file,7,1,2025-02-28,10:00,electronic\n", b"row 4 not kept:\n"
      b"  would be refused 9 AlreadyMet\n"
@@ -268,6 +269,8 @@ CAREFUL = [
     (b"1,start,7,3d/before/service/event/plain,2025-03-20,,,\n", b"10 1 deadline 2 last 2025-03-17\n"),
     (b"1,extend,7,2,2025-03-21,2025-03-10,09:00,no,yes,no\n", b"row 11 not kept:\n"
      b"  Fri 2025-03-21  the end lies after the event it counts back from    note\n" + HELD_LAST),
+    (b"1,start,7,3d/before/service/event/plain,2025-03-20,,,\n", b"row 11 not kept:\n"
+     b"  Thu 2025-03-20  deadline 2 of the case is the same and pending      note\n" + HELD_LAST),
 ]
 
 
@@ -285,7 +288,7 @@ def check_warnings(programs):
         desk = Desk(programs, parent, SHORT_COURT)
         tried = desk.call("try", "--warn", given=b"".join(given for given, answer in CAREFUL))
         assert tried.status == FAULTY and tried.output == b"".join(answer for given, answer in CAREFUL), tried
-        assert tried.errors == b"3 of 25 rows had faults and 12 were held back, and none of these is kept: mend them and enter them again\n", tried
+        assert tried.errors == b"3 of 26 rows had faults and 13 were held back, and none of these is kept: mend them and enter them again\n", tried
         for given, answer in CAREFUL:
             whole, said = desk.journal.read_bytes(), said_alone(answer)
             ended = desk.call("enter", "--warn", given=given)
