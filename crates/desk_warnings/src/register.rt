@@ -21,8 +21,8 @@ use std::alloc::{AllocError, Global};
 pub enum HeldBack {
     /// Nothing.
     Nothing,
-    /// A line with a row that draws a warning, unless it begins with a '!'. The day counts as today for the warning of an event that
-    /// lies far from it, if there is one.
+    /// A line with a row that draws a warning, unless it begins with a '!'. The day counts as today for warnings of what lies far
+    /// from it, or after it, if there is one.
     Warned(Option<Day>),
 }
 
