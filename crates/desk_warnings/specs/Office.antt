@@ -6,7 +6,7 @@ use Rattle.reason_notes.specs.Warnings.Words.{note}
 
 -- the first of these cases whose number differs from a new one only so; no case has the new one itself
 abbrev pub named_alike : List NamedCase → NameView → Option NamedCase
-named_alike named name = find (λ (c : NamedCase). same_but_office name.key c.name.key) named
+named_alike named name = find (λ (c : NamedCase). same_but_office c.name.key name.key) named
 
 -- `case 2:26-cv-02011 differs only by its office`
 abbrev pub alike_note : Option NamedCase → List ℕ

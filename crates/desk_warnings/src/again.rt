@@ -109,9 +109,8 @@ fn is_same(alloc: Global, row: &DeadlineRow, other: &DeadlineRow) -> Result<bool
 fn same_events(row: &DeadlineRow, other: &DeadlineRow) -> bool
     ensures { result ≡ same_events row.now other.now }
 {
-    let (event, event_there) = (row.event(), other.event());
-    event.day() == event_there.day()
-        && event.minute() == event_there.minute()
+    row.event().day() == other.event().day()
+        && row.event().minute() == other.event().minute()
         && same_second(row.second(), other.second())
 }
 

@@ -26,9 +26,7 @@ pub(crate) fn push_office(
 fn named_alike<'a>(named: &'a [NamedCase], name: &CaseName) -> Option<&'a NamedCase>
     ensures { option_copied result ≡ named_alike named.now name.now }
 {
-    named
-        .iter()
-        .find(|case| name.is_same_but_office(&case.name))
+    named.iter().find(|case| case.name.is_same_but_office(name))
 }
 
 /// Adds the note on such a case, if there is one.
