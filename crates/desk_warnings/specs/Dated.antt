@@ -1,5 +1,5 @@
 -- What a row dates after the day of entry, where it can't have happened yet.
-use Rattle.std.specs.Prelude.{ℤ, pos, ◌+ℤ◌, int_lt, List, [], ◌++◌, Option, Some, None, codes, if◌then◌else◌}
+use Rattle.std.specs.Prelude.{ℕ, ℤ, pos, ◌+ℤ◌, int_lt, List, [], ◌++◌, Option, Some, None, codes, if◌then◌else◌}
 use Rattle.court_clock.specs.declared.direction.Direction.{Direction}
 use Rattle.court_clock.specs.declared.direction.Direction.TheVariants.{After, Before}
 use Rattle.court_clock.specs.Words.{day_text}
