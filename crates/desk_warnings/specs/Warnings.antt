@@ -77,7 +77,7 @@ abbrev pub said_of : (day : ℤ) → (why hearings : List ℕ) → List ℕ
 said_of day why [] = []
 said_of day why (byte ∷ bytes) = note (Some day) why ++ (byte ∷ bytes)
 
--- on a command that isn't refused, by what the docket has
+-- on a command that isn't refused, by the docket
 abbrev pub if_made : CourtView → List Moved → List NamedCase → Parts → (today : Option ℤ) → CommandOf → List ℕ
 if_made court moved named parts today (command.Start case period event second service) =
     at_start court moved parts today case (parts.case case) (started period event second service)
@@ -115,10 +115,14 @@ if_refused court moved named parts asked command refusal =
 abbrev pub as_said : List NamedCase → (today : Option ℤ) → (name : Option NameView) → CommandOf → List ℕ
 as_said named today name command = dated_note today command ++ long_note command ++ office_note named name
 
--- on a command that isn't refused, where rows that draw a warning are held back; where nothing is, only a refusal counts
+-- on a command that isn't refused, by the docket and by the row itself
+abbrev pub if_kept : CourtView → List Moved → List NamedCase → Parts → (today : Option ℤ) → (name : Option NameView) → CommandOf → List ℕ
+if_kept court moved named parts today name command = if_made court moved named parts today command ++ as_said named today name command
+
+-- the same where rows that draw a warning are held back; where nothing is, only a refusal counts
 abbrev pub if_taken : CourtView → List Moved → List NamedCase → Parts → HeldBack → (name : Option NameView) → CommandOf → List ℕ
 if_taken court moved named parts Nothing name command = []
-if_taken court moved named parts (Warned today) name command = if_made court moved named parts today command ++ as_said named today name command
+if_taken court moved named parts (Warned today) name command = if_kept court moved named parts today name command
 
 -- on what was asked, and the command for which the docket is asked, in a row that gives a case this new name, if it gives one
 unfoldable pub warnings_of : CourtView → List Moved → List NamedCase → Parts → HeldBack → (name : Option NameView) → (asked command : CommandOf) → List ℕ

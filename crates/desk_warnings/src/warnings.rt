@@ -4,7 +4,7 @@ ghost use Rattle.std.specs.Prelude.{◌≡◌, ◌++◌, None, IfOk, OnOk, strin
 ghost use Rattle.docket_rows.specs.Words.{Rows, parts_of, refusal, setup_of};
 ghost use Rattle.docket_core.specs.Words.{parts_held};
 ghost use Rattle.office_texts.specs.Run.Words.{Holds};
-ghost use Rattle.desk_warnings.specs.Warnings.{as_said, if_made, if_taken, warnings_of, warnings_on};
+ghost use Rattle.desk_warnings.specs.Warnings.{as_said, if_kept, if_made, if_taken, warnings_of, warnings_on};
 
 use crate::dated::push_dated;
 use crate::deadline::{push_act, push_request};
@@ -68,11 +68,28 @@ fn push_if_taken(
 {
     match held_back {
         HeldBack::Nothing => Ok(()),
-        HeldBack::Warned(today) => {
-            push_if_made(alloc, text, court, moved, cases, docket, *today, command)?;
-            push_as_said(alloc, text, cases, *today, name, command)
-        }
+        HeldBack::Warned(today) => push_if_kept(
+            alloc, text, court, moved, cases, docket, *today, name, command,
+        ),
     }
+}
+
+/// Adds what a clerk is warned of a command that isn't refused, by the docket and by the row itself.
+fn push_if_kept(
+    alloc: Global,
+    text: &mut String,
+    court: &Court,
+    moved: &MovedNumbers,
+    cases: &Cases,
+    docket: &Docket,
+    today: Option<Day>,
+    name: &Option<CaseName>,
+    command: &Command,
+) -> Result<(), AllocError>
+    ensures { docket.now.setup ≡ setup_of court.now → refusal (setup_of court.now) (parts_held docket.now) command.now ≡ None → OnOk result (string_bytes text.new ≡ string_bytes text.old ++ if_kept court.now moved.now cases.now.named (parts_held docket.now) today name.now command.now) }
+{
+    push_if_made(alloc, text, court, moved, cases, docket, today, command)?;
+    push_as_said(alloc, text, cases, today, name, command)
 }
 
 /// Adds what a clerk is warned of what the row itself says.
@@ -91,7 +108,7 @@ fn push_as_said(
     push_office(alloc, text, cases, name)
 }
 
-/// Adds what a clerk is warned of a command that isn't refused.
+/// Adds what a clerk is warned of a command that isn't refused, by the docket.
 fn push_if_made(
     alloc: Global,
     text: &mut String,
