@@ -332,7 +332,7 @@ def check_names(desk):
     rows = b"1,end,21,answer of Acme,Moot,2025-09-10\n1, file, 21, answer of Acme, 2025-09-10, 9:00 AM, ECF\n1,rule,21,to amend,Granted,2025-09-10\n1,end,21,reply,Moot,2025-09-10\n1,cancel,21,reply\n"
     tried = desk.call("try", "--as-written", given=labels + rows)
     said = [b" labelled\n"] * 4 + [b" ended\n", b" filed timely\n", b" ruled\n", b" fault 4 BadField 4: deadlines 2 and 3 of the case are called so: name one by its number\n",
-                                    b" fault 4 BadField 4: no motion of the case is called so: name one by its number\n"]
+                                    b" fault 4 BadField 4: no motion of the case is called so: name one by its number or its label\n"]
     assert all(words in line for words, line in zip(said, tried.output.splitlines(True))), tried
     assert len(tried.output.splitlines()) == len(said) and desk.journal.read_bytes() == before, tried
 

@@ -170,8 +170,8 @@ def of_set_day(rows, day, filed):
     return lines
 
 
-def of_deadline(court, rows, row, filed, today):
-    """The notes on a deadline of a case that was filed on that day, where it counts from a day or None."""
+def of_start(court, rows, row, filed, today):
+    """The notes on a deadline as it starts in a case that was filed on that day, where it counts from a day or None."""
     if is_set(row.period):
         return of_set_day(rows, row.event.day, filed)
     events = [row.event.day] + ([] if row.second is None else [row.second])
@@ -183,12 +183,16 @@ def of_deadline(court, rows, row, filed, today):
         lines.append(note(starts(row), "the event lies before the rule that is applied"))
     if row.period.unit == "h" and row.event.minute == 0:
         lines.append(note(row.event.day, "event at 00:00, or its time of day is missing"))
-    end = shown(rows.days, court.clock, row)
-    last = end_of(court, end)[0]
+    last = end_of(court, shown(rows.days, court.clock, row))[0]
     if last is not None and rows.days.first <= last <= rows.days.last and not any(
             last <= day <= rows.days.last for day in rows.days.federal):
         lines.append(note(last, "no federal holiday is listed from this day on"))
-    lines += of_end(court, row, end)
+    return lines
+
+
+def of_deadline(court, rows, row, filed, today):
+    """The notes on a deadline of such a case: also on its end and its act."""
+    lines = of_start(court, rows, row, filed, today) + of_end(court, row, shown(rows.days, court.clock, row))
     if runs_from_event(row) and row.filed is not None and row.filed.day < starts(row):
         lines.append(note(row.filed.day, "the act was done before its event"))
     if row.filed is not None and moves_appeal(row):

@@ -67,7 +67,7 @@ fn expected(column: Column) -> &'static str
         Column::Slots => "half hours, as 2, or quarter hours, as 3q",
         Column::Holidays => "federal or state",
         Column::Act => "filing or service",
-        Column::Why => "moot, vacated, stayed, suspended or withdrawn",
+        Column::Why => "moot, vacated, stayed, suspended, suspended:3 or withdrawn",
         Column::Closing => "dismissed, judgment, settled, transferred, remanded or otherwise",
         Column::Ruling => "granted, denied, in part, moot, withdrawn or reserved",
         Column::JudgeOrNone => "a judge, or nothing",

@@ -72,7 +72,7 @@ counted_word Deadline = codes "deadline"
 counted_word Motion = codes "motion"
 
 abbrev pub none_called_words : Counted → List ℕ
-none_called_words counted = codes "no " ++ counted_word counted ++ codes " of the case is called so"
+none_called_words counted = codes "no " ++ counted_word counted ++ codes " of the case is called so: name one by its number or its label"
 
 abbrev pub two_called_words : Counted → (number other : ℕ) → List ℕ
 two_called_words counted number other = counted_word counted ++ codes "s " ++ decimal number ++ codes " and " ++ decimal other ++ codes " of the case are called so"
@@ -85,7 +85,7 @@ cause_words (NoDeadline rule) = none_words (rule_code rule) ++ by_number
 cause_words (TwoDeadlines rule number other) = first_words number ++ second_words other ++ rule_code rule ++ by_number
 cause_words NoMotion = codes "the case has no motion"
 cause_words (NoneMade counted) = none_made_words counted ++ by_number
-cause_words (NoneCalled counted) = none_called_words counted ++ by_number
+cause_words (NoneCalled counted) = none_called_words counted
 cause_words (TwoCalled counted number other) = two_called_words counted number other ++ by_number
 
 abbrev pub unfound_words : Unfound → List ℕ

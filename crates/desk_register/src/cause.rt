@@ -197,16 +197,14 @@ fn counted_word(counted: Counted) -> &'static str
     }
 }
 
-// Adds that nothing is called so.
-fn push_none_called(
-    alloc: Global,
-    text: &mut Vec<u8>,
-    counted: Counted,
-) -> Result<(), AllocError>
+// Adds that nothing is called so, and what to do.
+fn push_none_called(alloc: Global, text: &mut Vec<u8>, counted: Counted) -> Result<(), AllocError>
     ensures { OnOk result (text.new.items ≡ text.old.items ++ none_called_words counted) }
 {
     let word = counted_word(counted);
-    let words = format!(in alloc; "no {word} of the case is called so")?;
+    let words = format!(in alloc;
+        "no {word} of the case is called so: name one by its number or its label"
+    )?;
     text.extend_from_slice(words.as_bytes())
 }
 
@@ -254,10 +252,7 @@ fn push_why(alloc: Global, text: &mut Vec<u8>, why: UnfoundCause) -> Result<(), 
             push_none_made(alloc, text, counted)?;
             push_by_number(text)
         }
-        UnfoundCause::NoneCalled(counted) => {
-            push_none_called(alloc, text, counted)?;
-            push_by_number(text)
-        }
+        UnfoundCause::NoneCalled(counted) => push_none_called(alloc, text, counted),
         UnfoundCause::TwoCalled(counted, number, other) => {
             push_two_called(alloc, text, counted, number, other)?;
             push_by_number(text)

@@ -3,6 +3,7 @@ use Rattle.std.proofs.Common.{◌≡◌, ◌∙◌, ◌⊎◌, inl, inr, ℕ, �
 use Rattle.std.specs.Prelude.{nat_lt}
 use Rattle.std.specs.List.{flat_map}
 use Rattle.case_numbers.specs.declared.names.NamedCase.{NamedCase}
+use Rattle.case_numbers.specs.Words.{NameView}
 use Rattle.docket_rows.specs.declared.command.Command.{Command as CommandOf}
 use Rattle.docket_rows.specs.declared.refusal.Refusal.{Refusal}
 use Rattle.docket_rows.specs.Words.{Parts, parts_of, refusal, setup_of}
@@ -22,7 +23,7 @@ use Rattle.desk_warnings.specs.declared.register.HeldBack.{HeldBack}
 use Rattle.desk_warnings.specs.declared.register.HeldBack.TheVariants.{Nothing, Warned}
 use Rattle.desk_warnings.specs.Careful.{careful_answers, careful_leaves, careful_outcome, held_for, held_text, held_unless, left_of_taken, line_for, taken_at, told_of_taken, came_of_taken, whole_answers, whole_leaves, whole_outcome, whole_taken}
 use Rattle.desk_warnings.specs.Laws.{CarefulIsHistory, LineIsKeptWhole, NothingIsHeldBack, RefusedAreHeld, WarningsKeepNothing, lines_taken, with_taken}
-use Rattle.desk_warnings.specs.Rows.{against_one, against_row, against_rows, against_said, labels_new, line_rows, said_at, taken_if, warnings_at, warnings_said}
+use Rattle.desk_warnings.specs.Rows.{against_one, against_row, against_rows, against_said, labels_new, line_rows, name_at, said_at, taken_if, warnings_at, warnings_said}
 use Rattle.desk_warnings.specs.Warnings.{if_refused, warnings_of}
 use Rattle.desk_warnings.proofs.RowLemmas.{against_plain, one_came}
 
@@ -107,9 +108,9 @@ none_taken rows [] some = absurd (some refl)
 none_taken rows (byte ∷ bytes) some = refl
 
 -- a command that is refused draws a warning
-refused_warned : (court : CourtView) (moved : List Moved) (named : List NamedCase) (parts : Parts) (held : HeldBack) (asked command : CommandOf) (refused : Refusal) → refusal (setup_of court) parts command ≡ Some refused → warnings_of court moved named parts held asked command ≡ [] → ⊥
+refused_warned : (court : CourtView) (moved : List Moved) (named : List NamedCase) (parts : Parts) (held : HeldBack) (name : Option NameView) (asked command : CommandOf) (refused : Refusal) → refusal (setup_of court) parts command ≡ Some refused → warnings_of court moved named parts held name asked command ≡ [] → ⊥
 unfolding warnings_of if_refused
-refused_warned court moved named parts held asked command refused is none = absurd cc (rw is at none)
+refused_warned court moved named parts held name asked command refused is none = absurd cc (rw is at none)
 
 -- nothing speaks against rows only where nothing speaks against each
 front_nil : (a b : List ℕ) → a ++ b ≡ [] → a ≡ []
@@ -130,8 +131,8 @@ module _ (under : Standing) (today : Option ℤ) (kept : List (List ℕ)) (bytes
   one_against true same none = some (sym same ∙ none)
   one_against false same none = some none
 
-row_against : (under : Standing) (held : HeldBack) (kept : List (List ℕ)) (said : Line) (row : Row) → said ≡ says.Row row → against_said under held kept said ≡ warnings_said under held kept said
-row_against under held kept said row is = rw is refl
+row_against : (under : Standing) (held : HeldBack) (kept : List (List ℕ)) (name : Option NameView) (said : Line) (row : Row) → said ≡ says.Row row → against_said under held kept name said ≡ warnings_said under held kept name said
+row_against under held kept name said row is = rw is refl
 
 pub refused_held : RefusedAreHeld
 unfolding warnings_at
@@ -139,8 +140,8 @@ refused_held under today kept line before later bytes row asked refused rows is_
     let held : held_for (Warned today) line ≡ Warned today = ap (held_unless (Warned today)) unmarked in
     let whole : line_for (Warned today) line ≡ line = ap (or_whole line) unmarked in
     let some : warnings_at under (Warned today) kept bytes ≡ [] → ⊥ =
-    λ none. refused_warned under.court (run_by under kept).numbers.moved (cases_of under kept).named (parts_of (docketed_by under kept)) (Warned today) asked (placed_command (run_by under kept).numbers.moved asked) refused is (rw (said_is, work) at none) in
-    let same : against_row under (Warned today) kept bytes ≡ warnings_at under (Warned today) kept bytes = sym (against_plain under (Warned today) kept bytes is_judged) ∙ row_against under (Warned today) kept (said_at under kept bytes) row said_is in
+    λ none. refused_warned under.court (run_by under kept).numbers.moved (cases_of under kept).named (parts_of (docketed_by under kept)) (Warned today) (name_at under kept bytes) asked (placed_command (run_by under kept).numbers.moved asked) refused is (rw (said_is, work) at none) in
+    let same : against_row under (Warned today) kept bytes ≡ warnings_at under (Warned today) kept bytes = sym (against_plain under (Warned today) kept bytes is_judged) ∙ row_against under (Warned today) kept (name_at under kept bytes) (said_at under kept bytes) row said_is in
     let judged = nat_lt 1 (length (line_rows line)) in
     ap (λ (h : HeldBack). whole_taken under h kept (line_for (Warned today) line)) held
     ∙ ap (whole_taken under (Warned today) kept) whole

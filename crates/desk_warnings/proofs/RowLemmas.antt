@@ -19,7 +19,7 @@ use Rattle.desk_register.specs.Words.{leaves, outcome}
 use Rattle.desk_register.specs.declared.standing.Standing.{Standing}
 use Rattle.desk_warnings.specs.declared.register.HeldBack.{HeldBack}
 use Rattle.desk_warnings.specs.Inside.Rows.{row_texts}
-use Rattle.desk_warnings.specs.Rows.{against_row, against_said, came_after, came_of_rows, either_came, labels_as, labels_new, said_at, says_new}
+use Rattle.desk_warnings.specs.Rows.{against_row, against_said, came_after, came_of_rows, either_came, labels_as, labels_new, name_at, said_at, says_new}
 
 -- what an iterator gives, seen by a view, where it is collected
 pub rows_collected : {S A B Z E : Type 0} {steps : S → Option A → S → Type 0} {v : A → B} {s : S} {all : List B} (r : Result (Vec A Z) E)
@@ -67,7 +67,7 @@ module _ (under : Standing) (held : HeldBack) (kept : List (List ℕ)) (row : Li
   unfolding against_row
   against_passed is = rw is refl
 
-  pub against_plain : labels_new under row ≡ false → against_said under held kept (said_at under kept row) ≡ against_row under held kept row
+  pub against_plain : labels_new under row ≡ false → against_said under held kept (name_at under kept row) (said_at under kept row) ≡ against_row under held kept row
   unfolding against_row
   against_plain is = rw is refl
 

@@ -1,3 +1,9 @@
+pub mod Sheet
+pub mod Again
+pub mod Appeal
+pub mod Dated
+pub mod Long
+pub mod Office
 pub mod Instead
 pub mod Warnings
 pub mod Rows

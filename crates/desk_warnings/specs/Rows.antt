@@ -2,6 +2,7 @@
 use Rattle.std.specs.Prelude.{ℕ, Bool, ◌&&◌, ◌==◌, nat_lt, true, false, List, [], ◌∷◌, ◌++◌, codes, length, Option, Some, None, if◌then◌else◌}
 use Rattle.std.specs.List.{flat_map, slice_split}
 use Rattle.std.specs.Str.{bytes_eq}
+use Rattle.case_numbers.specs.Words.{NameView}
 use Rattle.docket_rows.specs.Words.{parts_of}
 use Rattle.row_forms.specs.declared.fault.RowCause.{RowCause}
 use Rattle.row_forms.specs.declared.fault.RowCause.TheVariants.{BadField}
@@ -42,18 +43,22 @@ came_after under first kept (row ∷ rows) = came_after under (either_came first
 abbrev pub came_of_rows : Standing → (kept : List (List ℕ)) → (rows : List (List ℕ)) → Outcome
 came_of_rows under kept rows = came_after under came.Blank kept rows
 
--- what a clerk is warned of a row that says this, by what is docketed before its line
-abbrev pub warnings_said : Standing → HeldBack → (kept : List (List ℕ)) → Line → List ℕ
-warnings_said under held kept says.Blank = []
-warnings_said under held kept (says.Fault cause) = []
-warnings_said under held kept (says.Row row) = warnings_on under.court (run_by under kept).numbers.moved (cases_of under kept).named (parts_of (docketed_by under kept)) held row.work
+-- what a clerk is warned of a row that says this, and gives a case this new name, by what is docketed before its line
+abbrev pub warnings_said : Standing → HeldBack → (kept : List (List ℕ)) → (name : Option NameView) → Line → List ℕ
+warnings_said under held kept name says.Blank = []
+warnings_said under held kept name (says.Fault cause) = []
+warnings_said under held kept name (says.Row row) = warnings_on under.court (run_by under kept).numbers.moved (cases_of under kept).named (parts_of (docketed_by under kept)) held name row.work
 
 -- what a row says as the one that comes next
 abbrev pub said_at : Standing → (kept : List (List ℕ)) → (row : List ℕ) → Line
 said_at under kept row = within kept (line_read most_clerks (names_of under.court) (reading_at under kept row).text)
 
+-- the name that it gives to a case, where no case has it
+abbrev pub name_at : Standing → (kept : List (List ℕ)) → (row : List ℕ) → Option NameView
+name_at under kept row = (reading_at under kept row).name
+
 unfoldable pub warnings_at : Standing → HeldBack → (kept : List (List ℕ)) → (row : List ℕ) → List ℕ
-warnings_at under held kept row = warnings_said under held kept (said_at under kept row)
+warnings_at under held kept row = warnings_said under held kept (name_at under kept row) (said_at under kept row)
 
 -- what speaks against a row that is alone in its line: what it is warned of, where such rows are held back
 abbrev pub warned_at : Standing → HeldBack → (kept : List (List ℕ)) → (row : List ℕ) → List ℕ
@@ -82,13 +87,13 @@ fault_against cause = codes "  would be fault " ++ cause_text cause ++ codes "\n
 
 -- what speaks against one of several rows that says this: a fault, that it would be refused, and what else it is warned of, where such
 -- rows are held back
-abbrev pub against_said : Standing → HeldBack → (kept : List (List ℕ)) → Line → List ℕ
-against_said under held kept says.Blank = []
-against_said under held kept (says.Fault cause) = fault_against cause
-against_said under held kept (says.Row row) = warnings_said under held kept (says.Row row)
+abbrev pub against_said : Standing → HeldBack → (kept : List (List ℕ)) → (name : Option NameView) → Line → List ℕ
+against_said under held kept name says.Blank = []
+against_said under held kept name (says.Fault cause) = fault_against cause
+against_said under held kept name (says.Row row) = warnings_said under held kept name (says.Row row)
 
 unfoldable pub against_row : Standing → HeldBack → (kept : List (List ℕ)) → (row : List ℕ) → List ℕ
-against_row under held kept row = if labels_new under row then [] else against_said under held kept (said_at under kept row)
+against_row under held kept row = if labels_new under row then [] else against_said under held kept (name_at under kept row) (said_at under kept row)
 
 -- what speaks against one of the rows of a line, which are several or not
 abbrev pub against_one : Standing → HeldBack → (kept : List (List ℕ)) → (several : Bool) → (row : List ℕ) → List ℕ

@@ -5,11 +5,12 @@ ghost use Rattle.row_forms.specs.Words.{names_of};
 ghost use Rattle.row_forms.specs.Line.Words.{line_read};
 ghost use Rattle.desk_register.specs.Words.{StandsAt, asks, most_clerks, reading_at, within};
 ghost use Rattle.desk_warnings.specs.Inside.Rows.{row_texts};
-ghost use Rattle.desk_warnings.specs.Rows.{against_one, against_row, against_rows, against_said, warned_at, warnings_at, warnings_said};
+ghost use Rattle.desk_warnings.specs.Rows.{against_one, against_row, against_rows, against_said, name_at, warned_at, warnings_at, warnings_said};
 
 use crate::register::{CarefulRegister, HeldBack, RowTypes};
 use crate::rows::{fault_against, labels_new};
 use crate::warnings::warnings_on;
+use case_numbers::CaseName;
 use csv::StringRecord;
 use desk_register::Standing;
 use row_forms::{Line, RowCause, Work};
@@ -40,25 +41,32 @@ fn are_several(rows: &[&[u8]]) -> bool
 }
 
 impl CarefulRegister {
-    // What a row says as the one that comes next, if there is room for it.
-    fn said(&self, alloc: Global, standing: &Standing, row: &[u8]) -> Result<Line, AllocError>
-        ensures { (kept : List (List ℕ)) → StandsAt standing.now self.now.register kept → IfOk result (λ said. said ≡ line_read most_clerks (names_of standing.now.court) (reading_at standing.now kept row.now).text) }
+    // What a row says as the one that comes next, if there is room for it, and the name in it that no case has.
+    fn said(
+        &self,
+        alloc: Global,
+        standing: &Standing,
+        row: &[u8],
+    ) -> Result<(Line, Option<CaseName>), AllocError>
+        ensures said { (kept : List (List ℕ)) → StandsAt standing.now self.now.register kept → IfOk result (λ read. read.0 ≡ line_read most_clerks (names_of standing.now.court) (reading_at standing.now kept row.now).text) }
+        ensures name { (kept : List (List ℕ)) → StandsAt standing.now self.now.register kept → IfOk result (λ read. read.1 ≡ name_at standing.now kept row.now) }
     {
         let _types: RowTypes = None;
         let mut fields = StringRecord::new(alloc);
-        let (said, _) = self.register.read(alloc, standing, row, &mut fields)?;
-        Ok(said)
+        let (said, name) = self.register.read(alloc, standing, row, &mut fields)?;
+        Ok((said, name))
     }
 
-    // What a clerk is warned of a row that says this.
+    // What a clerk is warned of a row that says this, and gives a case this name.
     fn warnings_said(
         &self,
         alloc: Global,
         standing: &Standing,
         held_back: &HeldBack,
+        name: &Option<CaseName>,
         said: &Line,
     ) -> Result<String, AllocError>
-        ensures { (kept : List (List ℕ)) → StandsAt standing.now self.now.register kept → IfOk result (λ text. string_bytes text ≡ warnings_said standing.now held_back.now kept (within kept said.now)) }
+        ensures { (kept : List (List ℕ)) → StandsAt standing.now self.now.register kept → IfOk result (λ text. string_bytes text ≡ warnings_said standing.now held_back.now kept name.now (within kept said.now)) }
     {
         let _types: RowTypes = None;
         match said {
@@ -71,6 +79,7 @@ impl CarefulRegister {
                         self.register.cases(),
                         self.register.docket(),
                         held_back,
+                        name,
                         &row.work,
                     )
                 } else {
@@ -93,8 +102,8 @@ impl CarefulRegister {
         ensures { (kept : List (List ℕ)) → StandsAt standing.now self.now.register kept → IfOk result (λ text. string_bytes text ≡ warnings_at standing.now held_back.now kept row.now) }
     {
         let _types: RowTypes = None;
-        let said = self.said(alloc, standing, row)?;
-        self.warnings_said(alloc, standing, held_back, &said)
+        let (said, name) = self.said(alloc, standing, row)?;
+        self.warnings_said(alloc, standing, held_back, &name, &said)
     }
 
     // What speaks against a row that is alone in its line.
@@ -119,9 +128,10 @@ impl CarefulRegister {
         alloc: Global,
         standing: &Standing,
         held_back: &HeldBack,
+        name: &Option<CaseName>,
         said: &Line,
     ) -> Result<String, AllocError>
-        ensures { (kept : List (List ℕ)) → StandsAt standing.now self.now.register kept → IfOk result (λ text. string_bytes text ≡ against_said standing.now held_back.now kept (within kept said.now)) }
+        ensures { (kept : List (List ℕ)) → StandsAt standing.now self.now.register kept → IfOk result (λ text. string_bytes text ≡ against_said standing.now held_back.now kept name.now (within kept said.now)) }
     {
         let _types: RowTypes = None;
         match said {
@@ -129,7 +139,7 @@ impl CarefulRegister {
             Line::Fault(cause) => fault_against(alloc, *cause),
             Line::Row(row) => {
                 if is_answered(self.register.has_room(), &row.work) {
-                    self.warnings_said(alloc, standing, held_back, said)
+                    self.warnings_said(alloc, standing, held_back, name, said)
                 } else {
                     fault_against(alloc, RowCause::TooManyRows)
                 }
@@ -153,8 +163,8 @@ impl CarefulRegister {
         if is_passed {
             return Ok(String::new(alloc));
         }
-        let said = self.said(alloc, standing, row)?;
-        self.against_said(alloc, standing, held_back, &said)
+        let (said, name) = self.said(alloc, standing, row)?;
+        self.against_said(alloc, standing, held_back, &name, &said)
     }
 
     // What speaks against one of the rows of a line, which are several or not.

@@ -2,11 +2,16 @@
 //! kept, and the register that holds such rows back where that is asked for. It takes the rows of a line together, or none.
 #![tactic(auto)]
 
+mod again;
 mod against;
+mod appeal;
+mod dated;
 mod deadline;
 mod hearings;
 mod instead;
 mod laws;
+mod long;
+mod office;
 mod refused;
 mod register;
 mod rows;

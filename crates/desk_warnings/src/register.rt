@@ -21,8 +21,8 @@ use std::alloc::{AllocError, Global};
 pub enum HeldBack {
     /// Nothing.
     Nothing,
-    /// A line with a row that draws a warning, unless it begins with a '!'. The day counts as today for the warning of an event that
-    /// lies far from it, if there is one.
+    /// A line with a row that draws a warning, unless it begins with a '!'. The day counts as today for warnings of what lies far
+    /// from it, or after it, if there is one.
     Warned(Option<Day>),
 }
 
@@ -95,8 +95,9 @@ fn push_last(text: &mut Vec<u8>, held_back: &HeldBack) -> Result<(), AllocError>
         HeldBack::Nothing => text.extend_from_slice(
             b"the rows of a line are kept together, so none of them is kept\n",
         ),
-        HeldBack::Warned(_) => text
-            .extend_from_slice(b"enter the row with '!' before it to keep it all the same\n"),
+        HeldBack::Warned(_) => text.extend_from_slice(
+            b"enter the row with '!' before it to keep it all the same\n",
+        ),
     }
 }
 

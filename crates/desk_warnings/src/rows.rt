@@ -60,11 +60,7 @@ fn labels_as(said: &Line, fields: &StringRecord) -> bool
 }
 
 /// Whether a row says what that is called which the row before it makes.
-pub(crate) fn labels_new(
-    alloc: Global,
-    standing: &Standing,
-    row: &[u8],
-) -> Result<bool, AllocError>
+pub(crate) fn labels_new(alloc: Global, standing: &Standing, row: &[u8]) -> Result<bool, AllocError>
     ensures { IfOk result (λ so. so ≡ labels_new standing.now row.now) }
 {
     let _types: RowTypes = None;

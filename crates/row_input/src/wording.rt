@@ -33,7 +33,7 @@ fn held(column: Column) -> &'static str {
         Column::Notice => "the day on which notice was served, as 2025-09-02",
         Column::Act => "filing or service",
         Column::Dated => "the day of the order, as 2025-09-02",
-        Column::Why => "moot, vacated, stayed, suspended or withdrawn",
+        Column::Why => "moot, vacated, stayed, suspended, suspended:3 or withdrawn",
         Column::Closing => "dismissed, judgment, settled, transferred, remanded or otherwise",
         Column::ResumeDay => "the day from which it runs anew, as 2025-09-02, or nothing",
         Column::Ruling => "granted, denied, in part, moot, withdrawn or reserved",

@@ -1,8 +1,9 @@
-use Rattle.std.proofs.Common.{◌∙◌, ap, sym}
+use Rattle.std.proofs.Common.{◌∙◌, Option, ap, sym}
 use Rattle.std.proofs.lemmas.Result.{IfOk-weaker}
+use Rattle.case_numbers.specs.Words.{NameView}
 use Rattle.row_forms.specs.declared.line.line.Line.{Line}
 use Rattle.desk_register.specs.Words.{within}
-use Rattle.desk_warnings.specs.Rows.{against_said}
+use Rattle.desk_warnings.specs.Rows.{against_said, said_at}
 use Rattle.desk_warnings.proofs.RowLemmas.{against_passed, against_plain}
 use Rattle.desk_warnings.proofs.against.CarefulRegister.against_row.Goals as goal
 
@@ -16,5 +17,8 @@ returns c = λ kept stands.
     let held = c.args.held_back.now in
     let row = c.args.row.now in
     IfOk-weaker c.against_said.result _ _
-    (λ text is. is ∙ ap (λ (l : Line). against_said under held kept (within kept l)) (c.in_ok-said.ensures kept stands) ∙ against_plain under held kept row (sym c.in_ok-is_passed.ensures ∙ c.if-is_passed.false))
+    (λ text is. is
+    ∙ ap (λ (l : Line). against_said under held kept c.in_ok-said.name (within kept l)) (c.in_ok-said.ensures.said kept stands)
+    ∙ ap (λ (n : Option NameView). against_said under held kept n (said_at under kept row)) (c.in_ok-said.ensures.name kept stands)
+    ∙ against_plain under held kept row (sym c.in_ok-is_passed.ensures ∙ c.if-is_passed.false))
     (c.against_said.ensures kept stands)
