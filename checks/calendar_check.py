@@ -110,8 +110,8 @@ def period_words(code):
     return words if mark == "plain" else "{} ({})".format(words, mark)
 
 
-def deadline_item(names, case, words, other):
-    """The item of a deadline's line, or none where it was met in time or has no end. One that was ended is marked."""
+def deadline_item(names, case, words, other, closed):
+    """The item of a deadline's line, or none where it was met in time or has no end. One that was ended, or is of a closed case, is marked."""
     number, code, end = int(words[1]), words[2], words[3]
     if end == "beyond":
         return None
@@ -123,7 +123,7 @@ def deadline_item(names, case, words, other):
     line = "  {}  case {} deadline {}: {}{}{}".format("to " + words[5] if end == "until" else "to midnight",
                                                       called(names, case), number, period_words(code),
                                                       ", filed late" if state == "late" else "", ", " + other if other else "")
-    return Item(day, second, case, 0, number, line, None, ended_in(words) is not None, state != "late")
+    return Item(day, second, case, 0, number, line, None, closed or ended_in(words) is not None, state != "late")
 
 
 def hearing_item(names, case, number, words):
@@ -136,15 +136,15 @@ def hearing_item(names, case, number, words):
 def docket_of(names, lines, reasons):
     """What the sheets and calendars at the end of a text say, in lines that call cases by these names, and that mark the other
     readings which are among these reasons."""
-    items, assigned, heard, calendars, case, motion, judge = [], {}, {}, {}, None, None, None
+    items, assigned, heard, calendars, case, closed, motion, judge = [], {}, {}, {}, None, False, None, None
     for line in lines:
         words = line.split(" ")
         if words[0] == "case":
-            case = int(words[1])
+            case, closed = int(words[1]), "closed" in words
         elif words[0] == "assigned":
             assigned[case] = set(judges_in(line))
         elif words[0] == "deadline":
-            items.append(deadline_item(names, case, words, other_of(reasons[case, int(words[1])])))
+            items.append(deadline_item(names, case, words, other_of(reasons[case, int(words[1])]), closed))
         elif words[0] == "motion":
             motion = int(words[1])
         elif words[0] == "hearing":

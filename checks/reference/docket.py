@@ -107,8 +107,8 @@ def assignment_of(rows, case):
 
 
 def ending_of(rows, case, number):
-    """Why a deadline is due no more: its case is closed, or it was ended. None where it is due."""
-    if closing_of(rows, case) is not None:
+    """Why a deadline is due no more: its case is closed and no act is recorded, or it was ended. None where it is due or was acted on."""
+    if closing_of(rows, case) is not None and deadline_of(rows, case, number).row.filed is None:
         return "case closed"
     found = last_fact(rows, case, number)
     return None if found is None else found.why

@@ -1,5 +1,5 @@
 -- What the facts that are recorded of a case come to, and what each is about.
-use Rattle.std.specs.Prelude.{ℕ, ◌==◌, ℤ, int_lt, Bool, true, false, is_some, List, [], ◌∷◌, ◌++◌, codes, fold, Option, Some, None, if◌then◌else◌}
+use Rattle.std.specs.Prelude.{ℕ, ◌==◌, ℤ, int_lt, Bool, true, false, ◌&&◌, not, is_some, List, [], ◌∷◌, ◌++◌, codes, fold, Option, Some, None, if◌then◌else◌}
 use Rattle.std.specs.Option.{option_map_or}
 use Rattle.docket_rows.specs.declared.command.Counted.TheVariants.{Deadline, Motion}
 use Rattle.docket_rows.specs.declared.command.Subject.{Subject}
@@ -62,12 +62,13 @@ ended_then number before Titled = before
 ended_then number before (Labelled counted other) = before
 
 -- why the deadline of that number was ended, if it was and wasn't resumed
-abbrev pub ended_in : List Fact → (number : ℕ) → Option Ending
+unfoldable pub ended_in : List Fact → (number : ℕ) → Option Ending
 ended_in facts number = fold (ended_then number) None facts
 
--- why the deadline of that number is due no more, if it isn't: its case is closed, or it was ended
-unfoldable pub ending_in : List Fact → (number : ℕ) → Option Ending
-ending_in facts number = if is_some (closing_in facts) then Some CaseClosed else ended_in facts number
+-- Why the deadline of that number is due no more, if it isn't: its case is closed, or it was ended. A case that is closed ends no deadline
+-- of which an act is recorded.
+unfoldable pub ending_in : List Fact → (number : ℕ) → (acted : Bool) → Option Ending
+ending_in facts number acted = if is_some (closing_in facts) && not acted then Some CaseClosed else ended_in facts number
 
 -- how the motion of that number was ruled on last, after one fact more
 abbrev pub ruled_then : (number : ℕ) → Option DatedRuling → Fact → Option DatedRuling

@@ -292,20 +292,21 @@ fn closed_then(before: Option<Closure>, fact: Fact) -> Option<Closure>
     }
 }
 
-/// Why the deadline of that number is due no more, by the facts of its case: the case is closed, or the deadline was ended and not
-/// resumed. `None` where neither is so.
+/// Why the deadline of that number is due no more, by the facts of its case: the case is closed and no act is recorded of the deadline, or
+/// it was ended and not resumed. `None` where neither is so. `acted` says whether an act is recorded.
 #[tactic(auto, unfolding(crate::specs::Facts::ending_in))]
-pub fn ending_in(facts: &[Fact], number: u32) -> Option<Ending>
-    ensures { result ≡ ending_in facts.now number }
+pub fn ending_in(facts: &[Fact], number: u32, acted: bool) -> Option<Ending>
+    ensures { result ≡ ending_in facts.now number acted }
 {
-    if closing_in(facts).is_some() {
+    if closing_in(facts).is_some() && !acted {
         return Some(Ending::CaseClosed);
     }
     ended_in(facts, number)
 }
 
-/// Why the deadline of that number was ended and not resumed, by the facts of its case, from the first on.
-fn ended_in(facts: &[Fact], number: u32) -> Option<Ending>
+/// Why the deadline of that number was ended, by the facts of its case, from the first on. `None` where it wasn't, or was resumed.
+#[tactic(auto, unfolding(crate::specs::Facts::ended_in))]
+pub fn ended_in(facts: &[Fact], number: u32) -> Option<Ending>
     ensures { result ≡ ended_in facts.now number }
 {
     let mut ending = None;

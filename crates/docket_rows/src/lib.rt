@@ -23,8 +23,8 @@ pub use cases::{CaseRecord, SharedCase};
 pub use command::{Command, Counted, HearingOrder, Subject};
 pub use decision::{Decision, Writes};
 pub use fact::{
-    Assignment, Closing, Closure, DatedRuling, Ending, Fact, Ruling, closing_in, ending_in,
-    ruling_in,
+    Assignment, Closing, Closure, DatedRuling, Ending, Fact, Ruling, closing_in, ended_in,
+    ending_in, ruling_in,
 };
 pub use hearing::{Hearing, Setting};
 pub use limits::{
