@@ -89,6 +89,11 @@ def hearing_of(rows, case, motion):
     return next((hearing for hearing in rows.hearings if (hearing.case, hearing.motion) == (case, motion)), None)
 
 
+def facts_by(rows, day):
+    """The rows as the facts have them that are dated by a day."""
+    return rows._replace(facts=[fact for fact in rows.facts if fact.dated <= day])
+
+
 def last_fact(rows, case, number):
     """The last fact of a deadline, or of the case itself where the number is None, unless it resumed or reopened it."""
     found = next((fact for fact in reversed(rows.facts) if isinstance(fact, Fact) and (fact.case, fact.deadline) == (case, number)), None)

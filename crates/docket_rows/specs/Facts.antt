@@ -1,5 +1,5 @@
 -- What the facts that are recorded of a case come to, and what each is about.
-use Rattle.std.specs.Prelude.{ℕ, ◌==◌, ℤ, int_lt, Bool, true, false, ◌&&◌, not, is_some, List, [], ◌∷◌, ◌++◌, codes, fold, Option, Some, None, if◌then◌else◌}
+use Rattle.std.specs.Prelude.{ℕ, ◌==◌, ℤ, int_le, int_lt, Bool, true, false, ◌&&◌, not, is_some, List, [], ◌∷◌, ◌++◌, codes, fold, Option, Some, None, if◌then◌else◌}
 use Rattle.std.specs.Option.{option_map_or}
 use Rattle.docket_rows.specs.declared.command.Counted.TheVariants.{Deadline, Motion}
 use Rattle.docket_rows.specs.declared.command.Subject.{Subject}
@@ -104,6 +104,43 @@ assigned_then before (Labelled counted number) = before
 -- who has the case, if it was assigned
 unfoldable pub assigned_in : List Fact → Option Assignment
 assigned_in facts = fold assigned_then None facts
+
+-- What is so on a day: only facts that are dated by then count
+
+-- the day of the order or the paper that says it; what something is called has none
+abbrev pub fact_dated : Fact → Option ℤ
+fact_dated (Ended deadline why dated) = Some dated
+fact_dated (Resumed deadline day dated) = Some dated
+fact_dated (Closed why dated) = Some dated
+fact_dated (Reopened dated) = Some dated
+fact_dated (Ruled motion how dated) = Some dated
+fact_dated (Assigned judge referred dated) = Some dated
+fact_dated Titled = None
+fact_dated (Labelled counted number) = None
+
+abbrev pub is_by : (day : ℤ) → Fact → Bool
+is_by day fact = option_map_or (λ dated. int_le dated day) (fact_dated fact) true
+
+abbrev pub closed_by : (day : ℤ) → Option Closure → Fact → Option Closure
+closed_by day before fact = if is_by day fact then closed_then before fact else before
+
+-- how the case was closed on that day, if it was and wasn't reopened
+unfoldable pub closing_by : List Fact → (day : ℤ) → Option Closure
+closing_by facts day = fold (closed_by day) None facts
+
+abbrev pub ruled_by : (number : ℕ) → (day : ℤ) → Option DatedRuling → Fact → Option DatedRuling
+ruled_by number day before fact = if is_by day fact then ruled_then number before fact else before
+
+-- how the motion of that number was ruled on by that day, if it was
+unfoldable pub ruling_by : List Fact → (number : ℕ) → (day : ℤ) → Option DatedRuling
+ruling_by facts number day = fold (ruled_by number day) None facts
+
+abbrev pub assigned_then_by : (day : ℤ) → Option Assignment → Fact → Option Assignment
+assigned_then_by day before fact = if is_by day fact then assigned_then before fact else before
+
+-- who had the case on that day, if it was assigned
+unfoldable pub assigned_by : List Fact → (day : ℤ) → Option Assignment
+assigned_by facts day = fold (assigned_then_by day) None facts
 
 -- the word by which texts name why a deadline was ended
 abbrev pub ending_word : Ending → List ℕ

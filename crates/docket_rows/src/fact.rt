@@ -1,7 +1,7 @@
 //! What is recorded of a case beside its deadlines, its motions and their hearings.
 
 ghost use Rattle.std.specs.Prelude.{◌≡◌};
-ghost use Rattle.docket_rows.specs.Facts.{closed_then, closing_in, closing_word, ended_in, ended_then, ending_in, ending_naming, ending_word, fact_naming, is_kept, ruled_then, ruling_in, ruling_word, suspended_by};
+ghost use Rattle.docket_rows.specs.Facts.{closed_then, closing_in, closing_word, ended_in, ended_then, ending_in, ending_naming, ending_word, fact_dated, fact_naming, is_kept, ruled_then, ruling_in, ruling_word, suspended_by};
 
 use crate::command::Counted;
 use court_clock::Day;
@@ -238,6 +238,21 @@ impl Fact {
         }
     }
 
+    /// The day of the order or the paper that says it. What something is called has none.
+    pub fn dated(&self) -> Option<Day>
+        ensures { result ≡ fact_dated self.now }
+    {
+        match *self {
+            Fact::Ended { dated, .. } => Some(dated),
+            Fact::Resumed { dated, .. } => Some(dated),
+            Fact::Closed { dated, .. } => Some(dated),
+            Fact::Reopened { dated } => Some(dated),
+            Fact::Ruled { dated, .. } => Some(dated),
+            Fact::Assigned { dated, .. } => Some(dated),
+            Fact::Titled | Fact::Labelled { .. } => None,
+        }
+    }
+
     // The same fact of the deadline or the motion of that number. One of neither stays as it is.
     pub(crate) fn naming(&self, number: u32) -> Fact
         ensures { result ≡ fact_naming self.now number }
@@ -279,7 +294,7 @@ pub fn closing_in(facts: &[Fact]) -> Option<Closure>
 }
 
 /// How the case was closed and not reopened, after one fact more.
-fn closed_then(before: Option<Closure>, fact: Fact) -> Option<Closure>
+pub(crate) fn closed_then(before: Option<Closure>, fact: Fact) -> Option<Closure>
     ensures { result ≡ closed_then before fact }
 {
     match fact {
@@ -350,7 +365,11 @@ pub fn ruling_in(facts: &[Fact], number: u32) -> Option<DatedRuling>
 }
 
 /// How the motion of that number was ruled on last, after one fact more.
-fn ruled_then(number: u32, before: Option<DatedRuling>, fact: Fact) -> Option<DatedRuling>
+pub(crate) fn ruled_then(
+    number: u32,
+    before: Option<DatedRuling>,
+    fact: Fact,
+) -> Option<DatedRuling>
     ensures { result ≡ ruled_then number before fact }
 {
     match fact {

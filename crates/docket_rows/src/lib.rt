@@ -5,6 +5,7 @@ mod answer;
 mod assigned;
 mod cases;
 mod command;
+mod dated;
 mod decision;
 mod fact;
 mod hearing;
@@ -21,6 +22,7 @@ pub use answer::Answer;
 pub use assigned::assigned_in;
 pub use cases::{CaseRecord, SharedCase};
 pub use command::{Command, Counted, HearingOrder, Subject};
+pub use dated::{assigned_by, closing_by, ruling_by};
 pub use decision::{Decision, Writes};
 pub use fact::{
     Assignment, Closing, Closure, DatedRuling, Ending, Fact, Ruling, closing_in, ended_in,

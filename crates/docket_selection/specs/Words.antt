@@ -11,5 +11,5 @@ pub use Rattle.docket_selection.specs.Bookings.{bookings_seen, day_bookings, day
 unfoldable pub use Rattle.docket_selection.specs.Bookings.{days_of_week}
 pub use Rattle.docket_selection.specs.Calendars.{is_booking_chosen, chosen_bookings, calendar_with, calendar_chosen, chosen_calendars, is_sheet_chosen, chosen_sheets}
 unfoldable pub use Rattle.docket_selection.specs.Calendars.{calendars_from}
-pub use Rattle.docket_selection.specs.Pending.{decides, is_decided_by, is_closed_by, is_listed_under, pending_motion, pending_case, pending_in, pending_before, pending_among, all_pending}
+pub use Rattle.docket_selection.specs.Pending.{decides, is_decided, is_listed_under, pending_motion, pending_case, pending_in, pending_before, pending_among, all_pending}
 unfoldable pub use Rattle.docket_selection.specs.Pending.{motion_if_pending, listed_under, pending_from}
