@@ -120,8 +120,9 @@ def ending_of(rows, case, number):
 
 
 def ruling_of(rows, case, number):
-    """The last ruling on a motion. None where there is none."""
-    return next((fact for fact in reversed(rows.facts) if isinstance(fact, Ruling) and (fact.case, fact.motion) == (case, number)), None)
+    """The ruling on a motion that counts: that of the latest day, and of one day that of the last row. None where there is none."""
+    facts = [fact for fact in rows.facts if isinstance(fact, Ruling) and (fact.case, fact.motion) == (case, number)]
+    return max(reversed(facts), key=lambda fact: fact.dated, default=None)
 
 
 def replaced(items, old, new):

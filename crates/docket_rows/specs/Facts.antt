@@ -70,18 +70,27 @@ ended_in facts number = fold (ended_then number) None facts
 unfoldable pub ending_in : List Fact → (number : ℕ) → (acted : Bool) → Option Ending
 ending_in facts number acted = if is_some (closing_in facts) && not acted then Some CaseClosed else ended_in facts number
 
--- how the motion of that number was ruled on last, after one fact more
+-- the ruling is of a day after this one
+abbrev pub is_ruled_after : (day : ℤ) → Option DatedRuling → Bool
+is_ruled_after day ruled = option_map_or (λ (r : DatedRuling). int_lt day r.dated) ruled false
+
+-- one ruling more: one of an earlier day takes no later one's place
+abbrev pub later_ruling : Option DatedRuling → DatedRuling → Option DatedRuling
+later_ruling before ruled = if is_ruled_after ruled.dated before then before else Some ruled
+
+-- how the motion of that number was ruled on, after one fact more
 abbrev pub ruled_then : (number : ℕ) → Option DatedRuling → Fact → Option DatedRuling
 ruled_then number before (Ended deadline why dated) = before
 ruled_then number before (Resumed deadline day dated) = before
 ruled_then number before (Closed why dated) = before
 ruled_then number before (Reopened dated) = before
-ruled_then number before (Ruled motion how dated) = if motion == number then Some (record { ruling = how; dated = dated }) else before
+ruled_then number before (Ruled motion how dated) =
+    if motion == number then later_ruling before (record { ruling = how; dated = dated }) else before
 ruled_then number before (Assigned judge referred dated) = before
 ruled_then number before Titled = before
 ruled_then number before (Labelled counted other) = before
 
--- how the motion of that number was ruled on, if it was: the last ruling counts
+-- how the motion of that number was ruled on, if it was: the ruling of the latest day counts, and of those of one day the last
 unfoldable pub ruling_in : List Fact → (number : ℕ) → Option DatedRuling
 ruling_in facts number = fold (ruled_then number) None facts
 

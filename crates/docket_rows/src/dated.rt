@@ -4,7 +4,8 @@ ghost use Rattle.std.specs.Prelude.{◌≡◌};
 ghost use Rattle.docket_rows.specs.Facts.{assigned_by, assigned_then_by, closed_by, closing_by, is_by, ruled_by, ruling_by};
 
 use crate::assigned::assigned_then;
-use crate::fact::{Assignment, Closure, DatedRuling, Fact, closed_then, ruled_then};
+use crate::fact::{Assignment, Closure, DatedRuling, Fact, closed_then};
+use crate::ruled::ruled_then;
 use court_clock::Day;
 
 /// How a case of which these facts are recorded was closed on that day. `None` where it wasn't yet, or was reopened by then.

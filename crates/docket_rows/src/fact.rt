@@ -1,7 +1,7 @@
 //! What is recorded of a case beside its deadlines, its motions and their hearings.
 
 ghost use Rattle.std.specs.Prelude.{◌≡◌};
-ghost use Rattle.docket_rows.specs.Facts.{closed_then, closing_in, closing_word, ended_in, ended_then, ending_in, ending_naming, ending_word, fact_dated, fact_naming, is_kept, ruled_then, ruling_in, ruling_word, suspended_by};
+ghost use Rattle.docket_rows.specs.Facts.{closed_then, closing_in, closing_word, ended_in, ended_then, ending_in, ending_naming, ending_word, fact_dated, fact_naming, is_kept, ruling_word, suspended_by};
 
 use crate::command::Counted;
 use court_clock::Day;
@@ -346,46 +346,6 @@ fn ended_then(number: u32, before: Option<Ending>, fact: Fact) -> Option<Ending>
         Fact::Resumed { deadline, .. } => { if deadline == number { None } else { before } }
         Fact::Closed { .. } | Fact::Reopened { .. } => before,
         Fact::Ruled { .. } => before,
-        Fact::Assigned { .. } => before,
-        Fact::Titled | Fact::Labelled { .. } => before,
-    }
-}
-
-/// How the motion of that number was ruled on, by the facts of its case, from the first on: the last ruling counts. `None` where it
-/// wasn't. A motion of which the ruling is reserved is still pending.
-#[tactic(auto, unfolding(crate::specs::Facts::ruling_in))]
-pub fn ruling_in(facts: &[Fact], number: u32) -> Option<DatedRuling>
-    ensures { result ≡ ruling_in facts.now number }
-{
-    let mut ruled = None;
-    for fact in facts {
-        ruled = ruled_then(number, ruled, *fact);
-    }
-    ruled
-}
-
-/// How the motion of that number was ruled on last, after one fact more.
-pub(crate) fn ruled_then(
-    number: u32,
-    before: Option<DatedRuling>,
-    fact: Fact,
-) -> Option<DatedRuling>
-    ensures { result ≡ ruled_then number before fact }
-{
-    match fact {
-        Fact::Ruled {
-            motion,
-            ruling,
-            dated,
-        } => {
-            if motion == number {
-                Some(DatedRuling { ruling, dated })
-            } else {
-                before
-            }
-        }
-        Fact::Ended { .. } | Fact::Resumed { .. } => before,
-        Fact::Closed { .. } | Fact::Reopened { .. } => before,
         Fact::Assigned { .. } => before,
         Fact::Titled | Fact::Labelled { .. } => before,
     }

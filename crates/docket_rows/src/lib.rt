@@ -15,6 +15,7 @@ mod part;
 mod query;
 mod rebooking;
 mod refusal;
+mod ruled;
 mod sheet;
 mod view;
 
@@ -26,7 +27,7 @@ pub use dated::{assigned_by, closing_by, ruling_by};
 pub use decision::{Decision, Writes};
 pub use fact::{
     Assignment, Closing, Closure, DatedRuling, Ending, Fact, Ruling, closing_in, ended_in,
-    ending_in, ruling_in,
+    ending_in,
 };
 pub use hearing::{Hearing, Setting};
 pub use limits::{
@@ -37,6 +38,7 @@ pub use part::{PartId, PartValue};
 pub use query::Query;
 pub use rebooking::{CalendarChange, Placement, Rebooking};
 pub use refusal::Refusal;
+pub use ruled::ruling_in;
 pub use sheet::{
     Sheet, SheetDeadline, SheetDeadlines, SheetHearing, SheetMotion, SheetMotions, State,
 };
