@@ -27,7 +27,7 @@ SET = {"set/filing": "set by an order, to file", "set/service": "set by an order
 # The days from which they are right as they are applied.
 COUNTING, SUMMONS = "2009-12-01", "2015-12-01"
 
-# Of the marks of entered periods: the section, and what is to be done.
+# Of the marks of entered periods: the section, and what is to be done, or that no court extends them.
 MARKS = {
     "50b": ("50(b)", "a renewed motion for judgment as a matter of law"),
     "50d": ("50(d)", "a motion for a new trial by the losing party"),
@@ -35,7 +35,7 @@ MARKS = {
     "59b": ("59(b)", "a motion for a new trial"),
     "59d": ("59(d)", "a new trial on the court's own initiative"),
     "59e": ("59(e)", "a motion to alter or amend a judgment"),
-    "60b": ("60(b)", "a motion for relief from a judgment"),
+    "60b": ("6(b)(2)", "not extended, as a motion under 60(b)"),
 }
 
 
