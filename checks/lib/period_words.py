@@ -4,6 +4,8 @@ described, and in a memo called by its Rule.
 import re
 
 from lib.written_fields import ENTERED
+from reference.civil import day_of_text
+from reference.sections import SINCE
 
 # Of the periods of the Rules: the number of days, what is to be done, the section, and the event.
 ANSWER, WAIVED = "12(a)(1)(A)(ii)", "from when the request for a waiver was sent"
@@ -73,11 +75,13 @@ def citation(section):
 
 def called(text, event):
     """The lines of a period as a memo calls it. A period of the Rules is called by its section; after an entered one are the sections
-    of docs/law/RULES.md with such a period, or its code where there is none."""
+    of docs/law/RULES.md with such a period, each with the day from which it sets that where the event lies before it, or its code where
+    there is none."""
     (day, what, where), *others = heading(text, event)
     if text in RULES:
         days, words, section, _ = RULES[text]
         return [(day, "Rule {}: {}, {}".format(section, words, counted(days, "day")), where)] + others
-    sections = [citation(section) for section, texts in ENTERED.items() if text in texts]
+    sections = [citation(section) + (" (since {})".format(SINCE[section]) if event < day_of_text(SINCE[section]) else "")
+                for section, texts in ENTERED.items() if text in texts]
     back = ", as in " + ", ".join(sections) if sections else " ({})".format(text)
     return [(day, what + back, where)] + others
