@@ -87,11 +87,7 @@ pub(crate) fn is_before(
 }
 
 /// Whether the deadlines of a case are chosen that is closed so, if it is. `before` says whether it is before the chosen judge.
-pub(crate) fn are_deadlines_chosen(
-    choice: &Choice,
-    closed: &Option<Closure>,
-    before: bool,
-) -> bool
+pub(crate) fn are_deadlines_chosen(choice: &Choice, closed: &Option<Closure>, before: bool) -> bool
     ensures { result ≡ are_deadlines_chosen choice.now closed.now before }
 {
     (choice.met || closed.is_none()) && before
