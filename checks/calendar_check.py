@@ -24,7 +24,7 @@ import tempfile
 from collections import namedtuple
 
 from lib.asked_days import asked_days, counted_days, missing_days
-from lib.assigned import assigned_in, judges_in
+from lib.assigned import assigned_in, judges_in, rows_after
 from lib.case_names import asked, called, made_name, read
 from lib.desk import Desk, divided
 from lib.given_docket import LAST_ROW, given_docket
@@ -110,8 +110,8 @@ def period_words(code):
     return words if mark == "plain" else "{} ({})".format(words, mark)
 
 
-def deadline_item(names, case, words, other):
-    """The item of a deadline's line, or none where it was met in time or has no end. One that was ended is marked."""
+def deadline_item(names, case, words, other, closed):
+    """The item of a deadline's line, or none where it was met in time or has no end. One that was ended, or is of a closed case, is marked."""
     number, code, end = int(words[1]), words[2], words[3]
     if end == "beyond":
         return None
@@ -123,7 +123,7 @@ def deadline_item(names, case, words, other):
     line = "  {}  case {} deadline {}: {}{}{}".format("to " + words[5] if end == "until" else "to midnight",
                                                       called(names, case), number, period_words(code),
                                                       ", filed late" if state == "late" else "", ", " + other if other else "")
-    return Item(day, second, case, 0, number, line, None, ended_in(words) is not None, state != "late")
+    return Item(day, second, case, 0, number, line, None, closed or ended_in(words) is not None, state != "late")
 
 
 def hearing_item(names, case, number, words):
@@ -136,15 +136,15 @@ def hearing_item(names, case, number, words):
 def docket_of(names, lines, reasons):
     """What the sheets and calendars at the end of a text say, in lines that call cases by these names, and that mark the other
     readings which are among these reasons."""
-    items, assigned, heard, calendars, case, motion, judge = [], {}, {}, {}, None, None, None
+    items, assigned, heard, calendars, case, closed, motion, judge = [], {}, {}, {}, None, False, None, None
     for line in lines:
         words = line.split(" ")
         if words[0] == "case":
-            case = int(words[1])
+            case, closed = int(words[1]), "closed" in words
         elif words[0] == "assigned":
             assigned[case] = set(judges_in(line))
         elif words[0] == "deadline":
-            items.append(deadline_item(names, case, words, other_of(reasons[case, int(words[1])])))
+            items.append(deadline_item(names, case, words, other_of(reasons[case, int(words[1])]), closed))
         elif words[0] == "motion":
             motion = int(words[1])
         elif words[0] == "hearing":
@@ -393,13 +393,13 @@ def reads_other_days(programs):
     return None
 
 
-def made_pending(chance, names, court, days, judges, sheets):
+def made_pending(chance, names, court, days, judges, sheets, data):
     """Words that ask what has been pending for long, and what is wrong with how the program ends that is called with them, or none."""
     starts = [day_of(words[3]) for sheet in sheets for words, _ in sheet.motions] + [day_of(sheet.filed) for sheet in sheets]
     ends = [end_of_months(start, months) for start in starts for months in (6, 36)] + days
     on = chance.choice(ends) + datetime.timedelta(chance.randint(-1, 1))
     form = chance.choice([[], ["--page"], ["--csv"]])
-    lists, words = pending_on(on, sheets, judges), ["pending", "--on", str(on), *form]
+    lists, words = pending_on(on, sheets, judges, rows_after(data)), ["pending", "--on", str(on), *form]
     said = "{} isn't covered: the court's file covers {} to {}".format(on, court["from"], court["to"])
 
     def fault_in(found):
@@ -416,8 +416,8 @@ def made_pending(chance, names, court, days, judges, sheets):
     return words, fault_in
 
 
-def made_words(chance, names, court, docket, sheets, reasons):
-    """Words, and what is wrong with how the program ends that is called with them, or none."""
+def made_words(chance, names, court, docket, sheets, reasons, data):
+    """Words, and what is wrong with how the program ends that is called with them, or none. `data` is the input as clerk_office reads it."""
     def is_text(lines):
         wanted = "".join(line + "\n" for line in lines)
         return lambda found: None if found == (0, wanted, "") else "wanted\n" + wanted
@@ -436,7 +436,7 @@ def made_words(chance, names, court, docket, sheets, reasons):
                 is_missing("{} isn't covered: the court's file covers {} to {}".format(of, court["from"], court["to"]))
         return ["week", "--judge", judge, "--of", str(of)], is_text(week_text(names, court, docket, judge, of))
     if chance.random() < 0.15:
-        return made_pending(chance, names, court, days, list(docket.calendars), sheets)
+        return made_pending(chance, names, court, days, list(docket.calendars), sheets, data)
     if chance.random() < 0.1:
         asked_for = chance.choice([[name] for name in CHOOSING] + [["week", "--of", court["from"]]])
         return asked_for + ["--judge", "Nobody"], is_missing("no judge is named 'Nobody' in the court's file")
@@ -488,7 +488,7 @@ def differs(chance, given):
     lines, reasons = closing_of(text), reasons_of(closing_of(given.memo(LAST_ROW).output.decode()))
     docket, sheets = docket_of(given.names, lines, reasons), sheets_of(lines, assigned_in(given.read_by_office()))
     for _ in range(5):
-        words, fault_in = made_words(chance, given.names, court, docket, sheets, reasons)
+        words, fault_in = made_words(chance, given.names, court, docket, sheets, reasons, given.read_by_office())
         found = given.report(words).texts()
         fault = fault_in(found)
         if fault is not None:

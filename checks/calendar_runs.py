@@ -18,7 +18,7 @@ import re
 import sys
 import tempfile
 
-from lib.assigned import assigned_in
+from lib.assigned import assigned_in, rows_after
 from lib.given_docket import LAST_ROW, input_of
 from lib.memo_head import below_head, head_of
 from lib.memo_lines import closing_of, reasons_of
@@ -70,7 +70,8 @@ def reference_text(run, programs):
     docket = docket_of({}, closing, reasons)
     if run.words[0] == "pending":
         on = datetime.date.fromisoformat(option(run.words, "--on"))
-        lists = pending_on(on, sheets_of(closing, assigned_in(given.read_by_office())), list(docket.calendars))
+        data = given.read_by_office()
+        lists = pending_on(on, sheets_of(closing, assigned_in(data)), list(docket.calendars), rows_after(data))
         return (table_of({}, lists) if "--csv" in run.words else "".join(line + "\n" for line in pending_lines({}, on, lists))).encode()
     judge, case, count = (option(run.words, name) for name in ("--judge", "--case", "--days"))
     first, last, day, today = (datetime.date.fromisoformat(option(run.words, name) or court[key])

@@ -370,7 +370,7 @@ REFUSED = {
     7: unsuited,
     8: span("beyond the days covered, "),
     9: recorded,
-    10: by_grant("this time must not be extended", "isn't reset later, nor between a day and a time", "6(b)(2)"),
+    10: by_grant("this time must not be extended", "this time must not be reset to a later end", "6(b)(2)"),
     11: alone("an extension takes good cause, which wasn't found", "6(b)(1)"),
     12: late("a motion is needed"),
     13: late("neglect must be excused"),

@@ -1,7 +1,8 @@
 """What has been pending for long on a day, by judge, as `docket pending` lists it: a second body, which counts months by the days on
 which they end.
 
-Of a sheet it is asked when the case was filed, closed and assigned, and when its motions were served and how they were ruled on.
+Of a sheet it is asked when the case was filed and when its motions were served. How these were ruled on by the day, whether the case was
+closed, and who had it, is by the facts of its rows that are dated by then.
 """
 import calendar
 import csv
@@ -11,6 +12,8 @@ from collections import namedtuple
 
 from lib.case_names import called
 from lib.pages import faults_of, read, rows_of
+from reference.civil import day_of_text
+from reference.docket import assignment_of, closing_of, facts_by, ruling_of
 
 # `judge` is empty where the case isn't assigned, and `motion` is none of a case itself.
 Item = namedtuple("Item", "judge case motion since")
@@ -32,18 +35,21 @@ def end_of_months(since, months):
     return datetime.date(years, month + 1, min(since.day, calendar.monthrange(years, month + 1)[1]))
 
 
-def pending_on(day, sheets, judges):
-    """The motions and the cases that have been pending for long on the day, each by judge, case and motion."""
-    def holder(sheet):
-        return sheet.assigned[1].split(", ")[0] if sheet.assigned else ""
+def pending_on(day, sheets, judges, docket):
+    """The motions and the cases that have been pending for long on the day, each by judge, case and motion. `docket` is that of the rows."""
+    so_far = facts_by(docket, day_of_text(str(day)))
 
-    def is_decided(words):
-        ruling = " ".join(words[6:-1])
-        return bool(ruling) and ruling != "reserved" and day_of(words[-1]) <= day
-    listed = sorted((s for s in sheets if not (s.closed and day_of(s.closed[0]) <= day)),
+    def holder(sheet):
+        assigned = assignment_of(so_far, sheet.case)
+        return judges[assigned.judge] if assigned is not None else ""
+
+    def is_decided(case, motion):
+        ruling = ruling_of(so_far, case, motion)
+        return ruling is not None and ruling.how != "reserved"
+    listed = sorted((s for s in sheets if closing_of(so_far, s.case) is None),
                     key=lambda s: ([*judges, ""].index(holder(s)), s.case))
     motions = [Item(holder(s), s.case, int(words[1]), day_of(words[3])) for s in listed for words, _ in s.motions
-               if end_of_months(day_of(words[3]), 6) < day and not is_decided(words)]
+               if end_of_months(day_of(words[3]), 6) < day and not is_decided(s.case, int(words[1]))]
     cases = [Item(holder(s), s.case, None, day_of(s.filed)) for s in listed if end_of_months(day_of(s.filed), 36) < day]
     return motions, cases
 

@@ -89,6 +89,11 @@ def hearing_of(rows, case, motion):
     return next((hearing for hearing in rows.hearings if (hearing.case, hearing.motion) == (case, motion)), None)
 
 
+def facts_by(rows, day):
+    """The rows as the facts have them that are dated by a day."""
+    return rows._replace(facts=[fact for fact in rows.facts if fact.dated <= day])
+
+
 def last_fact(rows, case, number):
     """The last fact of a deadline, or of the case itself where the number is None, unless it resumed or reopened it."""
     found = next((fact for fact in reversed(rows.facts) if isinstance(fact, Fact) and (fact.case, fact.deadline) == (case, number)), None)
@@ -107,16 +112,17 @@ def assignment_of(rows, case):
 
 
 def ending_of(rows, case, number):
-    """Why a deadline is due no more: its case is closed, or it was ended. None where it is due."""
-    if closing_of(rows, case) is not None:
+    """Why a deadline is due no more: its case is closed and no act is recorded, or it was ended. None where it is due or was acted on."""
+    if closing_of(rows, case) is not None and deadline_of(rows, case, number).row.filed is None:
         return "case closed"
     found = last_fact(rows, case, number)
     return None if found is None else found.why
 
 
 def ruling_of(rows, case, number):
-    """The last ruling on a motion. None where there is none."""
-    return next((fact for fact in reversed(rows.facts) if isinstance(fact, Ruling) and (fact.case, fact.motion) == (case, number)), None)
+    """The ruling on a motion that counts: that of the latest day, and of one day that of the last row. None where there is none."""
+    facts = [fact for fact in rows.facts if isinstance(fact, Ruling) and (fact.case, fact.motion) == (case, number)]
+    return max(reversed(facts), key=lambda fact: fact.dated, default=None)
 
 
 def replaced(items, old, new):

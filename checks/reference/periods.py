@@ -2,7 +2,7 @@
 import re
 from collections import namedtuple
 
-from .civil import instant_at
+from .civil import civil, instant_at
 from .rule6 import (AFTER, BEFORE, BEYOND, ELECTRONIC, FILING, SERVICE, Filing, Shown, adds_three, covered,
                     end_of_hours, is_timely, last_day, rolled, with_access, with_access_hours)
 
@@ -161,8 +161,16 @@ def refused_order(days, clock, deadline, request):
     if not covered(days, request.asked.day) or not covered(days, day):
         return 5
     now, then = shown(days, clock, deadline), shown(days, clock, granted(deadline, grant))
-    no_later = BEYOND not in (now, then) and now.kind == then.kind and then.end <= now.end
-    return 10 if deadline.period.extended == "never" and not no_later else None
+    return 10 if deadline.period.extended == "never" and not is_no_later(clock, now, then) else None
+
+
+def is_no_later(clock, now, then):
+    """Whether the second end is no later than the first: a last day and an instant are compared by the day on the court's clock."""
+    if BEYOND in (now, then):
+        return False
+    if now.kind == then.kind:
+        return then.end <= now.end
+    return civil(clock.zone, then.end)[0] <= now.end if now.kind == "last" else then.end < civil(clock.zone, now.end)[0]
 
 
 def refused_extension(days, clock, deadline, request):

@@ -4,7 +4,7 @@ ghost use Rattle.std.specs.Prelude.{◌≡◌, ◌<◌, ◌≤◌, ◌+◌, true
 ghost use Rattle.std.specs.Option.{option_map_or};
 ghost use Rattle.docket_rows.specs.declared.command.Command.TheVariants as command;
 ghost use Rattle.docket_rows.specs.declared.hearing.Hearing.{Hearing};
-ghost use Rattle.docket_rows.specs.Words.{add_fact, answer_if_made, are_judges, assign_refusal, changed_by_fact, close_refusal, end_refusal, ending_in, facts_in, first_ahead, has_one, hearing_ahead, hearing_set, is_kept, is_named_twice, most_facts, motions_in, no_suspender, numbered_motions, refusal, reopen_refusal, rule_refusal, without_ahead};
+ghost use Rattle.docket_rows.specs.Words.{add_fact, answer_if_made, are_judges, assign_refusal, changed_by_fact, close_refusal, end_refusal, ended_in, facts_in, first_ahead, has_one, hearing_ahead, hearing_set, is_kept, is_named_twice, most_facts, motions_in, no_suspender, numbered_motions, refusal, reopen_refusal, rule_refusal, without_ahead};
 
 use crate::called::{label_refusal, not_counted, title_refusal};
 use crate::resumed::{resume_refusal, run_if_anew, shown_if_resumed};
@@ -13,7 +13,7 @@ use crate::seen::{deadline_in, has_case, hearing_in, if_ahead, is_closed, motion
 use crate::sight::Sight;
 use court_clock::Day;
 use docket_rows::{
-    Answer, CaseRecord, Counted, Ending, Fact, Hearing, MOST_FACTS, MotionRecord, Refusal, ending_in,
+    Answer, CaseRecord, Counted, Ending, Fact, Hearing, MOST_FACTS, MotionRecord, Refusal, ended_in,
 };
 use std::alloc::{AllocError, Global};
 
@@ -27,13 +27,13 @@ pub(crate) fn facts_count<S: Sight>(sight: &S, case: u32) -> usize
     }
 }
 
-/// Why the deadline of that number is due no more, if it isn't.
-#[tactic(auto, unfolding(docket_rows::specs::Words::closing_in, docket_rows::specs::Words::ending_in))]
+/// Why the deadline of that number was ended, if it was and wasn't resumed.
+#[tactic(auto, unfolding(docket_rows::specs::Words::ended_in))]
 pub(crate) fn ending_of<S: Sight>(sight: &S, case: u32, deadline: u32) -> Option<Ending>
-    ensures { result ≡ ending_in (facts_in (S.parts sight.now) case) deadline }
+    ensures { result ≡ ended_in (facts_in (S.parts sight.now) case) deadline }
 {
     match sight.case(case) {
-        Some(record) => ending_in(record.facts(), deadline),
+        Some(record) => ended_in(record.facts(), deadline),
         None => None,
     }
 }

@@ -26,7 +26,7 @@ use Rattle.docket_rows.specs.declared.query.Query.TheVariants.{Sheet, JudgeDay, 
 use Rattle.docket_rows.specs.declared.refusal.Refusal.{Refusal}
 use Rattle.docket_rows.specs.declared.refusal.Refusal.TheVariants.{NoSuchCase, CaseIsOpen, NoSuchDeadline, NoSuchMotion, BadDay, BadLength, Beyond, AlreadyMet, AlreadySet, NotSet, NotACourtDay, OutsideHours, ShortNotice, JudgeBusy, RoomBusy, AlreadyHoliday, HearingThatDay, NoticeLost, Full, NoSuchJudge, NoSuchRoom, BadPanel, CaseIsClosed, NotClosed, HearingAhead, AlreadyEnded, NotEnded}
 use Rattle.docket_rows.specs.CourtSetup.{CourtSetup}
-use Rattle.docket_rows.specs.Facts.{ending_in, suspended_by}
+use Rattle.docket_rows.specs.Facts.{ended_in, suspended_by}
 use Rattle.docket_rows.specs.Hearings.{hearing_asked, has_judges, is_panel, fits_day, is_court_day, is_within_hours, is_need, lacks_last_service, missed_service, judge_clash, room_clash, all_booked, least, lacks_notice}
 use Rattle.docket_rows.specs.Limits.{most_deadlines, most_motions, most_facts, most_grants, most_dates, most_outages}
 use Rattle.docket_rows.specs.Parts.{Parts}
@@ -91,7 +91,7 @@ end_checks parts case deadline why dated =
     ∷ no_suspender parts case why
     ∷ when (not (is_covered parts.days dated)) BadDay
     ∷ when (has_one (λ row. is_some row.filed) row) AlreadyMet
-    ∷ when (is_some (ending_in (facts_in parts case) deadline)) AlreadyEnded
+    ∷ when (is_some (ended_in (facts_in parts case) deadline)) AlreadyEnded
     ∷ when (nat_le most_facts (length (facts_in parts case))) Full
     ∷ [])
 
@@ -104,7 +104,7 @@ resume_checks setup parts case deadline from dated =
     ∷ when (is_none row) NoSuchDeadline
     ∷ when (not (is_covered parts.days dated && is_covered_if_given parts.days from)) BadDay
     ∷ when (has_one (λ row. is_some row.filed) row) AlreadyMet
-    ∷ when (is_none (ending_in (facts_in parts case) deadline)) NotEnded
+    ∷ when (is_none (ended_in (facts_in parts case) deadline)) NotEnded
     ∷ when (has_one (λ row. is_beyond (shown_now setup parts (anew_if row from))) row) Beyond
     ∷ when (nat_le most_facts (length (facts_in parts case))) Full
     ∷ [])

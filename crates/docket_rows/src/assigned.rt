@@ -20,7 +20,7 @@ pub fn assigned_in(facts: &[Fact]) -> Option<Assignment>
 }
 
 /// Who has the case, after one fact more.
-fn assigned_then(before: Option<Assignment>, fact: Fact) -> Option<Assignment>
+pub(crate) fn assigned_then(before: Option<Assignment>, fact: Fact) -> Option<Assignment>
     ensures { result ≡ assigned_then before fact }
 {
     match fact {

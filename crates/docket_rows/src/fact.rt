@@ -1,7 +1,7 @@
 //! What is recorded of a case beside its deadlines, its motions and their hearings.
 
 ghost use Rattle.std.specs.Prelude.{◌≡◌};
-ghost use Rattle.docket_rows.specs.Facts.{closed_then, closing_in, closing_word, ended_in, ended_then, ending_in, ending_naming, ending_word, fact_naming, is_kept, ruled_then, ruling_in, ruling_word, suspended_by};
+ghost use Rattle.docket_rows.specs.Facts.{closed_then, closing_in, closing_word, ended_in, ended_then, ending_in, ending_naming, ending_word, fact_dated, fact_naming, is_kept, ruling_word, suspended_by};
 
 use crate::command::Counted;
 use court_clock::Day;
@@ -238,6 +238,21 @@ impl Fact {
         }
     }
 
+    /// The day of the order or the paper that says it. What something is called has none.
+    pub fn dated(&self) -> Option<Day>
+        ensures { result ≡ fact_dated self.now }
+    {
+        match *self {
+            Fact::Ended { dated, .. } => Some(dated),
+            Fact::Resumed { dated, .. } => Some(dated),
+            Fact::Closed { dated, .. } => Some(dated),
+            Fact::Reopened { dated } => Some(dated),
+            Fact::Ruled { dated, .. } => Some(dated),
+            Fact::Assigned { dated, .. } => Some(dated),
+            Fact::Titled | Fact::Labelled { .. } => None,
+        }
+    }
+
     // The same fact of the deadline or the motion of that number. One of neither stays as it is.
     pub(crate) fn naming(&self, number: u32) -> Fact
         ensures { result ≡ fact_naming self.now number }
@@ -279,7 +294,7 @@ pub fn closing_in(facts: &[Fact]) -> Option<Closure>
 }
 
 /// How the case was closed and not reopened, after one fact more.
-fn closed_then(before: Option<Closure>, fact: Fact) -> Option<Closure>
+pub(crate) fn closed_then(before: Option<Closure>, fact: Fact) -> Option<Closure>
     ensures { result ≡ closed_then before fact }
 {
     match fact {
@@ -292,20 +307,21 @@ fn closed_then(before: Option<Closure>, fact: Fact) -> Option<Closure>
     }
 }
 
-/// Why the deadline of that number is due no more, by the facts of its case: the case is closed, or the deadline was ended and not
-/// resumed. `None` where neither is so.
+/// Why the deadline of that number is due no more, by the facts of its case: the case is closed and no act is recorded of the deadline, or
+/// it was ended and not resumed. `None` where neither is so. `acted` says whether an act is recorded.
 #[tactic(auto, unfolding(crate::specs::Facts::ending_in))]
-pub fn ending_in(facts: &[Fact], number: u32) -> Option<Ending>
-    ensures { result ≡ ending_in facts.now number }
+pub fn ending_in(facts: &[Fact], number: u32, acted: bool) -> Option<Ending>
+    ensures { result ≡ ending_in facts.now number acted }
 {
-    if closing_in(facts).is_some() {
+    if closing_in(facts).is_some() && !acted {
         return Some(Ending::CaseClosed);
     }
     ended_in(facts, number)
 }
 
-/// Why the deadline of that number was ended and not resumed, by the facts of its case, from the first on.
-fn ended_in(facts: &[Fact], number: u32) -> Option<Ending>
+/// Why the deadline of that number was ended, by the facts of its case, from the first on. `None` where it wasn't, or was resumed.
+#[tactic(auto, unfolding(crate::specs::Facts::ended_in))]
+pub fn ended_in(facts: &[Fact], number: u32) -> Option<Ending>
     ensures { result ≡ ended_in facts.now number }
 {
     let mut ending = None;
@@ -330,42 +346,6 @@ fn ended_then(number: u32, before: Option<Ending>, fact: Fact) -> Option<Ending>
         Fact::Resumed { deadline, .. } => { if deadline == number { None } else { before } }
         Fact::Closed { .. } | Fact::Reopened { .. } => before,
         Fact::Ruled { .. } => before,
-        Fact::Assigned { .. } => before,
-        Fact::Titled | Fact::Labelled { .. } => before,
-    }
-}
-
-/// How the motion of that number was ruled on, by the facts of its case, from the first on: the last ruling counts. `None` where it
-/// wasn't. A motion of which the ruling is reserved is still pending.
-#[tactic(auto, unfolding(crate::specs::Facts::ruling_in))]
-pub fn ruling_in(facts: &[Fact], number: u32) -> Option<DatedRuling>
-    ensures { result ≡ ruling_in facts.now number }
-{
-    let mut ruled = None;
-    for fact in facts {
-        ruled = ruled_then(number, ruled, *fact);
-    }
-    ruled
-}
-
-/// How the motion of that number was ruled on last, after one fact more.
-fn ruled_then(number: u32, before: Option<DatedRuling>, fact: Fact) -> Option<DatedRuling>
-    ensures { result ≡ ruled_then number before fact }
-{
-    match fact {
-        Fact::Ruled {
-            motion,
-            ruling,
-            dated,
-        } => {
-            if motion == number {
-                Some(DatedRuling { ruling, dated })
-            } else {
-                before
-            }
-        }
-        Fact::Ended { .. } | Fact::Resumed { .. } => before,
-        Fact::Closed { .. } | Fact::Reopened { .. } => before,
         Fact::Assigned { .. } => before,
         Fact::Titled | Fact::Labelled { .. } => before,
     }

@@ -2,16 +2,18 @@
 
 ghost use Rattle.std.specs.Prelude.{◌≡◌, ◌++◌, ◌==◌, IfOk, OnOk};
 ghost use Rattle.std.specs.List.{flat_map};
-ghost use Rattle.docket_rows.specs.Words.{Rows, has_one, setup_of};
-ghost use Rattle.docket_core.specs.Words.{StandsFor};
-ghost use Rattle.docket_selection.specs.Pending.{all_pending, decides, is_closed_by, is_decided_by, is_listed_under, motion_if_pending, pending_among, pending_before, pending_case, pending_from, pending_in, pending_motion, listed_under};
+ghost use Rattle.docket_rows.specs.Words.{Rows, facts_in, has_one, setup_of};
+ghost use Rattle.docket_core.specs.Words.{StandsFor, parts_held};
+ghost use Rattle.docket_selection.specs.Pending.{all_pending, decides, is_decided, is_listed_under, motion_if_pending, pending_among, pending_before, pending_case, pending_from, pending_in, pending_motion, listed_under};
 
 use crate::lists::push_if;
 use crate::sheets::sheets_of;
 use court_clock::Day;
 use court_days::Court;
 use docket_core::Docket;
-use docket_rows::{Assignment, Closure, DatedRuling, Ruling, Sheet, SheetMotion};
+use docket_rows::{
+    Assignment, DatedRuling, Fact, Ruling, Sheet, SheetMotion, assigned_by, closing_by, ruling_by,
+};
 use std::alloc::{AllocError, Global};
 
 /// What is listed.
@@ -41,9 +43,9 @@ pub struct PendingItem {
 pub type PendingTypes = Option<(PendingItem, Option<u8>, Option<u32>, Day)>;
 
 /// What has been pending for long on that day, under the judge who has the case: by the numbers of the judges, and last what no judge
-/// has; for each by case and motion. Six months, and three years, are calendar months, as `Day::has_passed` counts them. A motion is
-/// pending unless its last ruling is of that day or an earlier one and isn't that it is reserved. Motions of a case that was closed by
-/// that day aren't listed. `Err` says that memory ran out.
+/// has; for each by case and motion. Six months, and three years, are calendar months, as `Day::has_passed` counts them. Rulings, closings
+/// and assignments count if they are dated by that day. A motion is pending unless the last of these rulings on it decides it. Motions of a
+/// case that was closed on that day aren't listed. `Err` says that memory ran out.
 pub fn pending_of(
     alloc: Global,
     court: &Court,
@@ -56,39 +58,41 @@ pub fn pending_of(
 {
     let _types: PendingTypes = None;
     let sheets = sheets_of(alloc, docket)?;
-    pending_among(alloc, &sheets, court.judges(), kind, day)
+    pending_among(alloc, docket, &sheets, court.judges(), kind, day)
 }
 
 /// What is listed of the cases of these sheets, under each of that many judges, and last under none.
 fn pending_among(
     alloc: Global,
+    docket: &Docket,
     sheets: &[Sheet],
     judges: u8,
     kind: PendingKind,
     day: Day,
 ) -> Result<Vec<PendingItem>, AllocError>
-    ensures { IfOk result (λ list. list.items ≡ pending_among kind day sheets.now judges) }
+    ensures { IfOk result (λ list. list.items ≡ pending_among kind day (facts_in (parts_held docket.now)) sheets.now judges) }
 {
     let _types: PendingTypes = None;
     let mut list = Vec::new(alloc);
-    push_judges(&mut list, sheets, judges, kind, day)?;
-    push_sheets(&mut list, sheets, None, kind, day)?;
+    push_judges(&mut list, docket, sheets, judges, kind, day)?;
+    push_sheets(&mut list, docket, sheets, None, kind, day)?;
     Ok(list)
 }
 
 /// Adds what is listed under each of a number of judges.
 fn push_judges(
     list: &mut Vec<PendingItem>,
+    docket: &Docket,
     sheets: &[Sheet],
     count: u8,
     kind: PendingKind,
     day: Day,
 ) -> Result<(), AllocError>
-    ensures { OnOk result (list.new.items ≡ list.old.items ++ pending_from kind day sheets.now 0 count) }
+    ensures { OnOk result (list.new.items ≡ list.old.items ++ pending_from kind day (facts_in (parts_held docket.now)) sheets.now 0 count) }
 {
     let _types: PendingTypes = None;
     for judge in 0..count {
-        push_judge(list, sheets, judge, kind, day)?;
+        push_judge(list, docket, sheets, judge, kind, day)?;
     }
     Ok(())
 }
@@ -96,46 +100,52 @@ fn push_judges(
 /// Adds what is listed under a judge.
 fn push_judge(
     list: &mut Vec<PendingItem>,
+    docket: &Docket,
     sheets: &[Sheet],
     judge: u8,
     kind: PendingKind,
     day: Day,
 ) -> Result<(), AllocError>
-    ensures { OnOk result (list.new.items ≡ list.old.items ++ pending_before kind day sheets.now judge) }
+    ensures { OnOk result (list.new.items ≡ list.old.items ++ pending_before kind day (facts_in (parts_held docket.now)) sheets.now judge) }
 {
-    push_sheets(list, sheets, Some(judge), kind, day)
+    push_sheets(list, docket, sheets, Some(judge), kind, day)
 }
 
 /// Adds what is listed under a judge, or under none.
 fn push_sheets(
     list: &mut Vec<PendingItem>,
+    docket: &Docket,
     sheets: &[Sheet],
     judge: Option<u8>,
     kind: PendingKind,
     day: Day,
 ) -> Result<(), AllocError>
-    ensures { OnOk result (list.new.items ≡ list.old.items ++ flat_map (listed_under kind day judge) sheets.now) }
+    ensures { OnOk result (list.new.items ≡ list.old.items ++ flat_map (listed_under kind day (facts_in (parts_held docket.now)) judge) sheets.now) }
 {
     let _types: PendingTypes = None;
     for sheet in sheets {
-        push_sheet(list, sheet, judge, kind, day)?;
+        push_sheet(list, docket, sheet, judge, kind, day)?;
     }
     Ok(())
 }
 
-/// Adds what is listed of a case, if it is listed under that judge and wasn't closed.
+/// Adds what is listed of a case, if on the day it was listed under that judge and wasn't closed.
 #[tactic(auto, unfolding(crate::specs::Pending::listed_under), using(crate::proofs::DueLemmas::nothing_more))]
 fn push_sheet(
     list: &mut Vec<PendingItem>,
+    docket: &Docket,
     sheet: &Sheet,
     judge: Option<u8>,
     kind: PendingKind,
     day: Day,
 ) -> Result<(), AllocError>
-    ensures { OnOk result (list.new.items ≡ list.old.items ++ listed_under kind day judge sheet.now) }
+    ensures { OnOk result (list.new.items ≡ list.old.items ++ listed_under kind day (facts_in (parts_held docket.now)) judge sheet.now) }
 {
-    if is_listed_under(judge, &sheet.assigned) && !is_closed_by(day, &sheet.closed) {
-        push_pending(list, sheet, judge, kind, day)
+    let facts = docket.facts(sheet.case);
+    let assigned = assigned_by(facts, day);
+    let closed = closing_by(facts, day);
+    if is_listed_under(judge, &assigned) && closed.is_none() {
+        push_pending(list, sheet, facts, judge, kind, day)
     } else {
         Ok(())
     }
@@ -145,16 +155,17 @@ fn push_sheet(
 fn push_pending(
     list: &mut Vec<PendingItem>,
     sheet: &Sheet,
+    facts: &[Fact],
     judge: Option<u8>,
     kind: PendingKind,
     day: Day,
 ) -> Result<(), AllocError>
-    ensures { OnOk result (list.new.items ≡ list.old.items ++ pending_in kind day judge sheet.now) }
+    ensures { OnOk result (list.new.items ≡ list.old.items ++ pending_in kind day judge facts.now sheet.now) }
 {
     let _types: PendingTypes = None;
     match kind {
         PendingKind::Motions => {
-            push_motions(list, sheet.case, sheet.motions.as_slice(), judge, day)
+            push_motions(list, sheet.case, facts, sheet.motions.as_slice(), judge, day)
         }
         PendingKind::Cases => push_if(list, pending_case(day, judge, sheet.case, sheet.filed)),
     }
@@ -164,15 +175,16 @@ fn push_pending(
 fn push_motions(
     list: &mut Vec<PendingItem>,
     case: u32,
+    facts: &[Fact],
     motions: &[SheetMotion],
     judge: Option<u8>,
     day: Day,
 ) -> Result<(), AllocError>
-    ensures { OnOk result (list.new.items ≡ list.old.items ++ flat_map (motion_if_pending day judge case) motions.now) }
+    ensures { OnOk result (list.new.items ≡ list.old.items ++ flat_map (motion_if_pending day judge case facts.now) motions.now) }
 {
     let _types: PendingTypes = None;
     for motion in motions {
-        push_motion(list, case, motion, judge, day)?;
+        push_motion(list, case, facts, motion, judge, day)?;
     }
     Ok(())
 }
@@ -182,14 +194,15 @@ fn push_motions(
 fn push_motion(
     list: &mut Vec<PendingItem>,
     case: u32,
+    facts: &[Fact],
     motion: &SheetMotion,
     judge: Option<u8>,
     day: Day,
 ) -> Result<(), AllocError>
-    ensures { OnOk result (list.new.items ≡ list.old.items ++ motion_if_pending day judge case motion.now) }
+    ensures { OnOk result (list.new.items ≡ list.old.items ++ motion_if_pending day judge case facts.now motion.now) }
 {
     let _types: PendingTypes = None;
-    push_if(list, pending_motion(day, judge, case, motion))
+    push_if(list, pending_motion(day, judge, case, facts, motion))
 }
 
 /// The motion, if it was served more than six months before the day and wasn't decided by then.
@@ -197,11 +210,13 @@ fn pending_motion(
     day: Day,
     judge: Option<u8>,
     case: u32,
+    facts: &[Fact],
     motion: &SheetMotion,
 ) -> Option<PendingItem>
-    ensures { result ≡ pending_motion day judge case motion.now }
+    ensures { result ≡ pending_motion day judge case facts.now motion.now }
 {
-    if day.has_passed(6, motion.served) && !is_decided_by(day, &motion.ruling) {
+    let ruling = ruling_by(facts, motion.number, day);
+    if day.has_passed(6, motion.served) && !is_decided(&ruling) {
         Some(PendingItem {
             judge,
             case,
@@ -229,12 +244,12 @@ fn pending_case(day: Day, judge: Option<u8>, case: u32, filed: Day) -> Option<Pe
     }
 }
 
-/// Whether a motion that was ruled on so was decided by the end of the day.
-fn is_decided_by(day: Day, ruling: &Option<DatedRuling>) -> bool
-    ensures { result ≡ is_decided_by day ruling.now }
+/// Whether a motion that was ruled on so is decided.
+fn is_decided(ruling: &Option<DatedRuling>) -> bool
+    ensures { result ≡ is_decided ruling.now }
 {
     match ruling {
-        Some(dated) => decides(dated.ruling) && dated.dated.number() <= day.number(),
+        Some(dated) => decides(dated.ruling),
         None => false,
     }
 }
@@ -247,16 +262,6 @@ fn decides(ruling: Ruling) -> bool
         Ruling::Granted | Ruling::Denied | Ruling::InPart => true,
         Ruling::Moot | Ruling::Withdrawn => true,
         Ruling::Reserved => false,
-    }
-}
-
-/// Whether a case that was closed so was by the end of the day.
-fn is_closed_by(day: Day, closed: &Option<Closure>) -> bool
-    ensures { result ≡ is_closed_by day closed.now }
-{
-    match closed {
-        Some(closure) => closure.dated.number() <= day.number(),
-        None => false,
     }
 }
 

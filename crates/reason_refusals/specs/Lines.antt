@@ -20,9 +20,9 @@ abbrev pub is_ordered : Option Request → Bool
 is_ordered (Some request) = is_order request.grant
 is_ordered None = false
 
--- why a time isn't extended, or isn't reset by an order to a later end, nor from a day to a time of day or back (Fed. R. Civ. P. 6(b)(2))
+-- why a time isn't extended, or isn't reset by an order to a later end (Fed. R. Civ. P. 6(b)(2))
 abbrev pub never_words : (order : Bool) → List ℕ
-never_words true = codes "isn't reset later, nor between a day and a time"
+never_words true = codes "this time must not be reset to a later end"
 never_words false = codes "this time must not be extended"
 
 -- `row` is the deadline that the command is about, and `motion` the motion that the refusal names, or whose hearing the

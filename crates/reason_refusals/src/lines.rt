@@ -108,12 +108,12 @@ fn is_ordered(request: Option<Request>) -> bool
     }
 }
 
-/// Why a time isn't extended, or isn't reset by an order to a later end, nor from a day to a time of day or back.
+/// Why a time isn't extended, or isn't reset by an order to a later end.
 fn never_words(order: bool) -> &'static str
     ensures { result.now ≡ never_words order }
 {
     if order {
-        "isn't reset later, nor between a day and a time"
+        "this time must not be reset to a later end"
     } else {
         "this time must not be extended"
     }

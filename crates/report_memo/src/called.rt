@@ -4,8 +4,9 @@
 ghost use Rattle.std.specs.Prelude.{◌≡◌, ◌++◌, OnOk, codes, map, string_bytes};
 ghost use Rattle.row_fields.specs.Words.{period_view};
 ghost use Rattle.office_texts.specs.Words.{entered_text};
-ghost use Rattle.report_memo.specs.Called.{book_words, citation, citations, code_back, is_other, own_citation, own_citations, period_back, sets_period};
+ghost use Rattle.report_memo.specs.Called.{book_words, citation, citations, code_back, is_older, is_other, own_citation, own_citations, period_back, sets_period, since_words};
 
+use court_clock::Day;
 use court_days::Court;
 use court_file_text::NamedText;
 use office_texts::push_entered;
@@ -14,20 +15,21 @@ use rule_periods::{Entered, Period};
 use std::alloc::{AllocError, Global};
 
 /// Adds what comes after how a period is entered: the sections of docs/law/RULES.md that set a period of the same form, and where those
-/// of the court's own are from, or, where there is none, its code as rows have it. A period of the Rules has nothing. `Err` says that
-/// memory ran out.
+/// of the court's own are from, or, where there is none, its code as rows have it. A section that sets it only since a day after that of
+/// the event has that day. A period of the Rules has nothing. `Err` says that memory ran out.
 #[tactic(auto, unfolding(crate::specs::Called::period_back))]
 pub(crate) fn push_period_back(
     alloc: Global,
     text: &mut String,
     court: &Court,
+    event: Day,
     period: &Period,
 ) -> Result<(), AllocError>
-    ensures { OnOk result (string_bytes text.new ≡ string_bytes text.old ++ period_back court.now.periods period.now) }
+    ensures { OnOk result (string_bytes text.new ≡ string_bytes text.old ++ period_back court.now.periods event period.now) }
 {
     match period {
         Period::Rule(_) => Ok(()),
-        Period::Entered(entered) => push_entered_back(alloc, text, court, entered),
+        Period::Entered(entered) => push_entered_back(alloc, text, court, event, entered),
     }
 }
 
@@ -36,13 +38,14 @@ fn push_entered_back(
     alloc: Global,
     text: &mut String,
     court: &Court,
+    event: Day,
     entered: &Entered,
 ) -> Result<(), AllocError>
-    ensures { OnOk result (string_bytes text.new ≡ string_bytes text.old ++ code_back court.now.periods (entered_text entered.now)) }
+    ensures { OnOk result (string_bytes text.new ≡ string_bytes text.old ++ code_back court.now.periods event (entered_text entered.now)) }
 {
     let mut code = String::new(alloc);
     push_entered(&mut code, entered)?;
-    push_code_back(alloc, text, court, code.as_str())
+    push_code_back(alloc, text, court, event, code.as_str())
 }
 
 /// Adds the sections that set a period with this code, or the code.
@@ -51,15 +54,17 @@ fn push_code_back(
     alloc: Global,
     text: &mut String,
     court: &Court,
+    event: Day,
     code: &str,
 ) -> Result<(), AllocError>
-    ensures { OnOk result (string_bytes text.new ≡ string_bytes text.old ++ code_back court.now.periods code.now) }
+    ensures { OnOk result (string_bytes text.new ≡ string_bytes text.old ++ code_back court.now.periods event code.now) }
 {
     let mut none = String::new(alloc);
     push_in_parentheses(&mut none, code)?;
     push_citations(
         text,
         court,
+        event,
         ", as in ",
         none.as_str(),
         code,
@@ -82,22 +87,23 @@ fn push_in_parentheses(text: &mut String, code: &str) -> Result<(), AllocError>
 fn push_citations(
     text: &mut String,
     court: &Court,
+    event: Day,
     front: &str,
     none: &str,
     code: &str,
     periods: &[NamedPeriod],
 ) -> Result<(), AllocError>
-    ensures { OnOk result (string_bytes text.new ≡ string_bytes text.old ++ citations court.now.periods front.now none.now code.now (map period_view periods.now)) }
+    ensures { OnOk result (string_bytes text.new ≡ string_bytes text.old ++ citations court.now.periods event front.now none.now code.now (map period_view periods.now)) }
 {
     match periods {
         [] => push_own_citations(text, court, front, none, code, court.periods()),
         [period, rest @ ..] => {
             if sets_period(code, period) {
                 text.push_str(front)?;
-                push_citation(text, period)?;
-                push_citations(text, court, ", ", "", code, rest)
+                push_citation(text, event, period)?;
+                push_citations(text, court, event, ", ", "", code, rest)
             } else {
-                push_citations(text, court, front, none, code, rest)
+                push_citations(text, court, event, front, none, code, rest)
             }
         }
     }
@@ -158,11 +164,36 @@ fn is_other(code: &str, period: &NamedPeriod) -> bool
 }
 
 /// Adds a section as it is cited.
-fn push_citation(text: &mut String, period: &NamedPeriod) -> Result<(), AllocError>
-    ensures { OnOk result (string_bytes text.new ≡ string_bytes text.old ++ citation (period_view period.now)) }
+#[tactic(auto, unfolding(crate::specs::Called::citation))]
+fn push_citation(text: &mut String, event: Day, period: &NamedPeriod) -> Result<(), AllocError>
+    ensures { OnOk result (string_bytes text.new ≡ string_bytes text.old ++ citation event (period_view period.now)) }
 {
     text.push_str(book_words(period.book))?;
-    text.push_str(period.section)
+    text.push_str(period.section)?;
+    push_since(text, event, period.since)
+}
+
+/// Adds the day from which a section sets its period, where the event lies before it.
+fn push_since(text: &mut String, event: Day, since: &str) -> Result<(), AllocError>
+    ensures { OnOk result (string_bytes text.new ≡ string_bytes text.old ++ since_words event since.now) }
+{
+    if is_older(event, since) {
+        text.push_str(" (since ")?;
+        text.push_str(since)?;
+        text.push_str(")")
+    } else {
+        Ok(())
+    }
+}
+
+/// Whether the event lies before that day.
+fn is_older(event: Day, since: &str) -> bool
+    ensures { result ≡ is_older event since.now }
+{
+    match Day::from_text(since) {
+        Some(day) => event.number() < day.number(),
+        None => false,
+    }
 }
 
 /// What stands before a section of that book.

@@ -10,7 +10,7 @@ use Rattle.row_fields.specs.declared.said.Said.TheVariants.{Unknown, Clear, Uncl
 use Rattle.row_fields.specs.Choices.{cited, rule_said}
 
 -- a section: in which book it is, as it is cited, its number when it is folded, the code of its period, and the period as it is
--- entered; or the two that it sets, which have no code
+-- entered, or the two that it sets, which have no code; and the day from which the section as it is cited sets them
 pub record NamedPeriodView : Type 0 where
   pub book : RuleBook
   pub section : List ℕ
@@ -18,15 +18,23 @@ pub record NamedPeriodView : Type 0 where
   pub code : Option (List ℕ)
   pub text : List ℕ
   pub other : Option (List ℕ)
+  pub since : List ℕ
 
+abbrev pub one_since : (since : List ℕ) → RuleBook → (section number code text : List ℕ) → NamedPeriodView
+one_since since book section number code text = record { book = book; section = section; number = number; code = Some code; text = text; other = None; since = since }
+
+abbrev pub two_since : (since : List ℕ) → RuleBook → (section number text other : List ℕ) → NamedPeriodView
+two_since since book section number text other = record { book = book; section = section; number = number; code = None; text = text; other = Some other; since = since }
+
+-- most of the Rules' periods are as they are since the amendments of 2009, by which every day counts
 abbrev pub one_period : RuleBook → (section number code text : List ℕ) → NamedPeriodView
-one_period book section number code text = record { book = book; section = section; number = number; code = Some code; text = text; other = None }
+one_period book section number code text = one_since (codes "2009-12-01") book section number code text
 
 abbrev pub two_periods : RuleBook → (section number text other : List ℕ) → NamedPeriodView
-two_periods book section number text other = record { book = book; section = section; number = number; code = None; text = text; other = Some other }
+two_periods book section number text other = two_since (codes "2009-12-01") book section number text other
 
 abbrev pub period_view : NamedPeriod → NamedPeriodView
-period_view p = record { book = p.book; section = p.section.now; number = p.number.now; code = option_map (λ t. t.now) p.code; text = p.text.now; other = option_map (λ t. t.now) p.other }
+period_view p = record { book = p.book; section = p.section.now; number = p.number.now; code = option_map (λ t. t.now) p.code; text = p.text.now; other = option_map (λ t. t.now) p.other; since = p.since.now }
 
 -- What comes before the number of a section, as people cite it, when it is folded. For the Federal Rules of Civil Procedure it
 -- is nothing, `Rule`, `FRCP` or `Fed. R. Civ. P.`.
@@ -66,26 +74,26 @@ named_periods =
     ∷ one_period CivilRules (codes "15(a)(1)(A)") (codes "15a1a") (codes "15a1A") (codes "21d/after/filing/event/plain")
     ∷ one_period CivilRules (codes "15(a)(1)(B)") (codes "15a1b") (codes "15a1B") (codes "21d/after/filing/served/plain")
     ∷ one_period CivilRules (codes "15(a)(3)") (codes "15a3") (codes "15a3") (codes "14d/after/service/served/plain")
-    ∷ two_periods CivilRules (codes "16(b)(2)") (codes "16b2") (codes "90d/after/filing/event/plain") (codes "60d/after/filing/event/plain")
-    ∷ two_periods CivilRules (codes "23(f)") (codes "23f") (codes "14d/after/filing/event/60b") (codes "45d/after/filing/event/60b")
+    ∷ two_since (codes "2015-12-01") CivilRules (codes "16(b)(2)") (codes "16b2") (codes "90d/after/filing/event/plain") (codes "60d/after/filing/event/plain")
+    ∷ two_since (codes "2018-12-01") CivilRules (codes "23(f)") (codes "23f") (codes "14d/after/filing/event/60b") (codes "45d/after/filing/event/60b")
     ∷ two_periods CivilRules (codes "25(a)(1)") (codes "25a1") (codes "90d/after/filing/served/plain") (codes "90d/after/filing/event/plain")
     ∷ one_period CivilRules (codes "26(a)(1)(C)") (codes "26a1c") (codes "26a1C") (codes "14d/after/service/event/plain")
     ∷ one_period CivilRules (codes "26(a)(1)(D)") (codes "26a1d") (codes "26a1D") (codes "30d/after/service/event/plain")
-    ∷ one_period CivilRules (codes "26(a)(2)(D)(i)") (codes "26a2di") (codes "26a2Di") (codes "90d/before/service/event/plain")
-    ∷ one_period CivilRules (codes "26(a)(2)(D)(ii)") (codes "26a2dii") (codes "26a2Dii") (codes "30d/after/service/event/plain")
+    ∷ one_since (codes "2010-12-01") CivilRules (codes "26(a)(2)(D)(i)") (codes "26a2di") (codes "26a2Di") (codes "90d/before/service/event/plain")
+    ∷ one_since (codes "2010-12-01") CivilRules (codes "26(a)(2)(D)(ii)") (codes "26a2dii") (codes "26a2Dii") (codes "30d/after/service/event/plain")
     ∷ two_periods CivilRules (codes "26(a)(3)(B)") (codes "26a3b") (codes "30d/before/service/event/plain") (codes "14d/after/service/event/plain")
-    ∷ one_period CivilRules (codes "26(d)(2)") (codes "26d2") (codes "26d2") (codes "21d/after/service/event/plain")
+    ∷ one_since (codes "2015-12-01") CivilRules (codes "26(d)(2)") (codes "26d2") (codes "26d2") (codes "21d/after/service/event/plain")
     ∷ one_period CivilRules (codes "26(f)(1)") (codes "26f1") (codes "26f1") (codes "21d/before/service/event/plain")
     ∷ one_period CivilRules (codes "26(f)(2)") (codes "26f2") (codes "26f2") (codes "14d/after/filing/event/plain")
     ∷ one_period CivilRules (codes "27(a)(2)") (codes "27a2") (codes "27a2") (codes "21d/before/service/event/plain")
     ∷ one_period CivilRules (codes "30(e)(1)") (codes "30e1") (codes "30e1") (codes "30d/after/service/event/plain")
     ∷ two_periods CivilRules (codes "31(a)(5)") (codes "31a5") (codes "14d/after/service/served/plain") (codes "7d/after/service/served/plain")
     ∷ one_period CivilRules (codes "33(b)(2)") (codes "33b2") (codes "33b2") (codes "30d/after/service/served/plain")
-    ∷ two_periods CivilRules (codes "34(b)(2)(A)") (codes "34b2a") (codes "30d/after/service/served/plain") (codes "30d/after/service/event/plain")
+    ∷ two_since (codes "2015-12-01") CivilRules (codes "34(b)(2)(A)") (codes "34b2a") (codes "30d/after/service/served/plain") (codes "30d/after/service/event/plain")
     ∷ one_period CivilRules (codes "36(a)(3)") (codes "36a3") (codes "36a3") (codes "30d/after/service/served/plain")
     ∷ two_periods CivilRules (codes "38(b)(1)") (codes "38b1") (codes "14d/after/service/served/plain") (codes "14d/after/service/event/plain")
     ∷ one_period CivilRules (codes "38(c)") (codes "38c") (codes "38c") (codes "14d/after/service/served/plain")
-    ∷ one_period CivilRules (codes "45(d)(2)(B)") (codes "45d2b") (codes "45d2B") (codes "14d/after/service/event/plain")
+    ∷ one_since (codes "2013-12-01") CivilRules (codes "45(d)(2)(B)") (codes "45d2b") (codes "45d2B") (codes "14d/after/service/event/plain")
     ∷ one_period CivilRules (codes "50(b)") (codes "50b") (codes "50b") (codes "28d/after/filing/event/50b")
     ∷ one_period CivilRules (codes "50(d)") (codes "50d") (codes "50d") (codes "28d/after/filing/event/50d")
     ∷ one_period CivilRules (codes "52(b)") (codes "52b") (codes "52b") (codes "28d/after/filing/event/52b")
@@ -93,11 +101,11 @@ named_periods =
     ∷ two_periods CivilRules (codes "54(d)(1)") (codes "54d1") (codes "14d/after/filing/event/plain") (codes "7d/after/service/event/plain")
     ∷ one_period CivilRules (codes "54(d)(2)(B)") (codes "54d2b") (codes "54d2B") (codes "14d/after/filing/event/plain")
     ∷ one_period CivilRules (codes "55(b)(2)") (codes "55b2") (codes "55b2") (codes "7d/before/service/event/plain")
-    ∷ one_period CivilRules (codes "56(b)") (codes "56b") (codes "56b") (codes "30d/after/filing/event/plain")
+    ∷ one_since (codes "2010-12-01") CivilRules (codes "56(b)") (codes "56b") (codes "56b") (codes "30d/after/filing/event/plain")
     ∷ one_period CivilRules (codes "58(c)(2)(B)") (codes "58c2b") (codes "58c2B") (codes "150d/after/filing/event/plain")
     ∷ one_period CivilRules (codes "59(c)") (codes "59c") (codes "59c") (codes "14d/after/filing/served/plain")
     ∷ one_period CivilRules (codes "59(d)") (codes "59d") (codes "59d") (codes "28d/after/filing/event/59d")
-    ∷ one_period CivilRules (codes "62(a)") (codes "62a") (codes "62a") (codes "30d/after/filing/event/plain")
+    ∷ one_since (codes "2018-12-01") CivilRules (codes "62(a)") (codes "62a") (codes "62a") (codes "30d/after/filing/event/plain")
     ∷ one_period CivilRules (codes "65(b)(2)") (codes "65b2") (codes "65b2") (codes "14d/after/filing/event/plain")
     ∷ one_period CivilRules (codes "65(b)(4)") (codes "65b4") (codes "65b4") (codes "2d/before/service/event/plain")
     ∷ two_periods CivilRules (codes "68(a)") (codes "68a") (codes "14d/before/service/event/plain") (codes "14d/after/service/served/plain")
@@ -116,16 +124,16 @@ named_periods =
     ∷ two_periods ForfeitureRules (codes "Supp. G(5)(a)(ii)(B)") (codes "g5aiib") (codes "30d/after/filing/event/plain") (codes "60d/after/filing/event/plain")
     ∷ one_period ForfeitureRules (codes "Supp. G(5)(b)") (codes "g5b") (codes "G5b") (codes "21d/after/filing/event/plain")
     ∷ one_period ForfeitureRules (codes "Supp. G(6)(b)") (codes "g6b") (codes "G6b") (codes "21d/after/service/served/plain")
-    ∷ one_period Title28 (codes "28 U.S.C. 1446(b)(1)") (codes "1446b1") (codes "1446b1") (codes "30d/after/filing/event/60b")
-    ∷ one_period Title28 (codes "28 U.S.C. 1446(b)(3)") (codes "1446b3") (codes "1446b3") (codes "30d/after/filing/event/60b")
-    ∷ one_period Title28 (codes "28 U.S.C. 1447(c)") (codes "1447c") (codes "1447c") (codes "30d/after/filing/event/60b")
-    ∷ one_period Title28 (codes "28 U.S.C. 1608(d)") (codes "1608d") (codes "1608d") (codes "60d/after/service/event/plain")
-    ∷ one_period Title5 (codes "5 U.S.C. 552(a)(4)(C)") (codes "552a4c") (codes "552a4C") (codes "30d/after/service/event/plain")
-    ∷ one_period Title42 (codes "42 U.S.C. 405(g)") (codes "405g") (codes "405g") (codes "60d/after/filing/event/60b")
-    ∷ one_period SocialSecurityRules (codes "Supp. Soc. Sec. 4") (codes "4") (codes "socsec4") (codes "60d/after/service/event/plain")
-    ∷ one_period SocialSecurityRules (codes "Supp. Soc. Sec. 6") (codes "6") (codes "socsec6") (codes "30d/after/filing/event/plain")
-    ∷ one_period SocialSecurityRules (codes "Supp. Soc. Sec. 7") (codes "7") (codes "socsec7") (codes "30d/after/filing/served/plain")
-    ∷ one_period SocialSecurityRules (codes "Supp. Soc. Sec. 8") (codes "8") (codes "socsec8") (codes "14d/after/filing/served/plain")
+    ∷ one_since (codes "2012-01-06") Title28 (codes "28 U.S.C. 1446(b)(1)") (codes "1446b1") (codes "1446b1") (codes "30d/after/filing/event/60b")
+    ∷ one_since (codes "2012-01-06") Title28 (codes "28 U.S.C. 1446(b)(3)") (codes "1446b3") (codes "1446b3") (codes "30d/after/filing/event/60b")
+    ∷ one_since (codes "1996-10-01") Title28 (codes "28 U.S.C. 1447(c)") (codes "1447c") (codes "1447c") (codes "30d/after/filing/event/60b")
+    ∷ one_since (codes "1977-01-19") Title28 (codes "28 U.S.C. 1608(d)") (codes "1608d") (codes "1608d") (codes "60d/after/service/event/plain")
+    ∷ one_since (codes "1975-02-19") Title5 (codes "5 U.S.C. 552(a)(4)(C)") (codes "552a4c") (codes "552a4C") (codes "30d/after/service/event/plain")
+    ∷ one_since (codes "1940-01-01") Title42 (codes "42 U.S.C. 405(g)") (codes "405g") (codes "405g") (codes "60d/after/filing/event/60b")
+    ∷ one_since (codes "2022-12-01") SocialSecurityRules (codes "Supp. Soc. Sec. 4") (codes "4") (codes "socsec4") (codes "60d/after/service/event/plain")
+    ∷ one_since (codes "2022-12-01") SocialSecurityRules (codes "Supp. Soc. Sec. 6") (codes "6") (codes "socsec6") (codes "30d/after/filing/event/plain")
+    ∷ one_since (codes "2022-12-01") SocialSecurityRules (codes "Supp. Soc. Sec. 7") (codes "7") (codes "socsec7") (codes "30d/after/filing/served/plain")
+    ∷ one_since (codes "2022-12-01") SocialSecurityRules (codes "Supp. Soc. Sec. 8") (codes "8") (codes "socsec8") (codes "14d/after/filing/served/plain")
     ∷ two_periods AppellateRules (codes "FRAP 4(a)(1)") (codes "4a1") (codes "30d/after/filing/event/60b") (codes "60d/after/filing/event/60b")
     ∷ one_period AppellateRules (codes "FRAP 4(a)(1)(A)") (codes "4a1a") (codes "frap4a1A") (codes "30d/after/filing/event/60b")
     ∷ one_period AppellateRules (codes "FRAP 4(a)(1)(B)") (codes "4a1b") (codes "frap4a1B") (codes "60d/after/filing/event/60b")

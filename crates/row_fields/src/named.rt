@@ -42,9 +42,11 @@ pub struct NamedPeriod {
     pub text: &'static str,
     /// The other one, where it sets two.
     pub other: Option<&'static str>,
+    /// The day from which the section as it is cited sets them, as a date.
+    pub since: &'static str,
 }
 
-/// A line of the table of sections.
+/// A line of the table of sections. Most of the Rules' periods are as they are since the amendments of 2009, by which every day counts.
 macro_rules! entered {
     ($book:ident, $section:literal, $number:literal, $code:literal: $text:literal) => {
         NamedPeriod {
@@ -54,6 +56,7 @@ macro_rules! entered {
             code: Some($code),
             text: $text,
             other: None,
+            since: "2009-12-01",
         }
     };
     ($book:ident, $section:literal, $number:literal: $text:literal, $other:literal) => {
@@ -64,6 +67,29 @@ macro_rules! entered {
             code: None,
             text: $text,
             other: Some($other),
+            since: "2009-12-01",
+        }
+    };
+    ($since:literal, $book:ident, $section:literal, $number:literal, $code:literal: $text:literal) => {
+        NamedPeriod {
+            book: RuleBook::$book,
+            section: $section,
+            number: $number,
+            code: Some($code),
+            text: $text,
+            other: None,
+            since: $since,
+        }
+    };
+    ($since:literal, $book:ident, $section:literal, $number:literal: $text:literal, $other:literal) => {
+        NamedPeriod {
+            book: RuleBook::$book,
+            section: $section,
+            number: $number,
+            code: None,
+            text: $text,
+            other: Some($other),
+            since: $since,
         }
     };
 }
@@ -83,26 +109,26 @@ static SECTIONS: [NamedPeriod; 79] = [
     entered!(CivilRules, "15(a)(1)(A)", "15a1a", "15a1A": "21d/after/filing/event/plain"),
     entered!(CivilRules, "15(a)(1)(B)", "15a1b", "15a1B": "21d/after/filing/served/plain"),
     entered!(CivilRules, "15(a)(3)", "15a3", "15a3": "14d/after/service/served/plain"),
-    entered!(CivilRules, "16(b)(2)", "16b2": "90d/after/filing/event/plain", "60d/after/filing/event/plain"),
-    entered!(CivilRules, "23(f)", "23f": "14d/after/filing/event/60b", "45d/after/filing/event/60b"),
+    entered!("2015-12-01", CivilRules, "16(b)(2)", "16b2": "90d/after/filing/event/plain", "60d/after/filing/event/plain"),
+    entered!("2018-12-01", CivilRules, "23(f)", "23f": "14d/after/filing/event/60b", "45d/after/filing/event/60b"),
     entered!(CivilRules, "25(a)(1)", "25a1": "90d/after/filing/served/plain", "90d/after/filing/event/plain"),
     entered!(CivilRules, "26(a)(1)(C)", "26a1c", "26a1C": "14d/after/service/event/plain"),
     entered!(CivilRules, "26(a)(1)(D)", "26a1d", "26a1D": "30d/after/service/event/plain"),
-    entered!(CivilRules, "26(a)(2)(D)(i)", "26a2di", "26a2Di": "90d/before/service/event/plain"),
-    entered!(CivilRules, "26(a)(2)(D)(ii)", "26a2dii", "26a2Dii": "30d/after/service/event/plain"),
+    entered!("2010-12-01", CivilRules, "26(a)(2)(D)(i)", "26a2di", "26a2Di": "90d/before/service/event/plain"),
+    entered!("2010-12-01", CivilRules, "26(a)(2)(D)(ii)", "26a2dii", "26a2Dii": "30d/after/service/event/plain"),
     entered!(CivilRules, "26(a)(3)(B)", "26a3b": "30d/before/service/event/plain", "14d/after/service/event/plain"),
-    entered!(CivilRules, "26(d)(2)", "26d2", "26d2": "21d/after/service/event/plain"),
+    entered!("2015-12-01", CivilRules, "26(d)(2)", "26d2", "26d2": "21d/after/service/event/plain"),
     entered!(CivilRules, "26(f)(1)", "26f1", "26f1": "21d/before/service/event/plain"),
     entered!(CivilRules, "26(f)(2)", "26f2", "26f2": "14d/after/filing/event/plain"),
     entered!(CivilRules, "27(a)(2)", "27a2", "27a2": "21d/before/service/event/plain"),
     entered!(CivilRules, "30(e)(1)", "30e1", "30e1": "30d/after/service/event/plain"),
     entered!(CivilRules, "31(a)(5)", "31a5": "14d/after/service/served/plain", "7d/after/service/served/plain"),
     entered!(CivilRules, "33(b)(2)", "33b2", "33b2": "30d/after/service/served/plain"),
-    entered!(CivilRules, "34(b)(2)(A)", "34b2a": "30d/after/service/served/plain", "30d/after/service/event/plain"),
+    entered!("2015-12-01", CivilRules, "34(b)(2)(A)", "34b2a": "30d/after/service/served/plain", "30d/after/service/event/plain"),
     entered!(CivilRules, "36(a)(3)", "36a3", "36a3": "30d/after/service/served/plain"),
     entered!(CivilRules, "38(b)(1)", "38b1": "14d/after/service/served/plain", "14d/after/service/event/plain"),
     entered!(CivilRules, "38(c)", "38c", "38c": "14d/after/service/served/plain"),
-    entered!(CivilRules, "45(d)(2)(B)", "45d2b", "45d2B": "14d/after/service/event/plain"),
+    entered!("2013-12-01", CivilRules, "45(d)(2)(B)", "45d2b", "45d2B": "14d/after/service/event/plain"),
     entered!(CivilRules, "50(b)", "50b", "50b": "28d/after/filing/event/50b"),
     entered!(CivilRules, "50(d)", "50d", "50d": "28d/after/filing/event/50d"),
     entered!(CivilRules, "52(b)", "52b", "52b": "28d/after/filing/event/52b"),
@@ -110,11 +136,11 @@ static SECTIONS: [NamedPeriod; 79] = [
     entered!(CivilRules, "54(d)(1)", "54d1": "14d/after/filing/event/plain", "7d/after/service/event/plain"),
     entered!(CivilRules, "54(d)(2)(B)", "54d2b", "54d2B": "14d/after/filing/event/plain"),
     entered!(CivilRules, "55(b)(2)", "55b2", "55b2": "7d/before/service/event/plain"),
-    entered!(CivilRules, "56(b)", "56b", "56b": "30d/after/filing/event/plain"),
+    entered!("2010-12-01", CivilRules, "56(b)", "56b", "56b": "30d/after/filing/event/plain"),
     entered!(CivilRules, "58(c)(2)(B)", "58c2b", "58c2B": "150d/after/filing/event/plain"),
     entered!(CivilRules, "59(c)", "59c", "59c": "14d/after/filing/served/plain"),
     entered!(CivilRules, "59(d)", "59d", "59d": "28d/after/filing/event/59d"),
-    entered!(CivilRules, "62(a)", "62a", "62a": "30d/after/filing/event/plain"),
+    entered!("2018-12-01", CivilRules, "62(a)", "62a", "62a": "30d/after/filing/event/plain"),
     entered!(CivilRules, "65(b)(2)", "65b2", "65b2": "14d/after/filing/event/plain"),
     entered!(CivilRules, "65(b)(4)", "65b4", "65b4": "2d/before/service/event/plain"),
     entered!(CivilRules, "68(a)", "68a": "14d/before/service/event/plain", "14d/after/service/served/plain"),
@@ -133,16 +159,16 @@ static SECTIONS: [NamedPeriod; 79] = [
     entered!(ForfeitureRules, "Supp. G(5)(a)(ii)(B)", "g5aiib": "30d/after/filing/event/plain", "60d/after/filing/event/plain"),
     entered!(ForfeitureRules, "Supp. G(5)(b)", "g5b", "G5b": "21d/after/filing/event/plain"),
     entered!(ForfeitureRules, "Supp. G(6)(b)", "g6b", "G6b": "21d/after/service/served/plain"),
-    entered!(Title28, "28 U.S.C. 1446(b)(1)", "1446b1", "1446b1": "30d/after/filing/event/60b"),
-    entered!(Title28, "28 U.S.C. 1446(b)(3)", "1446b3", "1446b3": "30d/after/filing/event/60b"),
-    entered!(Title28, "28 U.S.C. 1447(c)", "1447c", "1447c": "30d/after/filing/event/60b"),
-    entered!(Title28, "28 U.S.C. 1608(d)", "1608d", "1608d": "60d/after/service/event/plain"),
-    entered!(Title5, "5 U.S.C. 552(a)(4)(C)", "552a4c", "552a4C": "30d/after/service/event/plain"),
-    entered!(Title42, "42 U.S.C. 405(g)", "405g", "405g": "60d/after/filing/event/60b"),
-    entered!(SocialSecurityRules, "Supp. Soc. Sec. 4", "4", "socsec4": "60d/after/service/event/plain"),
-    entered!(SocialSecurityRules, "Supp. Soc. Sec. 6", "6", "socsec6": "30d/after/filing/event/plain"),
-    entered!(SocialSecurityRules, "Supp. Soc. Sec. 7", "7", "socsec7": "30d/after/filing/served/plain"),
-    entered!(SocialSecurityRules, "Supp. Soc. Sec. 8", "8", "socsec8": "14d/after/filing/served/plain"),
+    entered!("2012-01-06", Title28, "28 U.S.C. 1446(b)(1)", "1446b1", "1446b1": "30d/after/filing/event/60b"),
+    entered!("2012-01-06", Title28, "28 U.S.C. 1446(b)(3)", "1446b3", "1446b3": "30d/after/filing/event/60b"),
+    entered!("1996-10-01", Title28, "28 U.S.C. 1447(c)", "1447c", "1447c": "30d/after/filing/event/60b"),
+    entered!("1977-01-19", Title28, "28 U.S.C. 1608(d)", "1608d", "1608d": "60d/after/service/event/plain"),
+    entered!("1975-02-19", Title5, "5 U.S.C. 552(a)(4)(C)", "552a4c", "552a4C": "30d/after/service/event/plain"),
+    entered!("1940-01-01", Title42, "42 U.S.C. 405(g)", "405g", "405g": "60d/after/filing/event/60b"),
+    entered!("2022-12-01", SocialSecurityRules, "Supp. Soc. Sec. 4", "4", "socsec4": "60d/after/service/event/plain"),
+    entered!("2022-12-01", SocialSecurityRules, "Supp. Soc. Sec. 6", "6", "socsec6": "30d/after/filing/event/plain"),
+    entered!("2022-12-01", SocialSecurityRules, "Supp. Soc. Sec. 7", "7", "socsec7": "30d/after/filing/served/plain"),
+    entered!("2022-12-01", SocialSecurityRules, "Supp. Soc. Sec. 8", "8", "socsec8": "14d/after/filing/served/plain"),
     entered!(AppellateRules, "FRAP 4(a)(1)", "4a1": "30d/after/filing/event/60b", "60d/after/filing/event/60b"),
     entered!(AppellateRules, "FRAP 4(a)(1)(A)", "4a1a", "frap4a1A": "30d/after/filing/event/60b"),
     entered!(AppellateRules, "FRAP 4(a)(1)(B)", "4a1b", "frap4a1B": "60d/after/filing/event/60b"),

@@ -16,6 +16,6 @@ pub use Rattle.rule_periods.specs.Extended.{by_days, by_hours, granted, granted_
 unfoldable pub use Rattle.rule_periods.specs.Extended.{extended_of}
 pub use Rattle.rule_periods.specs.Showing.{certain_by, access_direction, accessed, is_moved_by_access, shown_end, end_as_set, SetEndsStay, ResetEndsStay}
 unfoldable pub use Rattle.rule_periods.specs.Showing.{shown_after, shown_of}
-pub use Rattle.rule_periods.specs.Extension.{is_covered_grant, is_beyond, is_never, asks_findings, is_asked_in_time, is_later, is_no_later, fits_end, extension_checks, reset_checks}
+pub use Rattle.rule_periods.specs.Extension.{is_covered_grant, is_beyond, is_never, asks_findings, is_asked_in_time, is_later, is_by_day, is_after_day, is_no_later, fits_end, extension_checks, reset_checks}
 unfoldable pub use Rattle.rule_periods.specs.Extension.{extension_refusal, request_refusal, reset_refusal}
 pub use Rattle.rule_periods.specs.Notice.{notice_of}
