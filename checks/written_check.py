@@ -339,8 +339,8 @@ def check_names(desk):
 
 def check_labels(desk):
     """What a row makes is called by its column `label`: the row that says so comes after it, on its line, and is no row where it made nothing."""
-    given = ("clerk;command;case;date;rule;need;label\n1;open;31;9/2/2025;;;\n1;start;31;9/4/2025;Rule 12(a)(1)(A)(i);;answer of Acme\n"
-             "1;Motion;31;9/5/2025;;14;to dismiss, with costs\n1;start;99;9/4/2025;59(e);;reply\n1;start;31;9/4/2025;59(e);;\n").encode()
+    given = ("clerk;command;case;date;rule;need;label\n1;open;31;2025-09-02;;;\n1;start;31;2025-09-04;Rule 12(a)(1)(A)(i);;answer of Acme\n"
+             "1;Motion;31;2025-09-05;;14;to dismiss, with costs\n1;start;99;2025-09-04;59(e);;reply\n1;start;31;2025-09-04;59(e);;\n").encode()
     plain = (b'1,open,31,2025-09-02\n1,start,31,12a1Ai,2025-09-04,,,\n1,label,31,deadline,new,answer of Acme\n1,motion,31,2025-09-05,14\n'
              b'1,label,31,motion,new,"to dismiss, with costs"\n1,start,99,59e,2025-09-04,,,\n1,label,99,deadline,new,reply\n1,start,31,59e,2025-09-04,,,\n')
     ended = desk.call("plain", given=given)
@@ -350,7 +350,7 @@ def check_labels(desk):
     for words, text in [(["--as-written"], given), (["--as-written"], plain), ([], plain)]:
         tried = desk.call("try", *words, given=text)
         assert all(words in line for words, line in zip(said, tried.output.splitlines())) and len(tried.output.splitlines()) == len(said), tried
-    for row, said in [("1;file;31;;;;late\n", "column 14"), ("1;start;31;9/4/2025;59(e);;{}\n".format("a" * 201), "column 28")]:
+    for row, said in [("1;file;31;;;;late\n", "column 14"), ("1;start;31;2025-09-04;59(e);;{}\n".format("a" * 201), "column 30")]:
         ended = desk.call("plain", given=given[:given.index(b"\n") + 1] + row.encode())
         assert ended.status == FAULTS and "line 2 {}: ".format(said).encode() in told_of(ended)[0], ended
 

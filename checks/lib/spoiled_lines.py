@@ -147,7 +147,7 @@ def spoiled():
     way("a motion that is no number", "1,cancel,12,first")
     way("a motion that is missing", "1,cancel,12")
     # judges and rooms
-    for name, judge in [("a misspelt judge", "Aimes"), ("a judge with a title", "Judge Ames"), ("another judge", "Kaplan"), ("a misspelt judge of a panel", "Ames+Brant"),
+    for name, judge in [("a misspelt judge", "Aimes"), ("a judge with a title", "Judge Ames"), ("another judge", "Keplan"), ("a misspelt judge of a panel", "Ames+Brant"),
                         ("two misspelt judges", "Aimes+Brant"), ("a panel with and", "Ames and Brandt"), ("a panel with &", "Ames & Brandt"), ("a panel with /", "Ames/Brandt"),
                         ("four judges", "Ames+Brandt+OBrien+J.Kaplan"), ("a judge twice", "Ames+Ames"), ("a judge and nothing", "Ames+"), ("nothing", ""),
                         ("a judge with an accent", "\u00c4mes"), ("a judge with an apostrophe", "O'Brien"), ("a judge without the dash", "Smith Jones"), ("initials", "J.A.")]:

@@ -36,6 +36,12 @@ def number_in(text, least, most):
     return text if re.fullmatch(NUMBER, text) and least <= int(text) <= most else None
 
 
+def subject_in(text):
+    """The number of a deadline or a motion, or else what it is called, which begins with no digit."""
+    text = text.strip()
+    return number_in(text, 1, 10**9) or (text if text and not text[0].isdigit() else None)
+
+
 def case_in(text):
     """A case's number, or its case number."""
     if number_in(text, 1, 4096):

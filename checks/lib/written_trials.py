@@ -4,7 +4,7 @@ import json
 import re
 
 from lib.programs import TOP
-from lib.written_fields import CODES, ENTERED, SECTIONS, SECTION_CODES, case_in, folded, grant_in, is_statute, name_in, nearest_code, number_in, parted, period_in, slots_in, spelled, time_in
+from lib.written_fields import CODES, ENTERED, SECTIONS, SECTION_CODES, case_in, folded, grant_in, is_statute, name_in, nearest_code, number_in, parted, period_in, slots_in, spelled, subject_in, time_in
 from reference.sections import code_of
 
 # The definition of the sections whose periods are entered, and its name for the book of each.
@@ -23,8 +23,8 @@ def kinds_of(judges, rooms, shorts):
         ("{},sheet,12", ["1", "12", "64"], lambda text: number_in(text, 1, 64)),
         ("1,sheet,{}", ["7", "12", "409", "1:25-cv-01234", "25-cv-12-ABC", "4:25-CR-00007-A.B.C.", "26-CV-2011 (MTL)", "25-cv-7 (JRT/DLM)",
                         "3:2026cv02011", "25bk7", "1:2025-mj-12-AB", "CV-26-02011-PHX-MTL", "CR-26-11-Tuc (AB)", "CV-26-11-ABC"], case_in),
-        ("1,file,12,{},2025-09-29,18:10,electronic", ["3", "12", "120"], lambda text: number_in(text, 1, 10**9)),
-        ("1,cancel,12,{}", ["1", "23"], lambda text: number_in(text, 1, 10**9)),
+        ("1,file,12,{},2025-09-29,18:10,electronic", ["3", "12", "120"], subject_in),
+        ("1,cancel,12,{}", ["1", "23"], subject_in),
         ("1,motion,12,2025-09-15,{}", ["7", "14", "21"], lambda text: number_in(text, 0, 10**9)),
         (BOOK.format("Ames", "11A", "{}"), ["2", "12", "3q", "12Q"], slots_in),
         (BOOK.format("Ames", "{}", "2"), or_short(rooms), lambda text: name_in(text, rooms, shorts)),
@@ -94,10 +94,10 @@ def check_misspelt(desk, draw, count):
 
 def defined():
     """The sections of the definition, as they are cited, each with its book, its number, its code or none, and its texts."""
-    sections = re.findall(r'∷? ?\(?(one_period|two_periods) ([A-Za-z0-9]+)((?: \(codes "[^"]*"\))+)', NAMED.read_text())
+    sections = re.findall(r'∷? ?\(?(one|two)_(?:periods?|since \(codes "[0-9-]+"\)) ([A-Za-z0-9]+)((?: \(codes "[^"]*"\))+)', NAMED.read_text())
     given = [(kind, book, re.findall('"([^"]*)"', texts)) for kind, book, texts in sections]
     assert len(given) == len({texts[0] for _, _, texts in given}), "a section is defined twice"
-    return {texts[0]: (book, texts[1]) + ((texts[2], texts[3:]) if kind == "one_period" else (None, texts[2:])) for kind, book, texts in given}
+    return {texts[0]: (book, texts[1]) + ((texts[2], texts[3:]) if kind == "one" else (None, texts[2:])) for kind, book, texts in given}
 
 
 def check_definition():
@@ -148,6 +148,6 @@ def check_triggers(desk):
             assert ended.output.decode() == "".join(start + "\n" + label + "\n" for start, label in zip(starts, labels)), (row, name, ended)
             tried += 1
     ended = desk.call("plain", given=b"1,open,12,2025-08-04\n# 1,trigger,12,judgment,2025-08-04\n1, trigger, 12, judgment, 2025-08-32\n")
-    assert not ended.output and ended.errors.count(b"line 3 column 27: ") == 1 == ended.errors.count(b"line "), ended
+    assert not ended.output and ended.errors.count(b"line 3 column 27: ") == 1 == len(re.findall(b"^line ", ended.errors, re.M)), ended
     assert b"    1, trigger, 12, judgment, 2025-08-32\n" + 4 * b" " + 26 * b" " + 10 * b"^" + b"\n" in ended.errors, ended
     return tried
