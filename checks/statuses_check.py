@@ -22,7 +22,7 @@ from lib.programs import Ended, programs_of
 
 ROWS = [b"1,open,1,2025-03-03\n", b"1,start,1,59e,2025-03-03,,,\n", b"1,holiday,2025-03-31,state\n"]
 FAULT, REFUSED, AS_WRITTEN = b"1,open,1\n", b"1,open,1,2025-03-03\n", b'1,Open,2,"Mar 4, 2025"\n'
-QUESTION, NEW, CUT = b"1,sheet,1\n", b"1,open,2,2025-03-04\n", b"1,sheet,1"
+QUESTION, NEW, CUT = b"1,sheet,1\n", b"1,open,2,2025-03-03\n", b"1,sheet,1"
 WORDS, COURT, LINES, STREAM, ABSENT, DIFFERS, SOME, DOUBT, JOURNAL, WAITED = 1, 2, 3, 4, 6, 7, 8, 9, 10, 11
 STRIKE = "--reason twice"
 # What stands in the place of standard output in a call that ends with FULL: a disk that is full. In one that ends with UNREAD
