@@ -81,7 +81,7 @@ def called(text, event):
     if text in RULES:
         days, words, section, _ = RULES[text]
         return [(day, "Rule {}: {}, {}".format(section, words, counted(days, "day")), where)] + others
-    sections = [citation(section) + (" (since {})".format(SINCE[section]) if event < day_of_text(SINCE[section]) else "")
+    sections = [citation(section) + (" (since {})".format(SINCE[section]) if event is not None and event < day_of_text(SINCE[section]) else "")
                 for section, texts in ENTERED.items() if text in texts]
     back = ", as in " + ", ".join(sections) if sections else " ({})".format(text)
     return [(day, what + back, where)] + others
