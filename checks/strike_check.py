@@ -303,7 +303,7 @@ def assigned_in(replay, case):
 
 
 def told_line(told_in, case, now, after):
-    """What the desk has to list of a case that is open both before and after. Of other cases it says something else."""
+    """The line on a case that is open both before and after, where this of it changes; nothing where it stays, or for another case."""
     was, then = told_in(now, case), told_in(after, case)
     is_open = filed_in(now, case) and filed_in(after, case)
     return "  case {}: {}, now {}\n".format(case, was, then) if is_open and was != then else ""
