@@ -14,7 +14,7 @@ CHECKS   := $(shell python3 checks/run.py --names)
 SEED     :=
 COUNT    :=
 
-.PHONY: build try run docket install dist manual test times bench bench-desk check check-long help $(CHECKS)
+.PHONY: build try run docket install dist manual test times bench bench-desk bench-size check check-long help $(CHECKS)
 
 # Proves the clerk's program and the libraries below it, and builds it at $(OFFICE), with a line for each crate that is proved.
 # Where nothing has changed it proves nothing anew.
@@ -67,6 +67,11 @@ bench: build
 bench-desk: docket
 	@python3 bench/desk_bench.py $(DOCKET)
 
+# How a district's docket grows, beside SQLite. DISTRICT is how large it is: bench/district.py has the options.
+DISTRICT :=
+bench-size: docket
+	@python3 bench/size_bench.py $(DOCKET) $(DISTRICT)
+
 check:
 	@python3 checks/run.py --quick
 
@@ -88,6 +93,7 @@ help:
 	@echo "make times       the gate from nothing, whatever an earlier run has passed"
 	@echo "make bench       prints the program's rows per second and peak memory; it needs Linux"
 	@echo "make bench-desk  the desk's rows per second and the time of one row, beside SQLite; it needs Linux"
+	@echo "make bench-size  how long entering, opening and reports of a made district take, as it grows, beside SQLite; it needs Linux"
 	@echo "make check       all quick checks beside the gate"
 	@echo "make check-long  the long ones"
 	@echo "Each check by itself, and about how long it takes:"

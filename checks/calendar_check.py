@@ -8,7 +8,8 @@ makes the list of what is due or overdue, a judge's week and what a page says by
 any days, any judge, any case, and words that say nothing of the court. Half of the inputs are entered into a folder, in which
 cases have names (lib/given_docket.py), and each is called by its name. Of the cases of runs/assigned, which are assigned to
 judges, it must say what was worked out by hand. A page is read by Python's own reader of HTML; its
-markup is looked at too (lib/pages.py). What it says of the reasons of a deadline must be the lines of `docket memo`, but for how
+markup is looked at too (lib/pages.py). What has been pending for long is found by a second body (lib/pending.py), and is what was
+worked out by hand in runs/pending. Months of judges are found by Python's calendar (lib/months.py). What it says of the reasons of a deadline must be the lines of `docket memo`, but for how
 its period is called. In half of the inputs rows are given to several clerks (lib/several_clerks.py), which changes nothing. A
 faulty input must end both programs alike, and so must names that no court's file may have, such as `<b>`. Words that write no
 day, no instant, no number of days or no case must be refused, and words such as `friday` or `+7d` must say the days that this
@@ -23,18 +24,20 @@ import tempfile
 from collections import namedtuple
 
 from lib.asked_days import asked_days, counted_days, missing_days
-from lib.assigned import assigned_in, judges_in
+from lib.assigned import assigned_in, judges_in, rows_after
 from lib.case_names import asked, called, made_name, read
 from lib.desk import Desk, divided
 from lib.given_docket import LAST_ROW, given_docket
 from lib.made_inputs import INPUTS, made_input
 from lib.memo_lines import as_on_page, closing_of, ended_in, other_day, other_of, reasons_of
+from lib.months import months_of
 from lib.pages import faults_of, parts_of
+from lib.pending import end_of_months, page_fault as pending_page_fault, pending_lines, pending_on, table_fault
 from lib.period_words import SET
 from lib.programs import TOP, programs_of, seed_and_count
 
-# A docket of cases that are assigned, and what is due of it.
-ASSIGNED = TOP / "runs" / "assigned"
+# Dockets of which it was worked out by hand what is due of cases that are assigned, and what has been pending for long.
+BY_HAND = [TOP / "runs" / "assigned", TOP / "runs" / "pending"]
 UNITS = {"d": ("day", "days"), "h": ("hour", "hours")}
 ACTS = {"filing": "to file", "service": "to serve"}
 # Names that no court's file may have, and that a page would have to escape.
@@ -45,6 +48,7 @@ LONG = ["Calloway-Montgomery_von.Humboldt", "-_.-_.-_.-_.-_.-_.-_.-_.-_.-_.-_"]
 CHOOSING = ["due", "page", "ics", "json"]
 # Words that say other days than these beside them, and what is said of them.
 OTHER_DAYS = [["--from", "2025-09-01"], ["--to", "2025-09-30"], ["--overdue"]]
+TWO_FORMS = "error: the argument '--page' cannot be used with '--csv'\n\nFor more information, try '--help'.\n"
 NOT_TOGETHER = "error: the argument '--days <N>' cannot be used with '--from <DAY>', '--to <DAY>' or '--overdue'\n\n" \
     "For more information, try '--help'.\n"
 # Words that write no day, no instant, no number of days or no case, the option that is wrong, and what it says is wanted.
@@ -106,8 +110,8 @@ def period_words(code):
     return words if mark == "plain" else "{} ({})".format(words, mark)
 
 
-def deadline_item(names, case, words, other):
-    """The item of a deadline's line, or none where it was met in time or has no end. One that was ended is marked."""
+def deadline_item(names, case, words, other, closed):
+    """The item of a deadline's line, or none where it was met in time or has no end. One that was ended, or is of a closed case, is marked."""
     number, code, end = int(words[1]), words[2], words[3]
     if end == "beyond":
         return None
@@ -119,7 +123,7 @@ def deadline_item(names, case, words, other):
     line = "  {}  case {} deadline {}: {}{}{}".format("to " + words[5] if end == "until" else "to midnight",
                                                       called(names, case), number, period_words(code),
                                                       ", filed late" if state == "late" else "", ", " + other if other else "")
-    return Item(day, second, case, 0, number, line, None, ended_in(words) is not None, state != "late")
+    return Item(day, second, case, 0, number, line, None, closed or ended_in(words) is not None, state != "late")
 
 
 def hearing_item(names, case, number, words):
@@ -132,15 +136,15 @@ def hearing_item(names, case, number, words):
 def docket_of(names, lines, reasons):
     """What the sheets and calendars at the end of a text say, in lines that call cases by these names, and that mark the other
     readings which are among these reasons."""
-    items, assigned, heard, calendars, case, motion, judge = [], {}, {}, {}, None, None, None
+    items, assigned, heard, calendars, case, closed, motion, judge = [], {}, {}, {}, None, False, None, None
     for line in lines:
         words = line.split(" ")
         if words[0] == "case":
-            case = int(words[1])
+            case, closed = int(words[1]), "closed" in words
         elif words[0] == "assigned":
             assigned[case] = set(judges_in(line))
         elif words[0] == "deadline":
-            items.append(deadline_item(names, case, words, other_of(reasons[case, int(words[1])])))
+            items.append(deadline_item(names, case, words, other_of(reasons[case, int(words[1])]), closed))
         elif words[0] == "motion":
             motion = int(words[1])
         elif words[0] == "hearing":
@@ -286,6 +290,10 @@ def page_fault(names, page, text, docket, sheets, reasons, first, last, judge, c
     found = [(name, [(week, [cell.text() for cell in cells]) for week, cells in rows]) for name, rows in parts.judges]
     if found != [calendar for calendar in calendars if calendar[1]]:
         return "other hearings"
+    booked = [(name, [b for b in bookings if first <= b.day <= last and case in (None, b.case)])
+              for name, bookings in docket.calendars.items() if judge in (None, name)]
+    if parts.months != [("Judge " + name, months_of(names, name, bookings)) for name, bookings in booked if bookings]:
+        return "other months"
     judges = {s.case: {*docket.before.get(s.case, ()), *docket.heard.get(s.case, ())} for s in sheets}
     cases = [s for s in sheets if case in (None, s.case) and (judge is None or judge in judges[s.case])]
     if list(parts.cases) != ["case-{}".format(s.case) for s in cases]:
@@ -334,16 +342,19 @@ def refuses_no_times(programs):
         found = programs.report(words, b"").texts()
         if found != (1, "", NOT_TOGETHER):
             return "{}: {}".format(" ".join(words), found)
+    found = programs.report(["pending", "--on", "2026-03-31", "--page", "--csv"], b"").texts()
+    if found != (1, "", TWO_FORMS):
+        return "two forms: {}".format(found)
     return None
 
 
-def shows_assigned_cases(programs):
-    """What is said of cases that are assigned otherwise than it was worked out by hand, or none."""
-    court, rows = divided((ASSIGNED / "rows.txt").read_bytes())
+def shows_by_hand(programs, folder):
+    """What is said of the docket of a folder otherwise than it was worked out by hand, or none."""
+    court, rows = divided((folder / "rows.txt").read_bytes())
     with tempfile.TemporaryDirectory() as parent:
         desk = Desk(programs, parent, court)
         desk.enter(rows)
-        for call in (ASSIGNED / "said.txt").read_text().split("$ ")[1:]:
+        for call in (folder / "said.txt").read_text().split("$ ")[1:]:
             words, wanted = call.split("\n", 1)
             found = desk.call(*words.split(" ")).texts()
             if found != (0, wanted, ""):
@@ -382,8 +393,31 @@ def reads_other_days(programs):
     return None
 
 
-def made_words(chance, names, court, docket, sheets, reasons):
-    """Words, and what is wrong with how the program ends that is called with them, or none."""
+def made_pending(chance, names, court, days, judges, sheets, data):
+    """Words that ask what has been pending for long, and what is wrong with how the program ends that is called with them, or none."""
+    starts = [day_of(words[3]) for sheet in sheets for words, _ in sheet.motions] + [day_of(sheet.filed) for sheet in sheets]
+    ends = [end_of_months(start, months) for start in starts for months in (6, 36)] + days
+    on = chance.choice(ends) + datetime.timedelta(chance.randint(-1, 1))
+    form = chance.choice([[], ["--page"], ["--csv"]])
+    lists, words = pending_on(on, sheets, judges, rows_after(data)), ["pending", "--on", str(on), *form]
+    said = "{} isn't covered: the court's file covers {} to {}".format(on, court["from"], court["to"])
+
+    def fault_in(found):
+        if not day_of(court["from"]) <= on <= day_of(court["to"]):
+            return None if found == (6, "", "docket: {}\n".format(said)) else "wanted " + said
+        if (found[0], found[2]) != (0, ""):
+            return "no list"
+        if form == ["--csv"]:
+            return table_fault(names, lists, found[1])
+        if form == ["--page"]:
+            return pending_page_fault(names, on, lists, found[1])
+        wanted = "".join(line + "\n" for line in pending_lines(names, on, lists))
+        return None if found[1] == wanted else "wanted\n" + wanted
+    return words, fault_in
+
+
+def made_words(chance, names, court, docket, sheets, reasons, data):
+    """Words, and what is wrong with how the program ends that is called with them, or none. `data` is the input as clerk_office reads it."""
     def is_text(lines):
         wanted = "".join(line + "\n" for line in lines)
         return lambda found: None if found == (0, wanted, "") else "wanted\n" + wanted
@@ -401,6 +435,8 @@ def made_words(chance, names, court, docket, sheets, reasons):
             return ["week", "--judge", judge, "--of", str(of)], \
                 is_missing("{} isn't covered: the court's file covers {} to {}".format(of, court["from"], court["to"]))
         return ["week", "--judge", judge, "--of", str(of)], is_text(week_text(names, court, docket, judge, of))
+    if chance.random() < 0.15:
+        return made_pending(chance, names, court, days, list(docket.calendars), sheets, data)
     if chance.random() < 0.1:
         asked_for = chance.choice([[name] for name in CHOOSING] + [["week", "--of", court["from"]]])
         return asked_for + ["--judge", "Nobody"], is_missing("no judge is named 'Nobody' in the court's file")
@@ -420,11 +456,11 @@ def made_words(chance, names, court, docket, sheets, reasons):
     counted, overdue = (words == ["due"] and chance.random() < often for often in (0.2, 0.3))
     first, last, asked_for = counted_days(chance, days) if counted else asked_days(chance, days, *span, 0.6)
     words += asked_for
+    said = missing_days(first, last, *span)
     if overdue and not counted:
-        today = chance.choice(days) + datetime.timedelta(chance.randint(0, 3))
+        today = chance.choice(days + [span[0]]) + datetime.timedelta(chance.randint(0, 3))
         words += ["--overdue", "--today", str(today)]
         last = min(last, today - datetime.timedelta(1))
-    said = missing_days(first, last, *span)
     if judges and chance.random() < 0.4:
         judge = chance.choice(judges)
         words += ["--judge", judge]
@@ -452,7 +488,7 @@ def differs(chance, given):
     lines, reasons = closing_of(text), reasons_of(closing_of(given.memo(LAST_ROW).output.decode()))
     docket, sheets = docket_of(given.names, lines, reasons), sheets_of(lines, assigned_in(given.read_by_office()))
     for _ in range(5):
-        words, fault_in = made_words(chance, given.names, court, docket, sheets, reasons)
+        words, fault_in = made_words(chance, given.names, court, docket, sheets, reasons, given.read_by_office())
         found = given.report(words).texts()
         fault = fault_in(found)
         if fault is not None:
@@ -463,7 +499,8 @@ def differs(chance, given):
 def main(words):
     programs, (seed, count) = programs_of(words[:2]), seed_and_count(words[2:], 200)
     compared = 0
-    wrong = refuses_hostile_names(programs) or refuses_no_times(programs) or reads_other_days(programs) or shows_assigned_cases(programs)
+    wrong = refuses_hostile_names(programs) or refuses_no_times(programs) or reads_other_days(programs) or \
+        next(filter(None, (shows_by_hand(programs, folder) for folder in BY_HAND)), None)
     if wrong:
         sys.exit(wrong)
     for number in range(count):

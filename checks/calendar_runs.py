@@ -4,7 +4,7 @@
     calendar_runs.py DOCKET
     calendar_runs.py --write DOCKET [NAME ..]
 
-With --write what is stored is made anew, of all runs or of those named. What is due, a judge's week and the answers of a desk to
+With --write what is stored is made anew, of all runs or of those named. What is due, what has been pending, a judge's week and the answers of a desk to
 a large input are the text of the reference in plain Python, and the rows that a desk then writes are those of the input. A page,
 a calendar, JSON and SQL are what DOCKET writes, and they are stored only where the checks of these formats find that each says of
 the input what the reference and `docket memo` say (lib/calendar_faults.py); and a memo only where its reasons follow from one
@@ -18,10 +18,12 @@ import re
 import sys
 import tempfile
 
+from lib.assigned import assigned_in, rows_after
 from lib.given_docket import LAST_ROW, input_of
 from lib.memo_head import below_head, head_of
 from lib.memo_lines import closing_of, reasons_of
 from lib.memo_page import memo_on, page_of
+from lib.pending import pending_lines, pending_on, table_of
 from lib.programs import CHECKS, Programs, programs_of, run as run_program
 from lib.runs_made import sum_of
 from lib.stored_calendars import calls_of, data_of, is_of_desk, runs, wanted_of
@@ -60,11 +62,17 @@ def option(words, name):
 
 def reference_text(run, programs):
     """What is due, or a week, by the reference, with the other readings of `docket memo`."""
-    from calendar_check import docket_of, due_text, week_text
+    from calendar_check import docket_of, due_text, sheets_of, week_text
     given = input_of(programs, data_of(run))
     reasons = reasons_of(closing_of(given.memo(LAST_ROW).output.decode()))
     court = dict(re.findall(r'^(opens|closes|from|to) = "([^"]*)"', given.plain.decode(), re.MULTILINE))
-    docket = docket_of({}, closing_of(given.office(LAST_ROW).output.decode()), reasons)
+    closing = closing_of(given.office(LAST_ROW).output.decode())
+    docket = docket_of({}, closing, reasons)
+    if run.words[0] == "pending":
+        on = datetime.date.fromisoformat(option(run.words, "--on"))
+        data = given.read_by_office()
+        lists = pending_on(on, sheets_of(closing, assigned_in(data)), list(docket.calendars), rows_after(data))
+        return (table_of({}, lists) if "--csv" in run.words else "".join(line + "\n" for line in pending_lines({}, on, lists))).encode()
     judge, case, count = (option(run.words, name) for name in ("--judge", "--case", "--days"))
     first, last, day, today = (datetime.date.fromisoformat(option(run.words, name) or court[key])
                                for name, key in (("--from", "from"), ("--to", "to"), ("--of", "from"), ("--today", "from")))
@@ -166,7 +174,8 @@ def write(programs, names):
         if is_of_desk(run):
             wanted_of(run).write_bytes(desk_kept(run) if run.is_made else calls_text(programs, run))
             continue
-        text = reference_text(run, programs) if run.words[0] in ("due", "week") else written(programs, run)
+        text = reference_text(run, programs) if run.words[0] in ("due", "week") or run.words[0] == "pending" and "--page" not in run.words else \
+            written(programs, run)
         fault = memo_fault(run, text) if run.words[0] == "memo" else None
         if fault:
             sys.exit("{}: {}".format(run.name, fault))

@@ -77,7 +77,7 @@ def reasons(cause):
 
 
 # Each run: what it is, the words of the command line, standard input, and then the status, standard output and standard
-# error that are wanted. Behind the answer to a row some programs write why it is that.
+# error that are wanted. After the answer to a row some programs write why it is that.
 def common_runs(name, head, why, refused):
     """The runs that both have, where it is called so, writes this head, and gives these reasons of the row, and of one that is refused."""
     line = LINE + why

@@ -10,8 +10,7 @@ made the mistake. Then one character of the file, and of examples/district.toml,
 without it). Each change must give a fault, of which one is at the line that was changed or at one beside it (a list that isn't
 closed: at a later one, where that shows), or a warning, or
 the same court; only hours, names, the state's holidays and the ends of the span may be other ones unseen. In all of them
-clerk_office must refuse a file exactly where docket finds faults, with the fault that it names, but for those of the key that docket
-alone reads. It needs Python 3.11 or later.
+clerk_office must refuse a file exactly where docket says so, with the fault that it names. It needs Python 3.11 or later.
 """
 import pathlib
 import random
@@ -152,7 +151,7 @@ def spoiled():
     way("an empty date", put('"2025-09-01"', '""'))
     way("from is no date", put('"2025-01-01"', '"January 2025"'))
     way("a long text in place of a date", put('"2025-09-01"', '"' + "Labor Day, which is the first Monday in September, " * 3 + '"'))
-    way("faults in many places", put("17:00", "5 pm", put("EST5EDT,M3", "Eastern,M3", put("2025-09-01", "2025-9-1", put('"Ames"', '"J. Ames"')))))
+    way("faults in many places", put("17:00", "5 pm", put("EST5EDT,M3", "Eastern,M3", put("2025-09-01", "2025-9-1", put('"Ames"', '"Ames, J."')))))
 
     # zones
     for zone in ["America/New_York", "Eastern", "EST", "EST5EDT", "UTC-5", "-5:00", "\u221205:00", "MST7", "EST5",
@@ -172,6 +171,36 @@ def spoiled():
         way("e-filing runs to " + value, until(value))
     way("the time of e-filing is below a header", COURT + '\n[holiday_names]\n2025-09-01 = "Labor Day"\nefiling_until = "18:00"\n')
     way("the key of e-filing is misspelled", put("efiling_until", "efiling_untl", until('"18:00"')))
+
+    # the names of periods
+    def named(text):
+        return COURT + "\n[periods]\n" + text
+
+    opposition = 'opposition = "14d/after/service/served/plain"\n'
+    way("a period has a name", named(opposition + '\n[periods.cite]\nopposition = "LRCiv 7.2(c)"\n'))
+    way("a period without its mark", named('opposition = "14d/after/service/served"\n'))
+    way("a period of too many days", named(opposition + 'long = "3651d/after/filing/event/plain"\n'))
+    way("a period that is a number", named("opposition = 14\n"))
+    way("the name of a period is a section's", named('50b = "7d/after/filing/event/plain"\n'))
+    way("a blank in the name of a period", named('"reply brief" = "7d/after/filing/served/plain"\n'))
+    way("where a period is from that isn't there", named(opposition + '\n[periods.cite]\nreply = "LRCiv 7.2(d)"\n'))
+    way("the names of periods are a text", COURT + 'periods = "14d/after/service/served/plain"\n')
+
+    def sets(text):
+        return COURT + "\n[triggers]\n" + text
+
+    way("sets of periods", sets('judgment = "50b, FRAP 4(a)(1)(A), 62(a)"\nmotion = "14d/after/service/served/plain"\n'))
+    way("a set with a period that is none", sets('judgment = "50b, 50c, 59e"\n'))
+    way("a set with a section that sets two periods", sets('judgment = "50b, FRAP 4(a)(1)"\n'))
+    way("a set that is a list", sets('judgment = ["50b"]\n'))
+
+    def shorts(text):
+        return COURT + "\n[short_names]\n" + text
+
+    way("short names", shorts('Am = "Ames"\n11 = "11A"\n'))
+    way("a short name of nobody", shorts('Am = "Amos"\n'))
+    way("a blank in a short name", shorts('"Am es" = "Ames"\n'))
+    way("the short names are a text", COURT + 'short_names = "Ames"\n')
 
     # the span
     way("to is before from", put('to = "2026-12-31"', 'to = "2024-12-31"'))
@@ -197,6 +226,8 @@ def spoiled():
     way("an apostrophe in a name", put('"Ames"', '"O\'Brien"'))
     way("a blank in a name", put('"Ames"', '"Mary Ames"'))
     way("an accent in a name", put('"Ames"', '"Nu\u00f1ez"'))
+    way("a comma in a name", put('"Ames"', '"Ames, Mary"'))
+    way("a plus in a name", put('"Ames"', '"Ames+Brandt"'))
     way("an empty name", put('"Ames"', '""'))
     way("a name twice", put('"Calloway"', '"Ames"'))
     way("a name in another case", put('"Calloway"', '"AMES"'))
@@ -224,15 +255,14 @@ class Checked:
         return ended.status, said
 
     def compare(self, data, status, said):
-        """clerk_office refuses the file exactly where it has faults, with the fault that is named, unless the fault is at the key that it
-        doesn't read."""
+        """clerk_office refuses the file exactly where it is said to, with the fault that is named."""
         if b"\n%%" in data:
             return
         office = self.programs.office(data + b"\n%%\n")
-        of_office = status == 2 and "docket refuses the file with: " not in said
+        of_office = "clerk_office refuses the file with: " in said
         assert (office.status == 2) == of_office, (office, said)
         if of_office:
-            named = re.search(r"refuses the file with: (court fault .*)", said).group(1)
+            named = re.search(r"clerk_office refuses the file with: (court fault .*)", said).group(1)
             assert office.errors.decode("utf-8", "replace").startswith(named), (office, said)
 
 

@@ -3,8 +3,8 @@
 
     court_update_check.py DOCKET
 
-A file is written with hours, judges and rooms that are given: as TOML it must be the one without them but for these. Files of names that
-a court's file can't take must be refused at their line, and so must hours that don't follow each other. Each report of a folder must say to
+A file is written with hours, judges and rooms that are given: as TOML it must be the one without them but for these, and for the short names
+of those that aren't short. Files of names that a court's file can't take must be refused at their line, and so must hours that don't follow each other. Each report of a folder must say to
 when electronic filing runs.
 
 Then the file of each of some courts is changed as a court changes it by hand, a folder is made with it, and `court update` adds years. The
@@ -79,6 +79,27 @@ def own_file(place):
     assert tomllib.loads(no_names)["judges"] == []
 
 
+def long_names(place):
+    """Names that clerk_office doesn't take, and the short ones of those whose last word is no other's. Rows as written may have these."""
+    judges = ["Judith A. Brown", "Robert F. O'Neil Jr.", "Kahale", "Carla \"Lee\" Kahale", "Nu\u00f1ez", "James Lee II", "back\\slash", "x" * 33]
+    rooms = ["Courtroom 5A", "Courtroom 5.B", "West Annex", "East Annex", "R1"]
+    place.put("judges.txt", "".join(name + "\n" for name in judges))
+    place.put("rooms.txt", "".join(name + "\n" for name in rooms))
+    ended = place.written("hawaii", "--judges", "judges.txt", "--rooms", "rooms.txt")
+    assert ended.status == 0 and not ended.errors, ended
+    text = ended.output.decode()
+    shorts = {"Brown": "Judith A. Brown", "Lee": "James Lee II", "5A": "Courtroom 5A", "5.B": "Courtroom 5.B"}
+    plain = tomllib.loads(place.written("hawaii").output.decode())
+    assert tomllib.loads(text) == {**plain, "judges": judges, "rooms": rooms, "short_names": shorts}, text
+    assert "so it refuses this file" in text and "[short_names]" not in place.written("hawaii").output.decode()
+    folder = place.made(text, b"1,open,7,2025-08-04\n1,motion,7,2025-08-04,14\n")
+    place.call("enter", folder, "--as-written", given=b"1,book,7,1,Brown+Lee,5.B,2025-09-15,10:00,2,2025-08-04\n")
+    rows = place.call("rows", folder).output.decode()
+    assert rows.endswith("1,book,7,1,Judith A. Brown+James Lee II,Courtroom 5.B,2025-09-15,10:00,2,2025-08-04\n"), rows[-400:]
+    ended = place.call("court", "update", folder, "--to", TO)
+    assert ended.status == 0 and tomllib.loads(place.file_of(folder))["short_names"] == shorts, ended
+
+
 def shown_end(place):
     """To when electronic filing runs is what each report of a folder says, and midnight where the court's file has no such time."""
     rows = b"1,open,7,2025-08-04\n1,start,7,59e,2025-08-04,,,\n1,file,7,1,2025-09-02,18:01,electronic\n"
@@ -99,8 +120,8 @@ def shown_end(place):
 
 def refused_names(place):
     """Names and hours that a court's file can't have."""
-    for data, line, said in (("Ames\nO'Brien\n", 2, "O'Brien"), ("Mary Ames", 1, "Mary Ames"), ("\n\nAmes\nBrandt\nAmes\n", 5, "Ames"),
-                             ("x" * 33, 1, "x" * 33), (b"N\xfa\xf1ez\n", 1, ""), ("Nu\u00f1ez\n", 1, "Nu\u00f1ez"),
+    for data, line, said in (("Ames\nO'Brien, Mary\n", 2, "O'Brien, Mary"), ("Ames+Brandt", 1, "Ames+Brandt"), ("\n\nAmes\nBrandt\nAmes\n", 5, "Ames"),
+                             ("x" * 129, 1, "x" * 129), (b"N\xfa\xf1ez\n", 1, ""), ("Mary Ames\n Mary Ames\n", 2, "Mary Ames"),
                              ("\n".join("J{}".format(n) for n in range(40)), 33, "J32"), ("Am\x1bes", 1, "Am\\x1bes")):
         ended = place.written("hawaii", "--judges", place.put("names.txt", data))
         assert ended.status == COURT and not ended.output, (data, ended)
@@ -209,6 +230,7 @@ def main(words):
     with tempfile.TemporaryDirectory() as path:
         place = Folder(programs_of(words), path)
         own_file(place)
+        long_names(place)
         shown_end(place)
         refused_names(place)
         for court in COURTS:

@@ -89,7 +89,7 @@ def derivations(data, output):
     follow those of the deadline, and those that must come before them. Each other answer: None, the lines that must follow,
     those that do, the answer, and nothing."""
     file, rows = split(data)
-    calendar, started = calendar_of(file), {}
+    calendar, started, begun = calendar_of(file), {}, {}
     court = court_of(file)
     docket, works = opening(court), [row.work for row in rows_of(rows, 1, court, True)]
     rows = [row.split(",") for row in rows.decode().splitlines() if row]
@@ -119,11 +119,13 @@ def derivations(data, output):
             if shown and fields[0] in ("compute", "start", "set", "extend", "reset", "resume"):
                 if fields[0] == "compute":
                     deadline = deadline_of(*fields[1:])
-                elif fields[0] == "set":
-                    deadline = started[fields[1], shown[1]] = deadline_of("set/" + fields[4], fields[2], fields[3], "", "")
-                elif fields[0] == "start":
-                    deadline = started[fields[1], shown[1]] = deadline_of(*fields[2:])
+                elif fields[0] in ("start", "set"):
+                    own = begun[fields[1], shown[1]] = fields[2:] if fields[0] == "start" else ["set/" + fields[4], fields[2], fields[3], "", ""]
+                    deadline = started[fields[1], shown[1]] = deadline_of(*own)
                 else:
+                    if fields[0] == "resume" and fields[3]:
+                        period, _, time, second, kind = begun[fields[1], fields[2]]
+                        started[fields[1], fields[2]] = deadline_of(period, fields[3], time, second and fields[3], kind)
                     deadline = started[fields[1], fields[2]]
                     if fields[0] in ("extend", "reset"):
                         deadline.grants.append(fields[3] if fields[0] == "extend" else order_text(*fields[3:5]))
@@ -211,6 +213,7 @@ def whole_case(ended, output, case, today):
         is_due = ending_of(docket, case, deadline.number) is None
         more = note_lines.act(court, docket, row) + note_lines.ahead(court, docket, row, today if is_due else None)
         more += note_lines.of_deadline(court, docket, row, filed, today)
+        more += note_lines.of_motions(row, [other.row for other in deadlines_of(docket, case)])
         shown = shown_text(court, periods.shown(days, court.clock, row))
         yield calendar, of_row(row), block[1:], shown, more, first
     for motion in motions_of(docket, case):
@@ -581,6 +584,7 @@ def main(words):
     # (the example of several clerks, whose words are beside it, may be answered otherwise)
     inputs = [path.read_bytes() for path in sorted((TOP / "examples").glob("*.txt")) if not path.with_suffix(".words").exists()]
     inputs += [path.read_bytes() for path in sorted((TOP / "crates" / "docket").glob("stdin"))] + [AT_THE_END, AT_A_FRIDAY]
+    inputs.append((TOP / "runs" / "calendar" / "appeal.in").read_bytes())
     while shown < count or inputs:
         data = inputs.pop() if inputs else an_input(chance)
         for derivation in all_derivations(programs, data, chance):

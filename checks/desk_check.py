@@ -6,13 +6,15 @@
 The examples of examples/ of one clerk are entered in two sessions, and answered as by clerk_office. What is said of an
 empty folder, of one that has a journal and of a file without entries is looked at, and what becomes of a session under which the
 journal is written over, or beside which others enter and strike rows. A question is asked and rows are tried beside
-a program that enters rows, rows that draw warnings are held back, plain, as written and kept together, rows are kept together
-or not at all, rows with faults are counted and name their clerks, a folder is filled with cases, cases have their numbers as
-courts write them, holidays and outages are answered with the deadlines that they move, and a court is given another file. Then
+a program that enters rows, rows that draw warnings are held back, plain, as written and kept together, and at random with what
+the reference says, rows are kept together or not at all, rows with faults are counted and name their clerks, a folder is filled
+with cases, cases have their numbers as courts write them, holidays and outages are answered with the deadlines that they move,
+and a court is given another file. Then
 COUNT times (300 without it) a session is ended at a random moment, most of them killed, and COUNT / 3 times one that keeps its
 rows together, as desk_kill.py does it; COUNT / 10 inputs at random are compared, as desk_compare.py does it; and a short journal
 is damaged in its last COUNT / 2 bytes, as desk_damage.py does it. It needs Python 3.8 or later.
 """
+import datetime
 import random
 import re
 import subprocess
@@ -25,6 +27,11 @@ from desk_kill import killed, killed_together
 from lib.desk import Desk, FAULTS, FAULTY, KEEP_REFUSED, REFUSED, SHORT_COURT, TOGETHER, divided, drawn_rows, told_of
 from lib.journal import SHUT, courts_of, names_of, packed, read_journal, rows_of
 from lib.programs import TOP, programs_of, run, seed_and_count
+from lib.row_warnings import warned
+from reference.civil import day_of_text, day_text
+from reference.court_file import court_of
+from reference.docket import opening, step
+from reference.rows_in import rows_of as works_of
 from strike_check import drawn_row, opened
 
 EXAMPLES = ["smallest", "days", "deadlines", "a_day"]
@@ -214,7 +221,8 @@ CAREFUL = [
      b"  Mon 2025-02-03  the event lies before the filing of the case        note\n" + HELD_LAST),
     (b"1,start,7,59e,2025-03-03,,,\n", b"2 1 deadline 1 last 2025-03-31\n"),
     (b"1,file,7,1,2025-02-28,10:00,electronic\n", b"row 3 not kept:\n"
-     b"  Fri 2025-02-28  the act was done before its event                   note\n" + HELD_LAST),
+     b"  Fri 2025-02-28  the act was done before its event                   note\n"
+     b"  Fri 2025-02-28  if timely, the time to appeal moves: FRAP 4(a)(4)   note\n" + HELD_LAST),
     (b"!1,file,7,1,2025-02-28,10:00,electronic\n", b"3 1 filed timely\n"),
     (b"1,file,7,1,2025-02-28,10:00,electronic\n", b"row 4 not kept:\n"
      b"  would be refused 9 AlreadyMet\n"
@@ -268,6 +276,8 @@ CAREFUL = [
     (b"1,start,7,3d/before/service/event/plain,2025-03-20,,,\n", b"10 1 deadline 2 last 2025-03-17\n"),
     (b"1,extend,7,2,2025-03-21,2025-03-10,09:00,no,yes,no\n", b"row 11 not kept:\n"
      b"  Fri 2025-03-21  the end lies after the event it counts back from    note\n" + HELD_LAST),
+    (b"1,start,7,3d/before/service/event/plain,2025-03-20,,,\n", b"row 11 not kept:\n"
+     b"  Thu 2025-03-20  deadline 2 of the case is the same and pending      note\n" + HELD_LAST),
 ]
 
 
@@ -285,7 +295,7 @@ def check_warnings(programs):
         desk = Desk(programs, parent, SHORT_COURT)
         tried = desk.call("try", "--warn", given=b"".join(given for given, answer in CAREFUL))
         assert tried.status == FAULTY and tried.output == b"".join(answer for given, answer in CAREFUL), tried
-        assert tried.errors == b"3 of 25 rows had faults and 12 were held back, and none of these is kept: mend them and enter them again\n", tried
+        assert tried.errors == b"3 of 26 rows had faults and 13 were held back, and none of these is kept: mend them and enter them again\n", tried
         for given, answer in CAREFUL:
             whole, said = desk.journal.read_bytes(), said_alone(answer)
             ended = desk.call("enter", "--warn", given=given)
@@ -329,6 +339,65 @@ def as_written(draw, line):
     fields = row.split(b",")
     fields[1] = draw.choice([bytes.title, bytes.upper, bytes.lower])(fields[1])
     return mark + draw.choice([b",", b", "]).join(fields)
+
+
+# The day of entry of rows that are warned of, and days of what they say.
+ENTERED, DAYS = "2025-06-15", ["2025-01-20", "2025-03-10", "2025-05-05", "2025-06-14", "2025-06-16", "2026-06-15"]
+
+
+def row_to_warn_of(draw):
+    """A row about three cases and few days, so that much of it is there already."""
+    case, number, day = draw.randint(1, 3), draw.randint(1, 4), draw.choice(DAYS)
+    period = draw.choice(["59e", "59b", "50b", "frap4a1A", "frap4a1B", "4m", "14d/before/filing/event/plain", "30h/after/service/event/plain"])
+    return draw.choice([
+        "1,start,{},{},{},,,".format(case, period, day),
+        "1,start,{},{},{},,,".format(case, period, day),
+        "1,set,{},{},{},filing".format(case, day, draw.choice(["", "09:30"])),
+        "1,file,{},{},{},10:00,electronic".format(case, number, day),
+        "1,file,{},{},{},10:00,electronic".format(case, number, day),
+        "1,extend,{},{},+7d,{},09:00,yes,yes,yes".format(case, number, day),
+        "1,reset,{},{},{},,{}".format(case, number, day, draw.choice(DAYS)),
+        "1,end,{},{},moot,{}".format(case, number, day),
+        "1,resume,{},{},,{}".format(case, number, day),
+        "1,assign,{},Ames,,{}".format(case, day),
+        "1,motion,{},{},exparte".format(case, day),
+        "1,{},{},1,Ames,R1,{},08:30,{},{}".format(draw.choice(["book", "move"]), case, draw.choice(DAYS), draw.choice(["8", "17q", "17"]), day),
+        "1,rule,{},1,denied,{}".format(case, day),
+    ]).encode() + b"\n"
+
+
+def note_text(line):
+    """A line of what is warned of."""
+    day, what, section = line
+    dated = "" if day is None else "{:%a} {}".format(datetime.date.fromisoformat(day_text(day)), day_text(day))
+    return "  {:14}  {:50}  {}\n".format(dated, what, section).encode()
+
+
+def check_warned(programs, draw):
+    """Rows at random, each by itself: those that wouldn't be refused are held back with what lib/row_warnings.py says, or kept."""
+    court, told = court_of(SHORT_COURT, True), set()
+    for _ in range(20):
+        lines = [b"1,open,%d,2025-03-03\n" % case for case in (1, 2, 3)] + [row_to_warn_of(draw) for _ in range(60)]
+        with tempfile.TemporaryDirectory() as parent:
+            desk = Desk(programs, parent, SHORT_COURT)
+            answers = answers_in(desk.call("enter", "--warn", "--today", ENTERED, given=b"".join(lines)).output)
+        assert len(answers) == len(lines), answers
+        docket, number = opening(court), 1
+        for line, answer in zip(lines, answers):
+            work = works_of(line, 1, court, True)[0].work
+            after, came = step(court, docket, work)
+            if came[0] == "refused":
+                assert answer.startswith(b"row %d not kept:\n  would be refused %d " % (number, came[1])), (line, answer)
+                continue
+            notes = warned(court, docket, work, day_of_text(ENTERED))
+            if notes:
+                assert answer == b"row %d not kept:\n" % number + b"".join(map(note_text, notes)) + HELD_LAST, (line, answer, notes)
+                told.update(re.sub("[0-9]+", "N", what) for _, what, _ in notes)
+            else:
+                assert answer.startswith(b"%d 1 " % number), (line, answer)
+                docket, number = after, number + 1
+    assert len(told) > 10, told
+    return "{} warnings of rows at random, as the reference has them".format(len(told))
 
 
 def is_kept_together(desk, lines, written, tried, keep, stops):
@@ -637,7 +706,7 @@ def main(words):
     draw = random.Random(seed)
     for check in (lambda: check_examples(programs, draw), lambda: check_folder(programs), lambda: check_long(programs), lambda: check_cut(programs), lambda: check_unbegun(programs),
                   lambda: check_changed(programs), lambda: check_beside(programs),
-                  lambda: check_trial(programs, draw), lambda: check_warnings(programs), lambda: check_choices(programs, draw), lambda: check_together(programs, draw),
+                  lambda: check_trial(programs, draw), lambda: check_warnings(programs), lambda: check_warned(programs, draw), lambda: check_choices(programs, draw), lambda: check_together(programs, draw),
                   lambda: check_refused(programs), lambda: check_faulty(programs), lambda: check_clerks(programs), lambda: check_cases(programs),
                   lambda: check_numbers(programs), lambda: check_moves(programs, draw), lambda: check_court(programs),
                   lambda: compared(programs, draw, count // 10), lambda: damaged(programs, draw, 12, count // 2),

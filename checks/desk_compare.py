@@ -8,8 +8,9 @@ must be refused by both. The rows are entered in one session or two. A row that 
 and the others must be answered as clerk_office answers them alone: the answers must be those in the journal, the rows in
 it with the court's file an input for which clerk_office begins with the same answers, and what `rows` writes that input.
 In some inputs orders set deadlines, or other ends for them, deadlines are ended and resumed, motions are ruled on, cases closed and
-assigned, and cases, deadlines and motions called something, by rows that the desk alone takes: there the answers must be those of the
-second program in Python, and clerk_office must refuse the rows for the first of these, whose command word it doesn't know. In some the
+assigned, cases, deadlines and motions called something, and periods named by the codes of their sections, by rows that the desk alone
+takes: there the answers must be those of the second program in Python, and clerk_office must refuse the rows for the first of these,
+whose command word or period it doesn't know. In some the
 court's file says to when electronic filing runs, by a key that the desk alone reads: there too the answers are compared with Python's,
 clerk_office must answer as without the key, and the desk must refuse a value that is no time.
 The desk takes rows of 64 clerks, and clerk_office by itself those of clerk 1: it is given all of them as that clerk's. It
@@ -21,7 +22,7 @@ import sys
 import tempfile
 from collections import Counter
 
-from lib.desk import Desk, FAULT_LINE, ROW_OF_DESK, called_rows, desk_rows, divided
+from lib.desk import CODED_ROW, Desk, FAULT_LINE, NAMED_PERIODS, ROW_OF_DESK, called_rows, coded_rows, desk_rows, divided, named_rows
 from lib.journal import rows_of
 from lib.made_inputs import INPUTS, made_input
 from lib.programs import programs_of, run, seed_and_count
@@ -77,8 +78,8 @@ def answered_by_python(data):
 
 
 def with_key(value, court):
-    """A court's file with that value of the key that the desk alone reads."""
-    return b"efiling_until = " + value + b"\n" + court
+    """A court's file with that value of the key that the desk alone reads, and with names of periods."""
+    return b"efiling_until = " + value + b"\n" + court + NAMED_PERIODS
 
 
 def check_key(programs, parent, court, draw):
@@ -99,6 +100,13 @@ def check_keyed(desk, rows, kept, court):
     assert desk.programs.office(desk.input_of(rows)) == desk.programs.office(plain)
 
 
+def office_fault(row):
+    """The fault of a row for clerk_office that the desk alone takes: its period is named by a code, or it has another command word."""
+    if CODED_ROW.match(row):
+        return b"4 BadField %d" % (3 if row.split(b",")[1] == b"compute" else 4)
+    return b"2 UnknownCommand"
+
+
 def check_together(desk, kept, court):
     """That kept rows are answered alike where all are read at once; whether the desk alone takes one of them."""
     rows = [of_first_clerk(row) for row, _ in kept]
@@ -110,7 +118,7 @@ def check_together(desk, kept, court):
     if not of_desk:
         assert together.status == 0 and together.output.startswith(to_first_clerk(kept)), (kept, together)
         return False
-    fault = b"row %d fault 2 UnknownCommand\n" % of_desk[0]
+    fault = b"row %d fault %s\n" % (of_desk[0], office_fault(rows[of_desk[0] - 1]))
     assert (together.status, together.output, together.errors) == (3, b"", fault), together
     assert answered_by_python(desk.input_of(rows)) == to_first_clerk(kept), kept
     return True
@@ -133,13 +141,14 @@ def check_input(programs, data, draw):
     court, rows = divided(data)
     rows = [row if row.endswith(b"\n") else row + b"\n" for row in rows]
     if draw.random() < 0.3:
-        rows = called_rows(draw, desk_rows(draw, rows, [1, 2, 3]), [1, 2, 3])
+        rows = coded_rows(draw, called_rows(draw, desk_rows(draw, rows, [1, 2, 3]), [1, 2, 3]), [1, 2, 3])
     with tempfile.TemporaryDirectory() as parent:
         if is_refused(programs, parent, court):
             return REFUSED_COURT
         keyed = draw.random() < 0.2
         if keyed:
             check_key(programs, parent, court, draw)
+            rows = named_rows(draw, rows, [1, 2, 3])
         desk = Desk(programs, parent, with_key(b'"' + draw.choice(UNTIL) + b'"', court) if keyed else court)
         faulty, of_desk = check_rows(desk, rows, court, draw)
         if keyed:

@@ -8,6 +8,7 @@ answered each report is asked of the folder; then more rows, and again; and agai
 folder says must be what it says of the court's file and these rows as an input, byte by byte, but for the day on which a memo is made,
 which no input says; and the journal must be as it was. Where the desk alone takes one of the rows, it must be what is said of another
 folder into which they are entered at once.
+The page of a case must be what its sheet says, in parts, and the last ten entries of its log.
 As of the last row that there was then, each report must at the end be what it was then, byte by byte, and so must the rows, the
 cases, the rows that are struck and the answers to questions; also once a row is struck.
 What rows call cases, deadlines and motions is in each report, whole and as text alone, also where it has markup, a formula, quotes or
@@ -43,7 +44,8 @@ def reports(draw):
     case, day = str(draw.randint(1, 3)), "2025-{:02}-{:02}".format(draw.randint(3, 9), draw.randint(1, 28))
     yield from (["due"], ["due", "--from", day, "--judge", "Ames"], ["due", "--case", case], ["week", "--judge", "Ames", "--of", day],
                 ["page"], ["page", "--case", case], ["ics", "--stamp", "20250901T120000Z"], ["ics", "--stamp", "20250901T120000Z", "--judge", "Ames"],
-                ["json"], ["json", "--lines"], ["json", "--to", day], ["sql"], ["memo"], ["memo", "--case", case, "--today", day],
+                ["json"], ["json", "--lines"], ["json", "--to", day], ["sql"], ["pending", "--on", day],
+                ["pending", "--on", day, "--page"], ["memo"], ["memo", "--case", case, "--today", day],
                 ["memo", "--case", case, "--today", day, "--html"])
 
 
@@ -63,6 +65,25 @@ def compare(desk, draw):
         assert of_folder == of_input, (words, rows, of_folder, of_input)
         assert desk.journal.read_bytes() == before, words
     return len(rows)
+
+
+def page_of(desk, case):
+    """The page of a case, made of its sheet and of its log."""
+    sheet = desk.call("sheet", case).output.decode().splitlines()[1:]
+    motions = next((at for at, line in enumerate(sheet) if line.startswith("motion ")), len(sheet))
+    deadlines = next((at for at, line in enumerate(sheet) if line.startswith("deadline ")), motions)
+    entries = re.findall(r"^\S.*\n(?:  .*\n)*", desk.call("log", "--case", case).output.decode(), re.MULTILINE)
+    lines = sheet[:deadlines] + [""] + (["Deadlines", *sheet[deadlines:motions]] if deadlines < motions else ["No deadlines."]) + [""] + \
+        (["Motions", *sheet[motions:]] if motions < len(sheet) else ["No motions."]) + ["", "Last entries"]
+    return "".join(line + "\n" for line in lines) + "".join(entries[-10:])
+
+
+def compare_pages(desk):
+    """Compares the page of each of the first cases with its sheet and its log."""
+    for case in (1, 2, 3):
+        ended, sheet = desk.call("case", case), desk.call("sheet", case)
+        assert (ended.status, ended.errors) == (sheet.status, sheet.errors), (case, ended, sheet)
+        assert ended.output.decode() == (page_of(desk, case) if sheet.status == 0 else ""), (case, ended)
 
 
 def told_then(desk, calls, *as_of):
@@ -104,11 +125,13 @@ def check_docket(programs, draw):
                 moments.append(seen(desk, draw))
             session.stdin.close()
         count = compare(desk, draw)
+        compare_pages(desk)
         compare_then(desk, moments[:1])
         desk.enter([LAST])
         assert desk.call("strike", count + 1, "--reason", "twice").status == FAULT
         ended = desk.call("strike", 1, "--accept", "--reason", "twice")
         assert ended.status in (0, FAULT), ended
+        compare_pages(desk)
         compare_then(desk, moments)
         return count
 

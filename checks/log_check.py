@@ -8,8 +8,8 @@ Each stamp in the journal must have the account that the system has of this user
 between the beginning and the end of its call; seconds never go back, also where the folder's last entry is of a later time than the
 clock's. `docket log` must list just these entries, and of each choice (a row, a case, an account, days) just those that Python chooses,
 as text and as JSON. Control characters of an account are shown as text. `rows --as-of` a time must be what `rows` is of a journal that
-ends there. A journal that is no plain file is refused before it is read; a session ends when another file is put in its journal's place,
-and when one was cut off the next says so. It needs Python 3.8 or later, on Linux.
+ends there. `docket check` names an entry whose time goes back. A journal that is no plain file is refused before it is read; a session
+ends when another file is put in its journal's place, and when one was cut off the next says so. It needs Python 3.8 or later, on Linux.
 """
 import datetime
 import itertools
@@ -37,6 +37,8 @@ SAME_COURT = SHORT_COURT + b"\n"
 DAY = 86_400
 # The court's clock in the days that are chosen.
 WINTER = datetime.timezone(datetime.timedelta(hours=-5))
+# What `docket check` says of an entry after what it is.
+EARLIER = b" has an earlier time than the entry before it"
 # The status with which a session ends some of whose rows had faults, and that of a log with no entry of the row or the case.
 FAULTS, ABSENT = 8, 6
 
@@ -229,6 +231,27 @@ def check_other(programs, draw):
         return 2 + len(entries)
 
 
+def check_back(programs, draw):
+    """A journal whose times go back: `docket check` names the first entry of an earlier time than the one before it, and leaves the file as
+    it is."""
+    with tempfile.TemporaryDirectory() as parent:
+        desk = Desk(programs, parent, SHORT_COURT)
+        desk.enter([b"1,open,9,2025-03-03\n", *drawn_rows(draw, 6)])
+        assert desk.call("strike", 1, "--reason", "twice", "--accept").status == 0
+        desk.enter(drawn_rows(draw, 3))
+        journal = desk.read()
+        times = sorted(draw.randint(1_764_000_000, 1_765_500_000) for _ in journal.entries)
+        for place, entry in list(enumerate(listed_in(journal)))[1:]:
+            back = times[:place] + [times[place - 1] - 1] + times[place + 1:]
+            data = packed([[both] for both in zip([stamp._replace(time=time) for stamp, time in zip(journal.stamps, back)], journal.entries)])
+            desk.journal.write_bytes(data)
+            ended = desk.call("check")
+            assert ended.status == REFUSED and not ended.output and ended.errors.startswith(entry.heading + EARLIER), (place, ended)
+            assert desk.journal.read_bytes() == data
+        desk.journal.write_bytes(packed([[both] for both in zip([stamp._replace(time=time) for stamp, time in zip(journal.stamps, times)], journal.entries)]))
+        assert desk.call("check").status == 0
+
+
 def check_no_file(programs):
     """A journal that is no plain file is refused by what it is, before it is read, and so is one with another name where it would be
     written."""
@@ -299,6 +322,7 @@ def main(words):
     programs, (seed, count) = programs_of(words[:1]), seed_and_count(words[1:], 10)
     draw = random.Random(seed)
     entries = sum(check_folder(programs, draw) + check_other(programs, draw) for _ in range(count))
+    check_back(programs, draw)
     check_no_file(programs)
     check_replaced(programs)
     check_cut_off(programs)

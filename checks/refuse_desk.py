@@ -30,6 +30,7 @@ ENDED, DONE_WITHOUT = "ended the run", "the run could do without"
 ROWS = b"1,open,1,2025-03-03\n1,start,1,59e,2025-03-03,,,\n1,sheet,1\n1,nothing\n2,compute,59b,2025-08-04,,,\n"
 OTHER_COURT = SHORT_COURT.replace(b'"2025-03-28"', b'"2025-03-28", "2025-03-31"')
 REPORTS = (["due"], ["week", "--judge", "Ames", "--of", "2025-03-03"], ["page"], ["ics", "--stamp", "20250901T120000Z"], ["json"], ["sql"],
+           *[["pending", "--on", "2025-03-03", *form] for form in ([], ["--page"], ["--csv"])],
            ["memo"], ["memo", "--case", "1", "--today", "2025-03-10"])
 # How many growths are refused to the driver, and of how many the first it is.
 DRIVER_RUNS, DRIVER_GROWTHS = 300, 200_000

@@ -55,7 +55,7 @@ TABLES = {
     "outages": ("number, outage_day, begins, ends", "number"),
     "closings": ("case_number, closed, how", "case_number"),
     "assignments": ("case_number, dated, judge, referred", "case_number"),
-    "endings": ("case_number, deadline_number, why", "case_number, deadline_number"),
+    "endings": ("case_number, deadline_number, why, motion_number", "case_number, deadline_number"),
     "rulings": ("case_number, motion_number, ruled, how", "case_number, motion_number"),
     "answers": ("number, clerk, refusal, answer", "number"),
 }
@@ -259,7 +259,7 @@ def wanted_rows(whole, rows, answers, given):
                 case, number, d["event"]["day"], event_time(d["event"]["time"]), or_empty(d["second_day"]), or_empty(d["service"]),
                 or_empty(d["last_day"]), "" if d["end"] is None else instant(d["end"]), *act,
                 {"timely": "1", "late": "0"}.get(d["state"], "")))
-            found["endings"] += [(case, number, d["ended"])] if "ended" in d else []
+            found["endings"] += [(case, number, d["ended"], d.get("suspended_by"))] if "ended" in d else []
             for place, g in enumerate(d["grants"]):
                 key = (case, number, str(place + 1))
                 if "order" in g:

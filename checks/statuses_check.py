@@ -22,7 +22,7 @@ from lib.programs import Ended, programs_of
 
 ROWS = [b"1,open,1,2025-03-03\n", b"1,start,1,59e,2025-03-03,,,\n", b"1,holiday,2025-03-31,state\n"]
 FAULT, REFUSED, AS_WRITTEN = b"1,open,1\n", b"1,open,1,2025-03-03\n", b'1,Open,2,"Mar 4, 2025"\n'
-QUESTION, NEW, CUT = b"1,sheet,1\n", b"1,open,2,2025-03-04\n", b"1,sheet,1"
+QUESTION, NEW, CUT = b"1,sheet,1\n", b"1,open,2,2025-03-03\n", b"1,sheet,1"
 WORDS, COURT, LINES, STREAM, ABSENT, DIFFERS, SOME, DOUBT, JOURNAL, WAITED = 1, 2, 3, 4, 6, 7, 8, 9, 10, 11
 STRIKE = "--reason twice"
 # What stands in the place of standard output in a call that ends with FULL: a disk that is full. In one that ends with UNREAD
@@ -44,7 +44,7 @@ FILES = {
     "names.txt": b"Kahale\n\nO-Brien\n", "sound.txt": SHORT_COURT + b"%%\n" + b"".join(ROWS), "faulty.txt": SHORT_COURT.replace(b"08:30", b"8:30") + b"%%\n",
     "rows.txt": SHORT_COURT + b"%%\n" + FAULT,
 }
-REPORTS = ("due", "week --judge Ames --of 2025-03-03", "page", "ics --stamp 20250901T120000Z", "json", "json --lines", "sql", "memo",
+REPORTS = ("due", "week --judge Ames --of 2025-03-03", "page", "ics --stamp 20250901T120000Z", "json", "json --lines", "sql", "pending --on 2025-03-31", "pending --on 2025-03-31 --csv", "memo",
            "memo --case 1 --today 2025-03-10", "memo --html")
 # As of when a folder is read: before any case was opened, and after that.
 BEFORE = ("0", "yesterday", "-1d", "2025-03-03", "2025-03-09T02:30", "2025-11-02T01:30:00")
@@ -62,13 +62,13 @@ def of_report(words):
     yield from ((words + place, b"", JOURNAL) for place in (" N", " E", " N --as-of 1", " E --as-of today"))
     yield from ((words + " F --as-of=" + then, b"", ABSENT if "--case" in words and then in BEFORE else 0) for then in AS_OF)
     yield from ((words + place, b"", WORDS) for place in (" F --as-of x", " F --as-of=", " --input sound.txt --as-of 2", " --as-of 2"))
-    if name not in ("week", "sql") and "--case" not in words and "--lines" not in words:
+    if name not in ("week", "sql", "pending") and "--case" not in words and "--lines" not in words:
         yield from ((words + " F --case " + case, b"", ABSENT) for case in ("2", "1:25-cv-1"))
         yield words + " F --case 4097", b"", WORDS
     if "--lines" in words:
         yield from ((words + " F --" + more, b"", WORDS) for more in ("judge Ames", "case 1", "from 2025-03-03", "to 2025-04-01", "judge Ames --case 1"))
         yield words + " --input sound.txt --case 1", b"", WORDS
-    elif name not in ("sql", "memo", "week"):
+    elif name not in ("sql", "memo", "week", "pending"):
         yield words + " F --judge Nobody", b"", ABSENT
         yield words + " F --from 2025-02-29", b"", WORDS
         yield from ((words + " F --today 2025-03-10 --from today --to=" + day, b"", 0) for day in ("tomorrow", "sunday", "+7d", "2025-04-01"))
@@ -81,6 +81,13 @@ def of_sheet(place, given):
     """The calls for a case's sheet of a folder, or of an input."""
     yield from (("sheet {} {}".format(place, case), given, status) for case, status in (("1", 0), ("2", ABSENT), ("1:25-cv-8", ABSENT), ("4097", WORDS), ("0", WORDS)))
     yield from (("sheet {}{}".format(place, more), given, WORDS) for more in ("", " 1 1", " 1 --nothing"))
+
+
+def of_case():
+    """The calls for the page of a case, which is of a folder alone."""
+    yield from (("case F " + case, b"", status) for case, status in (("1", 0), ("2", ABSENT), ("1:25-cv-8", ABSENT), ("4097", WORDS), ("0", WORDS)))
+    yield from (("case " + words, b"", WORDS) for words in ("", "F", "F 1 1", "F 1 --nothing", "F 1 --as-of 1", "--input sound.txt 1"))
+    yield from (("case F 1" + BESIDE, b"", 0), ("case F 1" + FULL, b"", STREAM), ("case N 1", b"", JOURNAL), ("case E 1", b"", JOURNAL))
 
 
 def of_rows(words):
@@ -166,7 +173,7 @@ TABLE = [
     *(call for report in REPORTS for call in of_report(report)),
     ("week F --judge Ames", b"", WORDS), ("week F --of 2025-03-03", b"", WORDS), ("week F --judge Nobody --of 2025-03-03", b"", ABSENT),
     ("week F --judge Ames --of 2030-03-03", b"", ABSENT), ("week F --judge Ames --today 2025-03-03 --of tuesday", b"", 0),
-    *of_sheet("F", b""), *of_sheet("--input -", FILES["sound.txt"]), ("sheet F 1" + BESIDE, b"", 0), ("sheet F 1" + FULL, b"", STREAM),
+    *of_case(), *of_sheet("F", b""), *of_sheet("--input -", FILES["sound.txt"]), ("sheet F 1" + BESIDE, b"", 0), ("sheet F 1" + FULL, b"", STREAM),
     ("sheet --input faulty.txt 1", b"", COURT), ("sheet --input rows.txt 1", b"", LINES), ("sheet --input none.txt 1", b"", STREAM),
     ("sheet F 1 --input sound.txt", b"", WORDS), ("sheet S 1:25-cv-7", b"", 0), ("sheet N 1", b"", JOURNAL), ("sheet E 1", b"", JOURNAL), ("memo F --today 2025-03-03", b"", WORDS), ("ics F --stamp now", b"", WORDS),
     ("court check court.toml", b"", DOUBT), ("court check doubtful.toml", b"", DOUBT), ("court check divided.toml", b"", COURT), ("court check faulty.toml", b"", COURT), ("court check none.toml", b"", STREAM),

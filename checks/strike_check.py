@@ -12,8 +12,8 @@ than before, and each case that it lists as closed or assigned otherwise, the sh
 answers to later rows, what clerk_office makes of the rows that the desk writes, which counts deadlines and motions by their places (or the
 second program, where it doesn't take them all), and
 the reports of the folder, which show the numbers of rows, deadlines and motions that `enter` answered. Without --accept a
-strike or a restore that changes an answer changes nothing; a row that is struck isn't struck again, and only such a row is
-restored. The first line of each correction must say the numbers that rows gave since the one before it and don't keep yet: those of
+strike or a restore that changes an answer changes nothing, but for the restore of a row that would be refused; a row that is struck
+isn't struck again, and only such a row is restored. The first line of each correction must say the numbers that rows gave since the one before it and don't keep yet: those of
 the replay, and those that the answers and the lists of the folder show. A case keeps its number and its name. A journal in which one correction says others, or a row has another answer,
 is refused by `docket check`, and nothing opens it where that row comes after the last correction. It needs Python 3.8 or later.
 """
@@ -67,7 +67,7 @@ def drawn_row(draw):
         "1,extend,{},{},+7d,{},09:00,yes,yes,yes".format(case, number, day),
         "1,reset,{},{},{},{},{}".format(case, number, day, draw.choice(["", "", "09:30"]), day),
         "1,end,{},{},{},{}".format(case, number, draw.choice(["moot", "vacated", "stayed", "suspended", "withdrawn"]), day),
-        "1,resume,{},{},,{}".format(case, number, day),
+        "1,resume,{},{},{},{}".format(case, number, draw.choice(["", day]), day),
         draw.choice(["1,close,{},settled,{}", "1,reopen,{},{}", "1,reopen,{},{}"]).format(case, day),
         "1,assign,{},{},{},{}".format(case, draw.choice(JUDGES), draw.choice(["", "", *JUDGES]), day),
         draw.choice(["1,title,{case},{text}", "1,label,{case},{of},{number},{text}"]).format(
@@ -179,13 +179,13 @@ def mark_of(number, was, then):
     return b"row %d was %s\n" % (number, b"done and would no longer be" if before else b"not done and would be")
 
 
-def changed(kept, now, after):
-    """What the desk has to list of answers: the rows that are answered otherwise after a correction than now. A row that is struck
-    has no answer; one that is restored counts as answered as it is kept."""
+def changed(kept, now, after, but=None):
+    """What the desk has to list of answers: the rows that are answered otherwise after a correction than now, but for one. A row that is
+    struck has no answer; one that is restored counts as answered as it is kept."""
     text = b""
     for number, ((row, answer), had, then) in enumerate(zip(kept, now.answers, after.answers), 1):
         was = answer if had is None else had
-        if then is None or then == was:
+        if then is None or then == was or number == but:
             continue
         text += b"row %d is kept as\n" % number + row + answer
         if was != answer:
@@ -303,7 +303,7 @@ def assigned_in(replay, case):
 
 
 def told_line(told_in, case, now, after):
-    """The line on a case that is open both before and after, where this of it changes; nothing where it stays, or for another case."""
+    """What the desk has to list of a case that is open before and after, of which that is told otherwise."""
     was, then = told_in(now, case), told_in(after, case)
     is_open = filed_in(now, case) and filed_in(after, case)
     return "  case {}: {}, now {}\n".format(case, was, then) if is_open and was != then else ""
@@ -498,11 +498,13 @@ def correct(desk, word, row, now, after):
     changed, and what was written."""
     before, kept = desk.journal.read_bytes(), rows_kept(desk.read())
     differs = changed(kept, now, after)
+    undone = word == "restore" and not is_done(row, after.answers[row - 1])
+    asks = changed(kept, now, after, row if undone else None)
     text = told_first(kept, word, row) + differs + shifts(now, after)
     ended = desk.call(word, row, *WHY)
     assert ended.output == text, (word, row, ended, text)
-    assert ended.status == (DIFFERS if differs else 0), (word, row, ended)
-    if differs:
+    assert ended.status == (DIFFERS if asks else 0), (word, row, ended)
+    if asks:
         assert desk.journal.read_bytes() == before, "a correction that isn't taken changed the journal"
         ended = desk.call(word, row, "--accept", *WHY)
         assert ended.status == 0 and ended.output == text, (word, row, ended, text)

@@ -21,16 +21,18 @@ import sys
 import tempfile
 
 from lib.case_names import read, spelled
-from lib.desk import Desk, FAULTS, SHORT_COURT, told_of
+from lib.desk import Desk, FAULTS, FAULTY, SHORT_COURT, told_of
 from lib.programs import TOP, programs_of, seed_and_count
 from lib.spoiled_lines import spoiled
 from lib.written_fields import ENTERED as SECTIONS, spelled as spelled_section
-from lib.written_trials import check_broken, check_misspelt, check_sections
+from lib.written_trials import check_broken, check_misspelt, check_sections, check_triggers
 
 SAID = TOP / "runs" / "written" / "said.txt"
 COURT = SHORT_COURT.replace(b'["Ames", "Brandt"]', b'["Ames", "Brandt", "OBrien", "Smith-Jones", "J.Kaplan"]').replace(
-    b'["R1"]', b'["11A", "11B", "Annex-2"]')
+    b'["R1"]', b'["11A", "11B", "Annex-2"]') + b'[short_names]\nKaplan = "J.Kaplan"\nannex = "Annex-2"\nnobody = "Cole"\n'
 JUDGES, ROOMS = ["Ames", "Brandt", "OBrien", "Smith-Jones", "J.Kaplan"], ["11A", "11B", "Annex-2"]
+# Names of these for short, and one of nobody.
+SHORTS = {"Kaplan": "J.Kaplan", "annex": "Annex-2", "nobody": "Cole"}
 MONTHS = ["Jan", "Feb", "Mar", "Apr", "May", "Jun", "Jul", "Aug", "Sep", "Oct", "Nov", "Dec"]
 LONG = ["January", "February", "March", "April", "May", "June", "July", "August", "September", "October", "November", "December"]
 # The periods of the Rules, and how they are cited.
@@ -46,7 +48,7 @@ WORDS = {"electronic": ["electronic", "ECF", "Electronically"], "paper": ["paper
          "federal": ["federal", "Federal"], "state": ["state", "STATE"], "exparte": ["ex parte", "Ex Parte", "exparte"],
          "filing": ["filing", "Filing", "file", "to file"], "service": ["service", "Service", "serve"],
          "moot": ["moot", "Moot", "mooted"], "vacated": ["vacated", "Vacated", "vacate"], "stayed": ["stayed", "STAYED", "stay"],
-         "suspended": ["suspended", "Suspended", "suspend"], "withdrawn": ["withdrawn", "Withdrawn", "withdrew"],
+         "suspended": ["suspended", "Suspended", "suspend"], "suspended:3": ["suspended:3", " suspended:3 "], "withdrawn": ["withdrawn", "Withdrawn", "withdrew"],
          "dismissed": ["dismissed", "Dismissed", "dismissal"], "judgment": ["judgment", "Judgement"], "settled": ["settled", "Settlement"],
          "deadline": ["deadline", "Deadline", "deadlines"], "motion": ["motion", "MOTION", "Motions"],
          "transferred": ["transferred", "Transfer"], "remanded": ["remanded", "REMAND"], "otherwise": ["otherwise", "Other"],
@@ -72,7 +74,7 @@ FORMS = {
     "set": "clerk command case date time? act",
     "reset": "clerk command case deadline date time? dated",
     "end": "clerk command case deadline why dated",
-    "resume": "clerk command case deadline date! dated",
+    "resume": "clerk command case deadline date? dated",
     "close": "clerk command case why. dated",
     "reopen": "clerk command case dated",
     "rule": "clerk command case motion ruling dated",
@@ -116,8 +118,8 @@ def drawn(draw, column, clear):
         "need": lambda: draw.choice(["14", "7", "exparte"]), "judge": lambda: "+".join(draw.sample(JUDGES, draw.randint(1, 3))),
         "judge.": lambda: draw.choice(JUDGES), "referred?": lambda: draw.choice(JUDGES), "room": lambda: draw.choice(ROOMS), "slots": lambda: draw.choice(["2", "3q", "1"]),
         "list": lambda: draw.choice(["federal", "state"]), "act": lambda: draw.choice(["filing", "service"]),
-        "date!": lambda: "",
-        "why": lambda: draw.choice(["moot", "vacated", "stayed", "suspended", "withdrawn"]),
+        "date?": lambda: a_date(draw, clear),
+        "why": lambda: draw.choice(["moot", "vacated", "stayed", "suspended", "suspended:3", "withdrawn"]),
         "ruling": lambda: draw.choice(["granted", "denied", "in part", "moot", "withdrawn", "reserved"]),
         "title": lambda: draw.choice(CALLED), "label": lambda: draw.choice(CALLED), "of": lambda: draw.choice(["deadline", "motion"]),
         "number": lambda: str(draw.randint(1, 99)),
@@ -164,7 +166,7 @@ def loosened(draw, style, column, text):
     """A field as people write it."""
     if not text:
         return text
-    if column in ("date", "notice", "second?", "dated") or column == "grant" and not text.startswith("+"):
+    if column in ("date", "date?", "notice", "second?", "dated") or column == "grant" and not text.startswith("+"):
         return date_in(style, draw, text)
     if column in ("time", "time?", "from", "to"):
         return time_in(draw, text)
@@ -176,6 +178,8 @@ def loosened(draw, style, column, text):
         return draw.choice(spelled_section(draw.choice(NAMED[text])))
     if column == "kind?":
         return draw.choice(KINDS[text] + [text, text.lower()])
+    if column in ("judge", "judge.", "referred?") and draw.random() < 0.2:
+        return text.replace("J.Kaplan", "Kaplan")
     if column in ("judge", "judge.", "referred?"):
         return draw.choice([str, str.upper, str.lower])(text).replace("+", draw.choice(["+", " + "])).replace("J.", draw.choice(["J.", "J. "]))
     if column in ("room", "command", "motion"):
@@ -323,6 +327,57 @@ def check_names(desk):
     said = [b" ended\n", b" filed timely\n", b" fault 4 BadField 4: no deadline of the case under 59b is pending: name one by its number\n", b" resumed last "]
     assert all(words in line for words, line in zip(said, tried.output.splitlines(True))), tried
     assert len(tried.output.splitlines()) == len(said) and desk.journal.read_bytes() == before, tried
+    # By its label any is named, also one that is ended; by one that two have none is, and by one that begins with a digit none in a written row.
+    labels = b"1,label,21,deadline,1,answer of Acme\n1,label,21,motion,2,to amend\n1,label,21,deadline,3,reply\n1,label,21,deadline,2,reply\n"
+    rows = b"1,end,21,answer of Acme,Moot,2025-09-10\n1, file, 21, answer of Acme, 2025-09-10, 9:00 AM, ECF\n1,rule,21,to amend,Granted,2025-09-10\n1,end,21,reply,Moot,2025-09-10\n1,cancel,21,reply\n"
+    tried = desk.call("try", "--as-written", given=labels + rows)
+    said = [b" labelled\n"] * 4 + [b" ended\n", b" filed timely\n", b" ruled\n", b" fault 4 BadField 4: deadlines 2 and 3 of the case are called so: name one by its number\n",
+                                    b" fault 4 BadField 4: no motion of the case is called so: name one by its number or its label\n"]
+    assert all(words in line for words, line in zip(said, tried.output.splitlines(True))), tried
+    assert len(tried.output.splitlines()) == len(said) and desk.journal.read_bytes() == before, tried
+
+
+def check_labels(desk):
+    """What a row makes is called by its column `label`: the row that says so comes after it, on its line, and is no row where it made nothing."""
+    given = ("clerk;command;case;date;rule;need;label\n1;open;31;2025-09-02;;;\n1;start;31;2025-09-04;Rule 12(a)(1)(A)(i);;answer of Acme\n"
+             "1;Motion;31;2025-09-05;;14;to dismiss, with costs\n1;start;99;2025-09-04;59(e);;reply\n1;start;31;2025-09-04;59(e);;\n").encode()
+    plain = (b'1,open,31,2025-09-02\n1,start,31,12a1Ai,2025-09-04,,,\n1,label,31,deadline,new,answer of Acme\n1,motion,31,2025-09-05,14\n'
+             b'1,label,31,motion,new,"to dismiss, with costs"\n1,start,99,59e,2025-09-04,,,\n1,label,99,deadline,new,reply\n1,start,31,59e,2025-09-04,,,\n')
+    ended = desk.call("plain", given=given)
+    assert ended.status == 0 and ended.output == plain, ended
+    said = [b" opened", b" deadline 1 last ", b" labelled", b" motion 1", b" labelled", b" refused 1 NoSuchCase",
+            b" fault 4 BadField 5: the row before made no deadline in the case: name one by its number", b" deadline 2 last "]
+    for words, text in [(["--as-written"], given), (["--as-written"], plain), ([], plain)]:
+        tried = desk.call("try", *words, given=text)
+        assert all(words in line for words, line in zip(said, tried.output.splitlines())) and len(tried.output.splitlines()) == len(said), tried
+    for row, said in [("1;file;31;;;;late\n", "column 14"), ("1;start;31;2025-09-04;59(e);;{}\n".format("a" * 201), "column 30")]:
+        ended = desk.call("plain", given=given[:given.index(b"\n") + 1] + row.encode())
+        assert ended.status == FAULTS and "line 2 {}: ".format(said).encode() in told_of(ended)[0], ended
+
+
+def check_whole(desk):
+    """A trigger is kept whole, or none of its rows; one mark covers them all. What comes after the 64th deadline of a case is refused."""
+    def entered(given, *words):
+        ended = desk.call("enter", "--as-written", *words, given=given.encode())
+        return ended.status, ended.output.decode().splitlines()
+
+    status, lines = entered("1,open,51,2025-08-04\n1,trigger,51,judgment,2025-08-04\n1,trigger,52,judgment,2025-08-04\n")
+    starts, held = lines[1:15], lines[15:]
+    assert status == FAULTY and all(" deadline {} last ".format(n + 1) in starts[2 * n] and starts[2 * n + 1].endswith(" labelled") for n in range(7)), lines
+    assert re.fullmatch("row [0-9]+ not kept:", held[0]) and held[-1] == "the rows of a line are kept together, so none of them is kept", lines
+    assert sum(line == "  would be refused 1 NoSuchCase" for line in held) == 7 and not any("label" in line for line in held), lines
+    labels = [row.split(",", 5)[5] for row in desk.rows().decode().splitlines() if row.startswith("1,label,51,")]
+    assert labels == ["judgment: " + code for code in ["50b", "52b", "59b", "59e", "54d2B", "frap4a1A", "62a"]], labels
+    early = "1,trigger,51,judgment,2025-08-01\n"
+    before = desk.journal.read_bytes()
+    status, lines = entered(early, "--warn")
+    assert status == FAULTY and sum("the event lies before the filing of the case" in line for line in lines) == 7 and desk.journal.read_bytes() == before, lines
+    assert lines[-1] == "enter the row with '!' before it to keep it all the same", lines
+    status, lines = entered("!" + early, "--warn")
+    assert status == 0 and len(lines) == 14 and lines[-1].endswith(" labelled"), lines
+    status, lines = entered("1,start,51,59e,2025-08-04,,,\n" * 47 + "1,trigger,51,judgment,2025-08-04\n")
+    rest = lines[47:]
+    assert status == FAULTY and [" deadline " in line for line in rest[:6:2]] == [True] * 3 and all(" refused " in line or " fault " in line for line in rest[6:]), rest
 
 
 def check_cases(desk, draw):
@@ -376,11 +431,14 @@ def main(words):
             for _ in range(4):
                 check_style(desk, draw, style, max(1, count // len(STYLES) // 4 + 1))
         print("{} rows in {} styles, each read as the row it was made from".format(count, len(STYLES)))
-        print("{} of {} fields with blanks and dots in them are read, and the others are faults".format(check_broken(desk, draw, count, JUDGES, ROOMS), count))
+        print("{} of {} fields with blanks and dots in them are read, and the others are faults".format(check_broken(desk, draw, count, JUDGES, ROOMS, SHORTS), count))
         print("{} misspelt periods, each with its suggestion or with none".format(check_misspelt(desk, draw, count // 10)))
         print("{} sections whose periods are entered, each read as its text or said to be one of two".format(check_sections(desk, draw)))
+        print("{} triggers, each written out as the rows that it starts".format(check_triggers(desk)))
         check_entering(desk)
         check_names(desk)
+        check_labels(desk)
+        check_whole(desk)
         check_lines(desk)
         check_cases(desk, draw)
         print("cases that were opened in one form of their numbers are found in all others")

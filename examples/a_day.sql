@@ -52,7 +52,7 @@ CREATE TABLE motions (
 CREATE TABLE hearings (
   case_number INTEGER NOT NULL,
   motion_number INTEGER NOT NULL,
-  room VARCHAR(32) NOT NULL,
+  room VARCHAR(128) NOT NULL,
   hearing_day DATE NOT NULL,
   begins TIME NOT NULL,
   minutes INTEGER NOT NULL CHECK (minutes > 0),
@@ -68,7 +68,7 @@ CREATE TABLE panels (
   case_number INTEGER NOT NULL,
   motion_number INTEGER NOT NULL,
   place INTEGER NOT NULL,
-  judge VARCHAR(32) NOT NULL,
+  judge VARCHAR(128) NOT NULL,
   PRIMARY KEY (case_number, motion_number, place),
   UNIQUE (case_number, motion_number, judge),
   FOREIGN KEY (case_number, motion_number) REFERENCES hearings (case_number, motion_number)

@@ -12,11 +12,13 @@ from lib.memo_head import HEAD
 
 # Texts with quotes, commas and backslashes too, and the longest.
 HOSTILE = TEXTS + ["\"quoted\" and 'single'", "a,b;c", "'); DROP TABLE cases; --", "back\\slash \\n \\, \\;", "</title></h3><b onclick=x>", "&lt;b&gt;",
-                   "%s {} `id`", "x" * 200, "\u20ac" * 66]
+                   "%s {} `id`", "\uff1d1\uff0b1", "x" * 200, "\u20ac" * 66]
 # The rows before those that call things something: a case, a deadline, and a motion with a hearing.
 BEGUN = ["1,open,1:25-cv-5,2025-01-06", "1,start,1:25-cv-5,59e,2025-08-04,,,", "1,motion,1:25-cv-5,2025-08-01,14",
          "1,book,1:25-cv-5,1,Ames,R1,2025-09-15,10:00,2,2025-08-29"]
 STAMP = ["--stamp", "20250901T120000Z"]
+# A day on which the motion has been pending for more than six months, and by what a program for tables takes a text for a formula.
+ON, FORMULAS = ["--on", "2026-03-31"], ("=", "+", "-", "@", "\uff1d", "\uff0b", "\uff0d", "\uff20")
 # What an iCalendar text has in place of a character.
 ESCAPED = re.compile(r"\\(.)")
 
@@ -88,7 +90,7 @@ def compare(desk, title, of_deadline, of_motion, plain):
     week = said(desk, "week", "--judge", "Ames", "--of", "2025-09-15")
     assert week.endswith("\n" + below[1]), (week, below)
     lines = ["title {}\n".format(title), "label {}\n".format(of_deadline), "label {}\n".format(of_motion)]
-    for words in (["sheet", "1:25-cv-5"], ["memo", "--case", "1:25-cv-5"]):
+    for words in (["sheet", "1:25-cv-5"], ["case", "1:25-cv-5"], ["memo", "--case", "1:25-cv-5"]):
         sheet = said(desk, *words)
         assert all("\n" + line in sheet for line in lines), (words, sheet, lines)
     head, of_all = HEAD.match(said(desk, "memo", "--case", "1:25-cv-5")), HEAD.match(said(desk, "memo"))
@@ -98,6 +100,11 @@ def compare(desk, title, of_deadline, of_motion, plain):
     assert page.tags == Elements(plain["page"]).tags, (title, page.tags)
     shown = [" ({})".format(title), "1 ({})".format(of_deadline), "1 ({})".format(of_motion), " ({}: {})".format(title, of_deadline), " ({}: {})".format(title, of_motion)]
     assert all(any(text.endswith(end) for text in page.texts) for end in shown), (shown, page.texts)
+    assert "\n" + below[1] in said(desk, "pending", *ON), below
+    table = list(csv.reader(io.StringIO(said(desk, "pending", *ON, "--csv"), newline="")))
+    assert table[1:] and table[1][5:] == ["'" * text.startswith(FORMULAS) + text for text in (title, of_motion)], table
+    pending = Elements(said(desk, "pending", *ON, "--page"))
+    assert pending.tags == Elements(plain["pending"]).tags and any(text.endswith(shown[-1]) for text in pending.texts), (title, pending.texts)
     found, count = summaries(said(desk, "ics", *STAMP))
     assert count == summaries(plain["ics"])[1] and [text for text in found if text.endswith(" ({}: {})".format(title, of_deadline))], found
     assert [text for text in found if text.endswith(" ({}: {})".format(title, of_motion))], found
@@ -143,7 +150,8 @@ def check_called(programs):
     with tempfile.TemporaryDirectory() as parent:
         desk = Desk(programs, parent, SHORT_COURT)
         desk.enter([row.encode() + b"\n" for row in BEGUN])
-        bare = {name: said(desk, name, *words) for name, words in (("page", []), ("ics", STAMP), ("json", []), ("sql", []), ("sheet", ["1:25-cv-5"]))}
+        bare = {name: said(desk, name, *words) for name, words in (("page", []), ("ics", STAMP), ("json", []), ("sql", []), ("sheet", ["1:25-cv-5"]),
+                                                                   ("pending", [*ON, "--page"]))}
         assert "title" not in json.loads(bare["json"])["cases"][0] and "CREATE TABLE titles" not in bare["sql"] and "\ntitle " not in bare["sheet"]
         for at, text in enumerate(HOSTILE):
             texts = text, HOSTILE[at - 1], HOSTILE[at - 2]

@@ -258,9 +258,14 @@ def sets_time(grant):
     return len(grant.split(" ")) == 3
 
 
+def adds(grant, unit):
+    """Whether the extension is by a number of these."""
+    return grant[0] == "+" and grant[-1] == unit
+
+
 def fits(deadline, grant):
-    to_instant = sets_time(grant) or (grant[-1] == "h" and grant[0] == "+")
-    return to_instant == (deadline.length[0] in ("h", "at"))
+    """An order sets an end of either kind."""
+    return grant.startswith("order ") or adds(grant, "h") == (deadline.length[0] in ("h", "at"))
 
 
 def from_certain(calendar, grants, day):
@@ -273,7 +278,7 @@ def from_certain(calendar, grants, day):
 
 def extended(calendar, deadline, line, grants, last):
     day, what, section = extension(deadline, grants[0])
-    if not fits(deadline, grants[0]):
+    if adds(grants[0], "h") or not fits(deadline, grants[0]):
         expect(line == Line(day, "not " + what, section), "the extension is of another kind")
         return nowhere(grants[1:])
     expect(line == Line(day, what, section), "the time is extended")
@@ -323,7 +328,7 @@ def runs_until(end, grants, section=BY_HOURS):
     def place(calendar, deadline, line):
         if grants:
             day, what, by_rule = extension(deadline, grants[0])
-            if not fits(deadline, grants[0]):
+            if adds(grants[0], "d") or not fits(deadline, grants[0]):
                 expect(line == Line(day, "not " + what, by_rule), "the extension is of another kind")
                 return nowhere(grants[1:])
             expect(line == Line(day, what, by_rule), "the time is extended")

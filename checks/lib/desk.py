@@ -6,6 +6,7 @@ import tempfile
 
 from lib.journal import read_journal
 from lib.programs import run
+from reference.sections import CODES
 
 # The status with which the desk ends where its journal can't be opened, read or written.
 REFUSED = 10
@@ -15,8 +16,10 @@ TOGETHER, KEEP_REFUSED, FAULTS = "--all-or-nothing", "--keep-refused", 3
 # The status with which a session ends in which some rows had faults or were held back, and the line with which a row is answered
 # that has a fault.
 FAULTY, FAULT_LINE = 8, re.compile(rb"\d+ (?:\d+|-) fault ")
-# A row that the desk takes, and clerk_office doesn't.
-ROW_OF_DESK = re.compile(rb'(?m)^"?[0-9]+"?,"?(?:set|reset|end|resume|close|reopen|rule|assign|title|label)"?,')
+# A row whose period is named by the code of its section, and a row that the desk takes, and clerk_office doesn't.
+CODED = rb"(?:start,[^,\n]*|compute),(?:" + b"|".join(re.escape(code.encode()) for code in sorted(CODES)) + rb"),"
+CODED_ROW = re.compile(rb"^[0-9]+," + CODED)
+ROW_OF_DESK = re.compile(rb'(?m)^"?[0-9]+"?,(?:"?(?:set|reset|end|resume|close|reopen|rule|assign|title|label)"?,|' + CODED + rb")")
 # The judges of a row that sets a hearing.
 PANEL = re.compile(rb"(?m)^[0-9]+,(?:book|move),[^,\r\n]*,[^,\r\n]*,([^,\r\n]+),")
 # What a session says first of each that was cut off before it.
@@ -177,7 +180,7 @@ def fact_rows(draw, rows, cases, faulty=True):
     rows = list(rows)
     for _ in range(draw.randint(1, 12)):
         subject, dated = b"%d,%d" % (draw.choice(cases), draw.randint(1, 4)), draw.choice(days)
-        day = dated if faulty and draw.random() < 0.1 else b""
+        day = draw.choice(days + [b"9/7/25"] * faulty) if draw.random() < 0.3 else b""
         row = draw.choice([b"1,end,%s,%s,%s\n" % (subject, draw.choice(reasons), dated), b"1,resume,%s,%s,%s\n" % (subject, day, dated)])
         rows.insert(draw.randint(min(len(rows), 4), len(rows)), row)
     rulings = [b"granted", b"denied", b"in part", b"moot", b"withdrawn", b"reserved"] + [b"vacated"] * faulty
@@ -224,6 +227,50 @@ def called_rows(draw, rows, cases, faulty=True):
         of = draw.choice([b"deadline", b"motion"] * 4 + [b"case"] * faulty)
         row = draw.choice([b"1,title,%d,%s\n" % (draw.choice(cases), text), b"1,label,%d,%s,%d,%s\n" % (draw.choice(cases), of, draw.randint(1, 4), text)])
         rows.insert(draw.randint(min(len(rows), 4), len(rows)), row)
+    return rows
+
+
+def coded_rows(draw, rows, cases, faulty=True):
+    """The rows with some put among them whose period is named by the code of its section. Some have a fault, unless none is to have
+    one."""
+    days = re.findall(rb"\d{4}-\d\d-\d\d", b"".join(rows)) or [b"2025-09-07"]
+    rows = list(rows)
+    for _ in range(draw.randint(1, 6)):
+        code = draw.choice(sorted(CODES))
+        served = "/served/" in CODES[code] and draw.random() < 0.9
+        field = draw.choice([code] * 12 + [code.lower(), code.upper(), code + "i", "34b2A"] * faulty).encode()
+        kind = draw.choice(list("ABCDEF")).encode() if served else b""
+        row = b"%s,%s,%s,,%s\n" % (field, draw.choice(days), draw.choice([b""] * 3 + [b"09:30"]), kind)
+        rows.insert(draw.randint(min(len(rows), 3), len(rows)), (b"1,start,%d," % draw.choice(cases) if draw.random() < 0.8 else b"1,compute,") + row)
+    return rows
+
+
+# Names that a court's file gives to periods, as it writes them. Rows read the first as a section's, and the last as none.
+NAMED_PERIODS = b"""
+[periods]
+50b = "3d/after/filing/event/plain"
+opposition = "14d/after/service/served/plain"
+reply = 7
+"LRCiv 7.2" = "7d/after/filing/event/plain"
+"LRCiv-7.2" = "7d/after/filing/served/plain"
+late = "72h/before/filing/event/60b"
+59e = "1d/after/filing/event/plain"
+slip = "59e"
+
+[periods.cite]
+opposition = "LRCiv 7.2(c)"
+"""
+
+
+def named_rows(draw, rows, cases):
+    """The rows with some put among them whose period is named by a court's file, or has a name that it doesn't give."""
+    days = re.findall(rb"\d{4}-\d\d-\d\d", b"".join(rows)) or [b"2025-09-07"]
+    rows = list(rows)
+    for _ in range(draw.randint(1, 6)):
+        name = draw.choice([b"50b", b"opposition", b"Opposition", b"LRCiv-7.2", b"LRCiv 7.2", b"late", b"59e", b"slip", b"cite", b"reply"])
+        kind = draw.choice([b"C", b"E"]) if name in (b"opposition", b"LRCiv-7.2") else b""
+        row = b"1,start,%d,%s,%s,,,%s\n" % (draw.choice(cases), name, draw.choice(days), kind)
+        rows.insert(draw.randint(min(len(rows), 3), len(rows)), row)
     return rows
 
 

@@ -38,7 +38,8 @@ def state(d, done):
     """The state of a deadline, with the act that was done, and why it is due no more, where it was ended."""
     if "ended" not in d:
         return d["state"] + done
-    return d["state"] + done + ", ended " + d["ended"] if done else "ended " + d["ended"]
+    ended = d["ended"] + (" by motion {}".format(d["suspended_by"]) if "suspended_by" in d else "")
+    return d["state"] + done + ", ended " + ended if done else "ended " + ended
 
 
 def sheet_lines(sheet):

@@ -3,6 +3,7 @@ import datetime
 import re
 
 from lib.period_words import called, heading
+from reference.civil import day_of_text
 
 
 def closing_of(text):
@@ -28,7 +29,10 @@ def reasons_of(lines):
 
 def as_on_page(period, reasons):
     """The lines below a deadline with its period as a page describes it; None where they don't call it by its Rule."""
-    in_memo, on_page = ("{:18}{:<50}  {}\n".format("", *words(period, None)[0][1:]) for words in (called, heading))
+    # The first day below is that of the event, before which the memo says since when a section is as it is.
+    found = re.search(r"^  ... (\d{4}-\d\d-\d\d)  ", reasons, re.MULTILINE)
+    event = day_of_text(found[1]) if found else None
+    in_memo, on_page = ("{:18}{:<50}  {}\n".format("", *words(period, event)[0][1:]) for words in (called, heading))
     return reasons.replace(in_memo, on_page, 1) if in_memo in reasons else None
 
 

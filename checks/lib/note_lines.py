@@ -12,6 +12,11 @@ from reference.docket import (DATES, DEADLINES, FACTS, GRANTS, MOTIONS, OUTAGES,
 from reference.periods import granted, is_in_range, is_order, is_set, shown
 from reference.rule6 import AFTER, BEFORE, BEYOND, ELECTRONIC, FILING, PAPER, Filing, day_end, is_timely, permitted
 
+# The codes and marks of motions that give the time for an appeal another beginning.
+MOVES_APPEAL = {"50b", "50d", "52b", "59b", "59e"}
+# The texts of the time for an appeal.
+APPEAL = {"30d/after/filing/event/60b", "60d/after/filing/event/60b"}
+
 
 def notes(court, rows, work, answer):
     """What is said of the answer to a command or to a question."""
@@ -165,8 +170,8 @@ def of_set_day(rows, day, filed):
     return lines
 
 
-def of_deadline(court, rows, row, filed, today):
-    """The notes on a deadline of a case that was filed on that day, where it counts from a day or None."""
+def of_start(court, rows, row, filed, today):
+    """The notes on a deadline as it starts in a case that was filed on that day, where it counts from a day or None."""
     if is_set(row.period):
         return of_set_day(rows, row.event.day, filed)
     events = [row.event.day] + ([] if row.second is None else [row.second])
@@ -178,15 +183,35 @@ def of_deadline(court, rows, row, filed, today):
         lines.append(note(starts(row), "the event lies before the rule that is applied"))
     if row.period.unit == "h" and row.event.minute == 0:
         lines.append(note(row.event.day, "event at 00:00, or its time of day is missing"))
-    end = shown(rows.days, court.clock, row)
-    last = end_of(court, end)[0]
+    last = end_of(court, shown(rows.days, court.clock, row))[0]
     if last is not None and rows.days.first <= last <= rows.days.last and not any(
             last <= day <= rows.days.last for day in rows.days.federal):
         lines.append(note(last, "no federal holiday is listed from this day on"))
-    lines += of_end(court, row, end)
+    return lines
+
+
+def of_deadline(court, rows, row, filed, today):
+    """The notes on a deadline of such a case: also on its end and its act."""
+    lines = of_start(court, rows, row, filed, today) + of_end(court, row, shown(rows.days, court.clock, row))
     if runs_from_event(row) and row.filed is not None and row.filed.day < starts(row):
         lines.append(note(row.filed.day, "the act was done before its event"))
+    if row.filed is not None and moves_appeal(row):
+        lines.append(note(row.filed.day, "if timely, the time to appeal moves: FRAP 4(a)(4)"))
     return lines
+
+
+def moves_appeal(row):
+    """Whether an act of a deadline is a motion that gives the time for an appeal another beginning."""
+    return row.period.text.split("/")[-1] in MOVES_APPEAL
+
+
+def of_motions(row, others):
+    """The notes on a deadline for the acts of the deadlines of its case: where it is a time for an appeal, the motions about a judgment of
+    the same day."""
+    if row.period.text not in APPEAL:
+        return []
+    return [note(other.filed.day, "a motion, if timely, moves this: FRAP 4(a)(4)") for other in others
+            if other.filed is not None and moves_appeal(other) and other.event.day == row.event.day]
 
 
 def of_hearing(rows, day):
@@ -345,7 +370,7 @@ REFUSED = {
     7: unsuited,
     8: span("beyond the days covered, "),
     9: recorded,
-    10: by_grant("this time must not be extended", "this time isn't reset to a later end", "6(b)(2)"),
+    10: by_grant("this time must not be extended", "this time must not be reset to a later end", "6(b)(2)"),
     11: alone("an extension takes good cause, which wasn't found", "6(b)(1)"),
     12: late("a motion is needed"),
     13: late("neglect must be excused"),
@@ -363,7 +388,7 @@ REFUSED = {
     25: by_command(MOST),
     26: alone("the court's file names no such judge", "ours"),
     27: alone("the court's file names no such room", "ours"),
-    28: by_grant("hours are extended by hours, days by days", "a day is reset to a day, an hour to an hour", "ours"),
+    28: alone("extend hours by hours and days by days, or `reset`", "ours"),
     29: by_command(PANELS),
     30: alone("the case is closed; `reopen` opens it again", "ours"),
     31: alone("the case isn't closed; `close` closes one", "ours"),

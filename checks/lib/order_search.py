@@ -93,7 +93,8 @@ class Parts:
             return here | named | self.set_of(("facts", case), "court"), 0
         if word in ("end", "resume"):
             deadline, facts = self.set_of(("start", case, work[2])), self.set_of(("facts", case))
-            return here | deadline | facts | self.set_of("court"), facts | changed
+            anew = deadline if word == "resume" and work[3] is not None else 0
+            return here | deadline | facts | self.set_of("court"), facts | anew | changed
         if word == "rule":
             return self.of_ruling(work, first, here | self.set_of(("motion", case, work[2])), changed)
         if word in ("file", "extend"):

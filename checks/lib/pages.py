@@ -15,7 +15,8 @@ KNOWN = {"html", "head", "meta", "title", "style", "body", "main", "section", "h
          "thead", "tbody", "tr", "th", "td", "div", "details", "summary"}
 POLICY = "default-src 'none'; style-src 'unsafe-inline'; base-uri 'none'; form-action 'none'"
 
-Parts = namedtuple("Parts", "title chosen closing due judges cases")
+# `months` has of each judge the grid of each month: what it has, and of each week the texts of its cells and of what is in these.
+Parts = namedtuple("Parts", "title chosen closing due judges months cases")
 # Of a case: its heading, when it was filed, its rows of deadlines and of motions, and what is folded below each deadline.
 Case = namedtuple("Case", "title filed deadlines motions reasons")
 
@@ -104,6 +105,23 @@ def rows_of(table, columns):
     return rows
 
 
+def is_month(table):
+    return table.attributes.get("class") == "grid"
+
+
+def month_in(table):
+    """A grid: what it has, and of each week its load, how wide the bar is, and of each day whether it is of the month, its number and
+    its blocks."""
+    weeks = []
+    for row in table.all("tbody")[0].elements():
+        load, *days = row.elements()
+        words, bar = load.elements()
+        cells = [(day.attributes.get("class") == "date", "".join(part for part in day.inside if isinstance(part, str)).strip(),
+                  [block.text() for block in day.elements()]) for day in days]
+        weeks.append((words.text(), bar.text(), bar.attributes.get("style"), cells))
+    return table.all("caption")[0].text(), weeks
+
+
 def parts_of(page):
     """What the page says: what is due by day, the bookings of each judge, and the deadlines and motions of each case."""
     body = read(page)[0].all("body")[0]
@@ -118,7 +136,9 @@ def parts_of(page):
         chosen=body.all("p")[0].text(),
         closing=due.all("p")[0].text(),
         due=[row for table in due.all("table") for row in rows_of(table, 3)],
-        judges=[(section.all("h3")[0].text(), [row for table in section.all("table") for row in rows_of(table, 4)])
+        judges=[(section.all("h3")[0].text(), [row for table in section.all("table") if not is_month(table) for row in rows_of(table, 4)])
+                for section in judges.all("section")],
+        months=[(section.all("h3")[0].text(), [month_in(table) for table in section.all("table") if is_month(table)])
                 for section in judges.all("section")],
         cases=case_rows)
 

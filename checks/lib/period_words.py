@@ -4,6 +4,8 @@ described, and in a memo called by its Rule.
 import re
 
 from lib.written_fields import ENTERED
+from reference.civil import day_of_text
+from reference.sections import SINCE
 
 # Of the periods of the Rules: the number of days, what is to be done, the section, and the event.
 ANSWER, WAIVED = "12(a)(1)(A)(ii)", "from when the request for a waiver was sent"
@@ -27,7 +29,7 @@ SET = {"set/filing": "set by an order, to file", "set/service": "set by an order
 # The days from which they are right as they are applied.
 COUNTING, SUMMONS = "2009-12-01", "2015-12-01"
 
-# Of the marks of entered periods: the section, and what is to be done.
+# Of the marks of entered periods: the section, and what is to be done, or that no court extends them.
 MARKS = {
     "50b": ("50(b)", "a renewed motion for judgment as a matter of law"),
     "50d": ("50(d)", "a motion for a new trial by the losing party"),
@@ -35,7 +37,7 @@ MARKS = {
     "59b": ("59(b)", "a motion for a new trial"),
     "59d": ("59(d)", "a new trial on the court's own initiative"),
     "59e": ("59(e)", "a motion to alter or amend a judgment"),
-    "60b": ("60(b)", "a motion for relief from a judgment"),
+    "60b": ("6(b)(2)", "not extended, as a motion under 60(b)"),
 }
 
 
@@ -72,12 +74,14 @@ def citation(section):
 
 
 def called(text, event):
-    """The lines of a period as a memo calls it. A period of the Rules is called by its section; behind an entered one are the sections
-    of docs/law/RULES.md with such a period, or its code where there is none."""
+    """The lines of a period as a memo calls it. A period of the Rules is called by its section; after an entered one are the sections
+    of docs/law/RULES.md with such a period, each with the day from which it sets that where the event lies before it, or its code where
+    there is none."""
     (day, what, where), *others = heading(text, event)
     if text in RULES:
         days, words, section, _ = RULES[text]
         return [(day, "Rule {}: {}, {}".format(section, words, counted(days, "day")), where)] + others
-    sections = [citation(section) for section, texts in ENTERED.items() if text in texts]
+    sections = [citation(section) + (" (since {})".format(SINCE[section]) if event is not None and event < day_of_text(SINCE[section]) else "")
+                for section, texts in ENTERED.items() if text in texts]
     back = ", as in " + ", ".join(sections) if sections else " ({})".format(text)
     return [(day, what + back, where)] + others

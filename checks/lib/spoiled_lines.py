@@ -81,6 +81,7 @@ def spoiled():
         way(name + " as why a deadline is ended", put(end, "moot", why))
     way("a day of an order that is none", put(end, "2025-10-06", "9/31/2025"))
     way("a day for a deadline that is resumed", put(resume, ",,", ",2025-11-03,"))
+    way("no date for a deadline that is resumed", put(resume, ",,", ",soon,"))
     way("the day of an order in the place before it", put(resume, ",,", ","))
     # cases that are closed
     close = "1,close,12,settled,2025-11-03"
@@ -146,7 +147,7 @@ def spoiled():
     way("a motion that is no number", "1,cancel,12,first")
     way("a motion that is missing", "1,cancel,12")
     # judges and rooms
-    for name, judge in [("a misspelt judge", "Aimes"), ("a judge with a title", "Judge Ames"), ("another judge", "Kaplan"), ("a misspelt judge of a panel", "Ames+Brant"),
+    for name, judge in [("a misspelt judge", "Aimes"), ("a judge with a title", "Judge Ames"), ("another judge", "Keplan"), ("a misspelt judge of a panel", "Ames+Brant"),
                         ("two misspelt judges", "Aimes+Brant"), ("a panel with and", "Ames and Brandt"), ("a panel with &", "Ames & Brandt"), ("a panel with /", "Ames/Brandt"),
                         ("four judges", "Ames+Brandt+OBrien+J.Kaplan"), ("a judge twice", "Ames+Ames"), ("a judge and nothing", "Ames+"), ("nothing", ""),
                         ("a judge with an accent", "\u00c4mes"), ("a judge with an apostrophe", "O'Brien"), ("a judge without the dash", "Smith Jones"), ("initials", "J.A.")]:
@@ -210,4 +211,8 @@ def spoiled():
     way("a fault between semicolons", "1;start;12;59g;2025-08-04")
     way("a long dash in a date", put(start, "2025-08-04", "2025\u201308\u201432"))
     way("a blank that doesn't break", put(start, ",12,", ",\u00a0x12,"))
+    # triggers
+    way("a set of periods that isn't there", "1,trigger,12,judgement,2025-08-04")
+    way("a trigger with a field too many", "1,trigger,12,judgment,2025-08-04,,,,x")
+    way("a set of one period", "1,trigger,12,complaint,2025-08-04")
     return ways

@@ -1,11 +1,10 @@
 """Fields as people write them, read as docs/clerk/ROWS.md has it under 'Rows as you write them'. It knows nothing of the
 program's code."""
-import pathlib
 import re
 
 from lib.case_names import read
+from reference.sections import CODES as SECTION_CODES, ENTERED
 
-RULES_PAGE = pathlib.Path(__file__).resolve().parent.parent.parent / "docs" / "law" / "RULES.md"
 # The codes of periods, and how each is cited where letters and digits alone count, in small letters.
 CODES = {"4m": "4m", "12a1ai": "12a1Ai", "12a1aiius": "12a1Aii-us", "12a1aiiabroad": "12a1Aii-abroad", "12a1b": "12a1B", "12a1c": "12a1C",
          "12a2": "12a2", "12a3": "12a3", "59b": "59b", "59e": "59e"}
@@ -13,8 +12,10 @@ CODES = {"4m": "4m", "12a1ai": "12a1Ai", "12a1aiius": "12a1Aii-us", "12a1aiiabro
 BEFORE = {"": ["", "Rule ", "FRCP ", "Fed. R. Civ. P. "],
           "FRAP ": ["FRAP ", "Fed. R. App. P. "],
           "Supp. ": ["Supp. ", "", "Rule ", "Supp. R. ", "Supp. Rule ", "Supplemental Rule ", "Fed. R. Civ. P. Supp. R. "],
-          "Supp. Soc. Sec. ": ["Supp. Soc. Sec. ", "Supp. R. Soc. Sec. ", "Supp. Rules for 405(g) "]}
+          "Supp. Soc. Sec. ": ["Supp. Soc. Sec. ", "Supp. R. Soc. Sec. ", "Supp. Rules for 405(g) ", "Soc. Sec. "]}
 NUMBER = "(?:0|[1-9][0-9]{0,8})"
+# Rule 60(b) and (c), whose time is a year for some of its motions, folded.
+OF_A_YEAR = {"60b", "60b1", "60b2", "60b3", "60c", "60c1"}
 
 
 def passed_over(text):
@@ -33,6 +34,12 @@ def number_in(text, least, most):
     """A number from the least to the most, which is the whole field."""
     text = text.strip()
     return text if re.fullmatch(NUMBER, text) and least <= int(text) <= most else None
+
+
+def subject_in(text):
+    """The number of a deadline or a motion, or else what it is called, which begins with no digit."""
+    text = text.strip()
+    return number_in(text, 1, 10**9) or (text if text and not text[0].isdigit() else None)
 
 
 def case_in(text):
@@ -54,10 +61,12 @@ def grant_in(text):
 
 
 def period_in(text):
-    """An entered period, or that of a section that sets one: its code, or its text."""
+    """An entered period, or that of a section that sets one: its code, or its text. In a plain row a section's code stays as it is."""
     if "/" in text:
         length = "[1-9][0-9]{0,2}[dh]/(after|before)/(filing|service)/event/plain"
         return passed_over(text) if re.fullmatch(length, passed_over(text)) else None
+    if text in SECTION_CODES:
+        return text
     texts = SECTIONS.get(folded(text), [])
     return texts[0] if len(texts) == 1 else None
 
@@ -75,10 +84,12 @@ def time_in(text):
     return "{:02}:{:02}".format(hour, minute)
 
 
-def name_in(text, names):
-    """The very name, or the only one that differs in capitals, blanks, and dots after letters alone."""
+def name_in(text, names, shorts):
+    """The very name, or the one of which it is the short one, or the only one that differs in capitals, blanks, and dots after letters alone."""
     if text.strip() in names:
         return text.strip()
+    if shorts.get(text.strip()) in names:
+        return shorts[text.strip()]
     fits = [name for name in names if passed_over(name) == passed_over(text)]
     return fits[0] if len(fits) == 1 else None
 
@@ -93,26 +104,10 @@ def slips(word):
 
 
 def nearest_code(word):
-    """The code of which alone a slip makes this word."""
-    near = [code for known, code in CODES.items() if word in slips(known)]
-    return near[0] if len(near) == 1 else None
-
-
-def entered_periods():
-    """The sections of docs/law/RULES.md whose periods are entered, of Rules and statutes, each with its texts; and the parts of
-    a section for which the page has a text each."""
-    entered = {}
-    tables = RULES_PAGE.read_text().split("## Periods of other Rules", 1)[1].split("\n## ", 1)[0]
-    for row in re.findall(r"^\| (?!Rule |Statute )(.*) \|$", tables, re.MULTILINE):
-        cells = row.split(" | ")
-        section = re.match(r"(?:FRAP |Supp\. Soc\. Sec\. |Supp\. |[0-9]+ U\.S\.C\. )?[0-9A-Z][0-9.]*(?:\([A-Za-z0-9]+\))*", cells[0])
-        texts = re.findall("`([^`]+)`([^`]*)", cells[-1])
-        assert section and texts, row
-        for text, after in texts:
-            for name in [section[0]] + [section[0] + part for part in re.findall(r"\([A-Za-z]+\)", after)]:
-                if text not in entered.setdefault(name, []):
-                    entered[name].append(text)
-    return entered
+    """The code of which alone a slip makes this word. There is none for a Rule that sets a year."""
+    known = {**CODES, **{folded(code): code for code in SECTION_CODES}}
+    near = [code for other, code in known.items() if word in slips(other)]
+    return near[0] if len(near) == 1 and word not in OF_A_YEAR else None
 
 
 def parted(section):
@@ -128,12 +123,11 @@ def is_statute(section):
 def spelled(section):
     """The ways in which people write a section of docs/law/RULES.md."""
     if is_statute(section):
-        return [section.replace("U.S.C.", code) for code in ("U.S.C.", "USC", "U.S.C. \u00a7")]
+        return [section.replace("U.S.C.", code) for code in ("U.S.C.", "USC", "U.S.C. \u00a7")] + [section.split(" U.S.C. ")[1]]
     before, number = parted(section)
     return [front + number for front in BEFORE[before]]
 
 
 # The periods of each section, a code or texts, by the ways in which it is written, folded.
-ENTERED = entered_periods()
 SECTIONS = {folded(front + number): [code] for number, code in CODES.items() for front in BEFORE[""]}
 SECTIONS.update({folded(text): texts for section, texts in ENTERED.items() for text in spelled(section)})

@@ -14,13 +14,15 @@ try:
 except ImportError:
     tomllib = None
 
-Court = namedtuple("Court", "clock days judges rooms")
+# A court, and the periods to which its file gives names: the text of each, and where it is from.
+Court = namedtuple("Court", "clock days judges rooms periods cites", defaults=({}, {}))
 
 NUMBERS = {"NotToml": 1, "Missing": 2, "WrongKind": 3, "BadDate": 4, "BadZone": 5, "BadHours": 6, "BadSpan": 7,
            "BadName": 8, "TwiceNamed": 9, "TooMany": 10}
 MOST_DAYS = 36525
 MOST_DATES = 4096
 MOST_NAMES = 32
+NAME = "[A-Za-z0-9._-]{1,32}"
 
 
 class CourtFault(Exception):
@@ -44,7 +46,7 @@ def split(data):
 
 
 def court_of(data, at_desk=False):
-    """The court, as clerk_office reads its file, or as the desk does, which reads one key more."""
+    """The court, as clerk_office reads its file, or as the desk does, which reads one key more, and the names of periods."""
     table = table_of(data)
     zone = zone_of_text(text_at(table, "zone"))
     if zone is None:
@@ -62,7 +64,21 @@ def court_of(data, at_desk=False):
     judges = names_at(table, "judges")
     rooms = names_at(table, "rooms")
     until = minute_at(table, "efiling_until") if at_desk and "efiling_until" in table else None
-    return Court(Clock(zone, opens, closes, until), Days(first, last, federal, state, []), judges, rooms)
+    periods = table_in(table, "periods") if at_desk else {}
+    return Court(Clock(zone, opens, closes, until), Days(first, last, federal, state, []), judges, rooms, named_texts(periods),
+                 named_texts(table_in(periods, "cite")))
+
+
+def table_in(table, key):
+    """The table at a key, or an empty one."""
+    value = table.get(key)
+    return value if isinstance(value, dict) else {}
+
+
+def named_texts(table):
+    """The entries of a table that name a text which can be shown in a line. Others are passed over."""
+    return {name: text for name, text in table.items()
+            if re.fullmatch(NAME, name) and isinstance(text, str) and re.fullmatch("[^\x00-\x1f\x7f]+", text)}
 
 
 def value_at(table, key, kind):
@@ -115,7 +131,7 @@ def dates_at(table, key, first, last):
 def names_at(table, key):
     names = []
     for name in items_at(table, key, MOST_NAMES):
-        if not re.fullmatch(r"[A-Za-z0-9._-]{1,32}", name):
+        if not re.fullmatch(NAME, name):
             raise CourtFault("BadName", name)
         if name in names:
             raise CourtFault("TwiceNamed", name)

@@ -5,7 +5,7 @@ A command is a tuple of its word and its fields, an answer a tuple of its word a
 """
 from collections import namedtuple
 
-from .periods import Deadline, granted, is_order, refused_extension, refused_start, shown
+from .periods import Deadline, anew, granted, is_order, refused_extension, refused_start, shown
 from .rule6 import AFTER, BEYOND, Outage, covered, has_outage, is_timely, notice_day, permitted
 
 Rows = namedtuple("Rows", "days cases deadlines motions hearings facts")
@@ -89,6 +89,11 @@ def hearing_of(rows, case, motion):
     return next((hearing for hearing in rows.hearings if (hearing.case, hearing.motion) == (case, motion)), None)
 
 
+def facts_by(rows, day):
+    """The rows as the facts have them that are dated by a day."""
+    return rows._replace(facts=[fact for fact in rows.facts if fact.dated <= day])
+
+
 def last_fact(rows, case, number):
     """The last fact of a deadline, or of the case itself where the number is None, unless it resumed or reopened it."""
     found = next((fact for fact in reversed(rows.facts) if isinstance(fact, Fact) and (fact.case, fact.deadline) == (case, number)), None)
@@ -107,16 +112,17 @@ def assignment_of(rows, case):
 
 
 def ending_of(rows, case, number):
-    """Why a deadline is due no more: its case is closed, or it was ended. None where it is due."""
-    if closing_of(rows, case) is not None:
+    """Why a deadline is due no more: its case is closed and no act is recorded, or it was ended. None where it is due or was acted on."""
+    if closing_of(rows, case) is not None and deadline_of(rows, case, number).row.filed is None:
         return "case closed"
     found = last_fact(rows, case, number)
     return None if found is None else found.why
 
 
 def ruling_of(rows, case, number):
-    """The last ruling on a motion. None where there is none."""
-    return next((fact for fact in reversed(rows.facts) if isinstance(fact, Ruling) and (fact.case, fact.motion) == (case, number)), None)
+    """The ruling on a motion that counts: that of the latest day, and of one day that of the last row. None where there is none."""
+    facts = [fact for fact in rows.facts if isinstance(fact, Ruling) and (fact.case, fact.motion) == (case, number)]
+    return max(reversed(facts), key=lambda fact: fact.dated, default=None)
 
 
 def replaced(items, old, new):
@@ -185,25 +191,30 @@ def extend(court, rows, case, number, request):
 
 
 def end(court, rows, case, number, why, dated):
-    old = deadline_for_fact(rows, case, number, dated)
+    word, motion = why
+    old = deadline_for_fact(rows, case, number, dated, motion=motion)
     refuse(ending_of(rows, case, number) is not None, 33)
-    return with_fact(rows, Fact(case, old.number, why, dated)), ("ended",)
+    text = word if motion is None else "{} by motion {}".format(word, motion)
+    return with_fact(rows, Fact(case, old.number, text, dated)), ("ended",)
 
 
-def resume(court, rows, case, number, dated):
-    old = deadline_for_fact(rows, case, number, dated)
+def resume(court, rows, case, number, day, dated):
+    old = deadline_for_fact(rows, case, number, dated, day)
     refuse(ending_of(rows, case, number) is None, 34)
-    now = shown(rows.days, court.clock, old.row)
+    new = old if day is None else old._replace(row=anew(old.row, day))
+    now = shown(rows.days, court.clock, new.row)
     refuse(now == BEYOND, 8)
+    rows = rows._replace(deadlines=replaced(rows.deadlines, old, new))
     return with_fact(rows, Fact(case, old.number, None, dated)), ("resumed", now)
 
 
-def deadline_for_fact(rows, case, number, dated):
-    """The deadline that a fact is about: one without an act."""
+def deadline_for_fact(rows, case, number, dated, day=None, motion=None):
+    """The deadline that a fact is about: one without an act. It may begin anew from a day, and a motion may suspend it."""
     refuse_shut(rows, case)
     old = deadline_of(rows, case, number)
     refuse(old is None, 3)
-    refuse(not covered(rows.days, dated), 5)
+    refuse(motion is not None and motion_of(rows, case, motion) is None, 4)
+    refuse(not covered(rows.days, dated) or day is not None and not covered(rows.days, day), 5)
     refuse(old.row.filed is not None, 9)
     return old
 

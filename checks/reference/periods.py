@@ -2,7 +2,7 @@
 import re
 from collections import namedtuple
 
-from .civil import instant_at
+from .civil import civil, instant_at
 from .rule6 import (AFTER, BEFORE, BEYOND, ELECTRONIC, FILING, SERVICE, Filing, Shown, adds_three, covered,
                     end_of_hours, is_timely, last_day, rolled, with_access, with_access_hours)
 
@@ -91,13 +91,14 @@ def suits(wanted, given):
 
 
 def fits(period, grant):
-    """An extension by hours or to a time is for a period that ends at an instant, one by days or to a date for one that ends with a
-    day."""
-    return (grant.unit in ("h", "reset at")) == ends_at_instant(period)
+    """An extension by hours is for a period that ends at an instant, one by days or to a date for one that ends with a day; an order
+    sets either end of either."""
+    return is_order(grant) or (grant.unit == "h") == ends_at_instant(period)
 
 
 def extended(days, clock, deadline):
-    """The last day or the instant at which the deadline ends, before access to the office is looked at, or None."""
+    """Whether the deadline ends with a last day or at an instant, and which, before access to the office is looked at; or None for
+    both. An order may set an end of the other kind than the period's: nothing is counted from that in the period's unit."""
     period, event = deadline.period, deadline.event
     if period.unit == "set":
         end = event.day
@@ -110,33 +111,43 @@ def extended(days, clock, deadline):
     else:
         start = instant_at(clock.zone, event.day, 60 * event.minute)
         end = end_of_hours(days, clock, start, period.count, period.direction)
+    kind = "until" if ends_at_instant(period) else "last"
     for grant in deadline.grants:
-        if not fits(period, grant):
+        counted = end is not None and fits(period, grant) and kind == ("until" if ends_at_instant(period) else "last")
+        if is_order(grant) or grant.unit == "until":
+            kind, end = set_end(clock, grant) if fits(period, grant) else (kind, None)
+        elif not counted:
             end = None
-        elif grant.unit in ("until", "reset"):
-            end = grant.value
-        elif grant.unit == "reset at":
-            end = instant_at(clock.zone, grant.value.day, 60 * grant.value.minute)
-        elif end is not None and grant.unit == "d":
+        elif grant.unit == "d":
             end = rolled(days, end + grant.value, AFTER)
-        elif end is not None:
+        else:
             end = end_of_hours(days, clock, end, grant.value, AFTER)
-    return end
+    return (None, None) if end is None else (kind, end)
+
+
+def set_end(clock, grant):
+    """The kind of the end that an order or an extension to a date sets, and the end."""
+    if grant.unit == "reset at":
+        return "until", instant_at(clock.zone, grant.value.day, 60 * grant.value.minute)
+    return "last", grant.value
 
 
 def shown(days, clock, deadline):
     """6(a), (b), (d): what is shown of the deadline."""
-    end = extended(days, clock, deadline)
+    kind, end = extended(days, clock, deadline)
     to_date = deadline.grants[-1].unit not in ("d", "h") if deadline.grants else is_set(deadline.period)
     if end is not None and deadline.period.act == FILING and not to_date:
         direction = AFTER if deadline.grants else deadline.period.direction
-        if ends_at_instant(deadline.period):
+        if kind == "until":
             end = with_access_hours(days, clock, end, direction)
         else:
             end = with_access(days, end, direction)
-    if end is None:
-        return BEYOND
-    return Shown("until" if ends_at_instant(deadline.period) else "last", end)
+    return BEYOND if end is None else Shown(kind, end)
+
+
+def anew(deadline, day):
+    """The deadline as it runs anew from a day, at the time of day of its event: no extension counts any more."""
+    return deadline._replace(event=deadline.event._replace(day=day), second=None if deadline.second is None else day, grants=[])
 
 
 def granted(deadline, grant):
@@ -150,10 +161,16 @@ def refused_order(days, clock, deadline, request):
     if not covered(days, request.asked.day) or not covered(days, day):
         return 5
     now, then = shown(days, clock, deadline), shown(days, clock, granted(deadline, grant))
-    no_later = BEYOND not in (now, then) and now.kind == then.kind and then.end <= now.end
-    if deadline.period.extended == "never" and not no_later:
-        return 10
-    return None if fits(deadline.period, grant) else 28
+    return 10 if deadline.period.extended == "never" and not is_no_later(clock, now, then) else None
+
+
+def is_no_later(clock, now, then):
+    """Whether the second end is no later than the first: a last day and an instant are compared by the day on the court's clock."""
+    if BEYOND in (now, then):
+        return False
+    if now.kind == then.kind:
+        return then.end <= now.end
+    return civil(clock.zone, then.end)[0] <= now.end if now.kind == "last" else then.end < civil(clock.zone, now.end)[0]
 
 
 def refused_extension(days, clock, deadline, request):
@@ -168,7 +185,7 @@ def refused_extension(days, clock, deadline, request):
         return 8
     if period.extended == "never":
         return 10
-    if not fits(period, grant):
+    if not fits(period, grant) or (grant.unit == "h") != (now.kind == "until"):
         return 28
     if grant.unit != "until" and not is_in_range(grant.unit, grant.value):
         return 6
@@ -182,4 +199,4 @@ def refused_extension(days, clock, deadline, request):
     then = shown(days, clock, granted(deadline, grant))
     if then == BEYOND:
         return 8
-    return None if then.end > now.end else 14
+    return None if then.kind == now.kind and then.end > now.end else 14

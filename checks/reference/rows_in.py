@@ -8,6 +8,7 @@ from collections import namedtuple
 from .civil import CannotTell, day_of_text, minute_of_text
 from .periods import Event, Grant, Request, period_of_text, set_to
 from .rule6 import Filing
+from .sections import CODES
 
 NUMBERS = {"BadClerk": 1, "UnknownCommand": 2, "WrongCount": 3, "BadField": 4, "NotText": 5, "TooManyRows": 6}
 MOST_ROWS = 100000
@@ -122,11 +123,6 @@ def quarter(text, court):
     return minute // 15 if minute is not None and minute % 15 == 0 else None
 
 
-def no_day(text, court):
-    """The day of a deadline that is resumed as it was."""
-    return [] if text == "" else None
-
-
 def date_or_none(text, court):
     if text == "":
         return []
@@ -151,6 +147,16 @@ def called(text, court):
 
 def period(text, court):
     return period_of_text(text)
+
+
+def period_or_code(text, court):
+    """A period as the desk takes it, also by the code of the section that sets it, or by the court's own name for it."""
+    return period_of_text(text) or entered(CODES.get(text) or court.periods.get(text, ""))
+
+
+def entered(text):
+    """The period that a text enters, and not one of the Rules."""
+    return period_of_text(text) if "/" in text else None
 
 
 def grant(text, court):
@@ -203,7 +209,8 @@ def only(values):
     return values[0] if values else None
 
 
-PERIOD_COLUMNS = [period, date, time_or_none, date_or_none, kind]
+EVENT_COLUMNS = [date, time_or_none, date_or_none, kind]
+PERIOD_COLUMNS = [period] + EVENT_COLUMNS
 HEARING_COLUMNS = [number, number, panel, room, date, quarter, slots, date]
 FINDING = one_of("yes", "no")
 COLUMNS = {
@@ -224,14 +231,27 @@ COLUMNS = {
 TEXT_BYTES = 200
 # A control character, of ASCII or after it.
 CONTROL = re.compile("[\x00-\x1f\x7f-\x9f]")
-WHY = one_of("moot", "vacated", "stayed", "suspended", "withdrawn")
-# The forms that the desk alone takes.
+WHY = ("moot", "vacated", "stayed", "suspended", "withdrawn")
+
+
+def why(text, court):
+    """Why a deadline is ended, and the number of the motion that suspends it, or None."""
+    word, colon, motion = text.partition(":")
+    found = number_of(motion) if colon else None
+    if word not in WHY or colon and (word != "suspended" or found is None):
+        return None
+    return word, found
+
+
+# The forms of the desk: those of clerk_office, where a period may be named by its section's code, and its own.
 DESK_COLUMNS = {
     **COLUMNS,
+    "start": [number, period_or_code] + EVENT_COLUMNS,
+    "compute": [period_or_code] + EVENT_COLUMNS,
     "set": [number, date, given_time, one_of("filing", "service")],
     "reset": [number, number, date, given_time, date],
-    "end": [number, number, WHY, date],
-    "resume": [number, number, no_day, date],
+    "end": [number, number, why, date],
+    "resume": [number, number, date_or_none, date],
     "close": [number, one_of("dismissed", "judgment", "settled", "transferred", "remanded", "otherwise"), date],
     "reopen": [number, date],
     "rule": [number, number, one_of("granted", "denied", "in part", "moot", "withdrawn", "reserved"), date],
@@ -256,7 +276,7 @@ WORKS = {
     "set": lambda case, day, minute, act: ("start", case, set_to(act, bool(minute)), Event(day, only(minute) or 0), None, None),
     "reset": lambda case, deadline, day, minute, dated: ("extend", case, deadline, order(reset_to(day, minute), dated)),
     "end": lambda case, deadline, why, dated: ("end", case, deadline, why, dated),
-    "resume": lambda case, deadline, day, dated: ("resume", case, deadline, dated),
+    "resume": lambda case, deadline, day, dated: ("resume", case, deadline, only(day), dated),
     "close": lambda case, why, dated: ("close", case, why, dated),
     "reopen": lambda case, dated: ("reopen", case, dated),
     "rule": lambda case, motion, ruling, dated: ("rule", case, motion, ruling, dated),

@@ -4,3 +4,4 @@ pub mod NameLine
 pub mod Cases
 pub mod Laws
 pub mod Words
+pub mod Inside

@@ -2,6 +2,7 @@
 use Rattle.std.specs.Prelude.{◌≡◌, ℕ, ◌&&◌, Bool, true, not, Contains, List, [], ◌∷◌, ◌++◌, Option, Some, None, codes, drop, length, map, nat_eq, nat_le, take, if◌then◌else◌}
 use Rattle.std.specs.Char.{is_ascii_digit, to_ascii_lowercase, to_ascii_uppercase}
 use Rattle.std.specs.List.{prefix_len}
+use Rattle.std.specs.Str.{bytes_eq}
 use Rattle.case_numbers.specs.Forms.{are_initials, dashed, fits, form_of, forms, is_worded, office_of, picked}
 
 -- A case number: the digit of the office, or none, two digits of the year, two small letters of the kind, the number with five
@@ -26,6 +27,16 @@ office_text (b ∷ rest) = b ∷ 58 ∷ []
 
 abbrev pub key_of : CaseNumber → List ℕ
 key_of n = office_text n.office ++ n.year ++ 45 ∷ [] ++ n.kind ++ 45 ∷ [] ++ n.digits
+
+-- a key without its office and the colon after it
+abbrev pub without_office : (key : List ℕ) → List ℕ
+without_office [] = []
+without_office (b ∷ []) = b ∷ []
+without_office (b ∷ c ∷ rest) = if nat_eq c 58 then rest else b ∷ c ∷ rest
+
+-- two keys are the same but for their offices
+abbrev pub same_but_office : (key other : List ℕ) → Bool
+same_but_office key other = bytes_eq (without_office key) (without_office other)
 
 abbrev pub named : CaseNumber → NameView
 named n = record { key = key_of n; shown = key_of n ++ n.initials }

@@ -1,5 +1,5 @@
 -- The words of clauses and definitions, for the crates above, from one place.
-pub use Rattle.case_numbers.specs.Number.{NameView}
+pub use Rattle.case_numbers.specs.Number.{NameView, same_but_office}
 unfoldable pub use Rattle.case_numbers.specs.Number.{case_read}
 pub use Rattle.case_numbers.specs.NameLine.{name_line}
 unfoldable pub use Rattle.case_numbers.specs.NameLine.{after_name, name_before}

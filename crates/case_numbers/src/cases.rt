@@ -1,6 +1,7 @@
 //! The cases that were opened, and the names of those that have one.
 ghost use Rattle.std.specs.Prelude.{◌≡◌, option_map, IfOk, OnErr, OnOk};
 ghost use Rattle.case_numbers.specs.Cases.{CasesView, fresh, name_of, no_cases, number_of, with_case};
+ghost use Rattle.case_numbers.specs.Inside.Cases.{AreOpened};
 ghost use Rattle.case_numbers.specs.Laws.{AreApart};
 
 use crate::name::CaseName;
@@ -14,12 +15,29 @@ use std::marker::Model;
 pub struct Cases {
     opened: IndexSet<u32>,
     names: Names,
+    // Each number below it was opened: from here on a free one is looked for.
+    first: u32,
 }
 
 impl Model for Cases {
     ghost Value = { CasesView };
 
     ghost view = { λ c. record { opened = c.opened.keys; named = c.names } };
+
+    ghost invariant = { λ c. AreOpened c.opened.keys c.first };
+}
+
+// The least number from the first on that isn't among these, or the one after the last that a case has.
+fn free_from(opened: &IndexSet<u32>, first: u32) -> u32
+    requires { AreOpened opened.now.keys first }
+    ensures { AreOpened opened.now.keys result }
+{
+    for number in first..4_097u32 {
+        if !opened.contains(&number) {
+            return number;
+        }
+    }
+    4_097
 }
 
 impl Cases {
@@ -30,6 +48,7 @@ impl Cases {
         Cases {
             opened: IndexSet::new(alloc),
             names: Names::new(alloc),
+            first: 1,
         }
     }
 
@@ -40,6 +59,7 @@ impl Cases {
         Ok(Cases {
             opened: self.opened.clone()?,
             names: self.names.copy(alloc)?,
+            first: self.first,
         })
     }
 
@@ -69,7 +89,7 @@ impl Cases {
     pub fn fresh(&self) -> Option<u32>
         ensures { result ≡ fresh self.now }
     {
-        for number in 1..4_097u32 {
+        for number in self.first..4_097u32 {
             if !self.opened.contains(&number) {
                 return Some(number);
             }
@@ -89,10 +109,9 @@ impl Cases {
         ensures err { OnErr result (self.new ≡ self.old) }
     {
         self.opened.reserve(1)?;
-        if let Some(name) = name {
-            self.names.add(alloc, number, name)?;
-        }
+        self.names.add_if_named(alloc, number, name)?;
         self.opened.insert(number)?;
+        self.first = free_from(&self.opened, self.first);
         Ok(())
     }
 }

@@ -4,7 +4,7 @@ ghost use Rattle.std.specs.Char.{to_ascii_uppercase};
 ghost use Rattle.std.specs.Str.{IsAscii};
 ghost use Rattle.std.specs.Char.{to_ascii_lowercase};
 ghost use Rattle.case_numbers.specs.Forms.{form_of};
-ghost use Rattle.case_numbers.specs.Number.{NameView, case_read, five_digits, has_office, initials_in, is_whole, key_of, named, named_if, number_in, number_with, office_in, office_text, whole_number};
+ghost use Rattle.case_numbers.specs.Number.{NameView, case_read, five_digits, has_office, initials_in, is_whole, key_of, named, named_if, number_in, number_with, office_in, office_text, same_but_office, whole_number, without_office};
 
 use crate::forms::{digits_before, form_of, is_worded, office_of, push_picked};
 use crate::initials::{are_initials, dashed};
@@ -39,6 +39,13 @@ impl CaseName {
         self.shown.as_str()
     }
 
+    /// Whether this is another's name but for the offices and the initials of the judges.
+    pub fn is_same_but_office(&self, other: &CaseName) -> bool
+        ensures { result ≡ same_but_office self.now.key other.now.key }
+    {
+        without_office(self.key()) == without_office(other.key())
+    }
+
     /// Another of the same name. `Err` says that memory ran out.
     pub fn copy(&self, alloc: Global) -> Result<CaseName, AllocError>
         ensures { IfOk result (λ name. name ≡ self.now) }
@@ -47,6 +54,17 @@ impl CaseName {
             key: Vec::from_slice(alloc, self.key.as_slice())?,
             shown: String::from_str(alloc, self.shown.as_str())?,
         })
+    }
+}
+
+// A key without its office and the colon after it.
+fn without_office(key: &[u8]) -> &[u8]
+    ensures { result.now ≡ without_office key.now }
+{
+    match key {
+        [] => key,
+        [_] => key,
+        [_, mark, rest @ ..] => { if *mark == b':' { rest } else { key } }
     }
 }
 

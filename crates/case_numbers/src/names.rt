@@ -119,6 +119,22 @@ impl Names {
         }
     }
 
+    // Names a case that has a name, as `add` does. After an `Err` the names are unchanged.
+    pub(crate) fn add_if_named(
+        &mut self,
+        alloc: Global,
+        number: u32,
+        name: Option<CaseName>,
+    ) -> Result<(), AllocError>
+        ensures ok { OnOk result (self.new ≡ with_name self.old number name) }
+        ensures err { OnErr result (self.new ≡ self.old) }
+    {
+        match name {
+            Some(name) => self.add(alloc, number, name),
+            None => Ok(()),
+        }
+    }
+
     // Others of the same names.
     pub(crate) fn copy(&self, alloc: Global) -> Result<Names, AllocError>
         ensures { IfOk result (λ names. names ≡ self.now) }

@@ -3,3 +3,4 @@ pub mod SpanLemmas
 pub mod SearchLemmas
 pub mod DateLemmas
 pub mod TextLemmas
+pub mod MonthLemmas

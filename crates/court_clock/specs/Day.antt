@@ -1,5 +1,6 @@
 -- Days as whole numbers counted from 1970-01-01, which was a Thursday.
 pub mod Date
+pub mod Months
 pub mod Search
 use Rattle.std.specs.Prelude.{ℕ, ℤ, pos, neg_ℤ, ◌+ℤ◌, ◌-ℤ◌, ◌≤ℤ◌, Bool, nat_le, unsigned_abs}
 use Rattle.std.specs.Int.{int_rem_euclid}

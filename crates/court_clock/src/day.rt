@@ -6,6 +6,7 @@ ghost use Rattle.court_clock.specs.Day.{IsDayNumber, weekday_of};
 use std::marker::Model;
 
 mod date;
+mod months;
 
 /// A day of the calendar: whole days from 1970-01-01, from -110,000 to 110,000.
 #[derive(Clone, Copy, Debug, PartialEq, Eq, PartialOrd, Ord)]

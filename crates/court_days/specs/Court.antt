@@ -1,14 +1,15 @@
 -- A court's file: what is read from it, or its first fault.
 pub mod Reading
-use Rattle.std.specs.Prelude.{◌≡◌, ℕ, nat_lt, nat_le, ◌&&◌, Bool, ℤ, int_le, List, [], Option, Some, None, Result, Ok}
+use Rattle.std.specs.Prelude.{◌≡◌, ℕ, nat_lt, nat_le, ◌&&◌, Bool, true, false, All, ℤ, int_le, List, [], Option, Some, None, Result, Ok}
 use Rattle.std.specs.Option.{ok_or}
 use Rattle.toml.specs.Data.{Members, get_member}
 use Rattle.court_clock.specs.Words.{ClockView, IsSameCourtClock, Zone, days_through, zone_of_text, zone_view}
+use Rattle.court_file_text.specs.declared.key.Key.{Key}
 use Rattle.court_file_text.specs.declared.key.Key.TheVariants as key
 use Rattle.court_file_text.specs.declared.fault.CourtFault.{CourtFault}
 use Rattle.court_file_text.specs.declared.fault.CourtFault.TheVariants.{NotToml, BadZone, BadHours, BadSpan}
 use Rattle.court_days.specs.Days.{DaysView}
-use Rattle.court_file_text.specs.Words.{◌>>=◌, must, toml_of, key_name, text_at, minute_at, minute_if_there, date_at, names_at}
+use Rattle.court_file_text.specs.Words.{◌>>=◌, must, toml_of, key_name, text_at, minute_at, minute_if_there, date_at, is_desk_name, names_at, desk_names_at, names_by, PeriodNamesView, no_period_names, period_names}
 use Rattle.court_days.specs.Court.Reading.{dates_at}
 
 -- what a court's file says
@@ -20,13 +21,15 @@ pub record CourtFile : Type 0 where
   pub days : DaysView
   pub judges : List (List ℕ)
   pub rooms : List (List ℕ)
+  pub periods : PeriodNamesView
 
--- a court: its clock, its days, and the names of its judges and rooms in the order of its file
+-- a court: its clock, its days, the names of its judges and rooms in the order of its file, and those that it gives to periods
 pub record CourtView : Type 0 where
   pub clock : ClockView
   pub days : DaysView
   pub judges : List (List ℕ)
   pub rooms : List (List ℕ)
+  pub periods : PeriodNamesView
 
 -- the file that says what a court is
 abbrev pub file_of : CourtView → CourtFile
@@ -38,6 +41,7 @@ file_of court = record {
   days = court.days;
   judges = court.judges;
   rooms = court.rooms;
+  periods = court.periods;
 }
 
 -- two values of one court: they can differ only in how the zone of its clock is kept
@@ -46,6 +50,7 @@ pub record IsSameCourt (a b : CourtView) : Type 0 where
   pub days : a.days ≡ b.days
   pub judges : a.judges ≡ b.judges
   pub rooms : a.rooms ≡ b.rooms
+  pub periods : a.periods ≡ b.periods
 
 -- the zone
 unfoldable pub zone_at : Members → Result Zone CourtFault
@@ -75,15 +80,19 @@ days_at file = do
   state ← dates_at key.State from to file
   Ok (record { from = from; to = to; federal = federal; state = state; outages = [] })
 
--- the whole file, key by key, as clerk_office reads it: for it electronic filing runs to midnight
-unfoldable pub court_of : Members → Result CourtFile CourtFault
-court_of file = do
+-- the file, key by key: electronic filing runs to midnight, and no period has a name; the desk takes other names of judges and rooms
+abbrev pub court_by : (desk : Bool) → Members → Result CourtFile CourtFault
+court_by desk file = do
   zone ← zone_at file
   hours ← hours_at file
   days ← days_at file
-  judges ← names_at key.Judges file
-  rooms ← names_at key.Rooms file
-  Ok (record { zone = zone; opens = hours.0; closes = hours.1; efiling_until = None; days = days; judges = judges; rooms = rooms })
+  judges ← names_by desk key.Judges file
+  rooms ← names_by desk key.Rooms file
+  Ok (record { zone = zone; opens = hours.0; closes = hours.1; efiling_until = None; days = days; judges = judges; rooms = rooms; periods = no_period_names })
+
+-- the whole file, as clerk_office reads it
+unfoldable pub court_of : Members → Result CourtFile CourtFault
+court_of file = court_by false file
 
 -- the court whose file the bytes are
 unfoldable pub court_in : List ℕ → Result CourtFile CourtFault
@@ -96,13 +105,17 @@ abbrev pub with_minute : Option ℕ → CourtFile → CourtFile
 with_minute None file = file
 with_minute (Some minute) file = record file { efiling_until = Some minute }
 
--- The whole file, as the desk reads it: after those keys the one by which a local rule sets that minute (Fed. R. Civ. P. 6(a)(4)). It may
--- be missing.
+-- the file with the names that it gives to periods
+abbrev pub with_names : PeriodNamesView → CourtFile → CourtFile
+with_names names file = record file { periods = names }
+
+-- The whole file, as the desk reads it: after those keys, with the names that it takes, the one by which a local rule sets that minute
+-- (Fed. R. Civ. P. 6(a)(4)), and the names of periods. Either may be missing.
 unfoldable pub desk_court_of : Members → Result CourtFile CourtFault
 desk_court_of document = do
-  file ← court_of document
+  file ← court_by true document
   minute ← minute_if_there key.EfilingUntil document
-  Ok (with_minute minute file)
+  Ok (with_names (period_names document) (with_minute minute file))
 
 -- the court whose file the bytes are, as the desk reads it
 unfoldable pub desk_court_in : List ℕ → Result CourtFile CourtFault
@@ -110,13 +123,19 @@ desk_court_in bytes = do
   document ← ok_or (toml_of bytes) NotToml
   desk_court_of document
 
--- Without that key the desk reads a court's file as clerk_office does. Whatever the desk reads clerk_office reads too, and alike but for
--- that minute; and clerk_office never has one.
+-- Whatever clerk_office reads of a court's file the desk reads too, and alike where it has neither that key nor names of periods. Where
+-- both read a file, they read it alike but for that minute and those names; and clerk_office never has one.
 pub record DeskReadsAlike : Type 0 where
-  pub without_the_key : (document : Members) → get_member (key_name key.EfilingUntil) document ≡ None → desk_court_of document ≡ court_of document
-  pub but_for_the_minute : (bytes : List ℕ) (file : CourtFile) → desk_court_in bytes ≡ Ok file
-      → (minute : Option ℕ) × (office : CourtFile) × (court_in bytes ≡ Ok office) × (file ≡ with_minute minute office)
+  pub without_the_keys : (document : Members) (file : CourtFile) → get_member (key_name key.EfilingUntil) document ≡ None → period_names document ≡ no_period_names → court_of document ≡ Ok file → desk_court_of document ≡ Ok file
+  pub but_for_the_minute : (bytes : List ℕ) (file office : CourtFile) → desk_court_in bytes ≡ Ok file → court_in bytes ≡ Ok office
+      → (minute : Option ℕ) × (names : PeriodNamesView) × (file ≡ with_names names (with_minute minute office))
   pub to_midnight : (bytes : List ℕ) (file : CourtFile) → court_in bytes ≡ Ok file → file.efiling_until ≡ None
+  pub without_names : (bytes : List ℕ) (file : CourtFile) → court_in bytes ≡ Ok file → file.periods ≡ no_period_names
+
+-- The names that clerk_office reads at a key the desk reads too, and each that the desk reads is one that it takes.
+pub record DeskTakesNames : Type 0 where
+  pub of_the_office : (k : Key) (document : Members) (names : List (List ℕ)) → names_at k document ≡ Ok names → desk_names_at k document ≡ Ok names
+  pub each : (k : Key) (document : Members) (names : List (List ℕ)) → desk_names_at k document ≡ Ok names → All (λ name. is_desk_name name ≡ true) names
 
 -- A court opens with no outages: those of the clerk's office are entered later.
 abbrev pub FilesNameNoOutages : Type 0

@@ -1,20 +1,21 @@
 //! A court, from its file.
 
-ghost use Rattle.std.specs.Prelude.{◌≡◌, true, ◌<◌, ◌≤◌, ℕ, length, slice_get, IfSome, IfOk, option_copied, Ok};
+ghost use Rattle.std.specs.Prelude.{◌≡◌, true, ◌<◌, ◌≤◌, ℕ, length, slice_get, IfSome, IfOk, option_copied, option_map, Ok};
 ghost use Rattle.std.specs.Option.{ok_or};
 ghost use Rattle.toml.specs.View.{table_view};
 ghost use Rattle.jiff.specs.Words.{plain_zone};
 ghost use Rattle.court_clock.specs.Words.{is_ruled, zone_view};
-ghost use Rattle.court_days.specs.Court.{CourtView, file_of, court_of, court_in, desk_court_of, desk_court_in, zone_at, hours_at, days_at, is_span};
+ghost use Rattle.court_days.specs.Court.{CourtView, file_of, court_by, court_of, court_in, desk_court_of, desk_court_in, zone_at, hours_at, days_at, is_span};
 ghost use Rattle.court_file_text.specs.declared.fault.CourtFault.TheVariants.{NotToml};
-ghost use Rattle.court_file_text.specs.Words.{Gives, name_index, toml_of};
+ghost use Rattle.court_file_text.specs.Words.{Gives, name_index, text_named, toml_of};
 
 use crate::court::reading::dates_at;
 use crate::days::Days;
 use crate::days::holidays::Holidays;
 use court_clock::{Clock, Day, zone_from_text};
 use court_file_text::{
-    CourtFault, Key, Names, date_at, minute_at, minute_if_there, names_at, text_at,
+    CourtFault, Key, NamedText, Names, PeriodNames, date_at, minute_at, minute_if_there, names_by,
+    period_names_of, text_at,
 };
 use jiff::tz::TimeZone;
 use std::alloc::Global;
@@ -26,19 +27,20 @@ mod reading;
 /// The most days that a calendar may cover.
 const MOST_DAYS: i32 = 36_525;
 
-/// A court: its clock, its days, and the names of its judges and rooms.
+/// A court: its clock, its days, and the names of its judges, rooms and periods.
 #[derive(Drop)]
 pub struct Court {
     clock: Clock,
     days: Days,
     judges: Names,
     rooms: Names,
+    periods: PeriodNames,
 }
 
 impl Model for Court {
     ghost Value = { CourtView };
 
-    ghost view = { λ c. record { clock = c.clock; days = c.days; judges = c.judges; rooms = c.rooms } };
+    ghost view = { λ c. record { clock = c.clock; days = c.days; judges = c.judges; rooms = c.rooms; periods = c.periods } };
 
     ghost invariant = { λ c. (length c.judges ≤ 32) × (length c.rooms ≤ 32) };
 }
@@ -60,20 +62,29 @@ impl Court {
     pub fn from_table(alloc: Global, file: &Table) -> Result<Court, CourtFault>
         ensures { Gives file_of result (court_of (table_view file.now)) }
     {
+        Court::read(alloc, file, false)
+    }
+
+    // The same, with the names that the desk takes, or without.
+    fn read(alloc: Global, file: &Table, desk: bool) -> Result<Court, CourtFault>
+        ensures { Gives file_of result (court_by desk (table_view file.now)) }
+    {
         let zone = zone_at(file)?;
         let hours = hours_at(file)?;
         let days = days_at(alloc, file)?;
-        let judges = names_at(alloc, file, Key::Judges)?;
-        let rooms = names_at(alloc, file, Key::Rooms)?;
+        let judges = names_by(alloc, file, Key::Judges, desk)?;
+        let rooms = names_by(alloc, file, Key::Rooms, desk)?;
         Ok(Court {
             clock: Clock::new(alloc, zone, hours, days.from(), days.to())?,
             days,
             judges,
             rooms,
+            periods: PeriodNames::none(alloc),
         })
     }
 
-    /// The same as the desk reads it, which also takes the minute to which a local rule lets electronic filing run.
+    /// The same as the desk reads it, which also takes other names of judges and rooms, the minute to which a local rule lets electronic
+    /// filing run, and the names that the file gives to periods.
     #[tactic(auto, unfolding(crate::specs::Court::desk_court_in))]
     pub fn from_desk_bytes(alloc: Global, bytes: &[u8]) -> Result<Court, CourtFault>
         ensures { Gives file_of result (desk_court_in bytes.now) }
@@ -87,8 +98,9 @@ impl Court {
     pub fn from_desk_table(alloc: Global, file: &Table) -> Result<Court, CourtFault>
         ensures { Gives file_of result (desk_court_of (table_view file.now)) }
     {
-        let mut court = Court::from_table(alloc, file)?;
+        let mut court = Court::read(alloc, file, true)?;
         let minute = minute_if_there(file, Key::EfilingUntil)?;
+        court.periods = period_names_of(alloc, file)?;
         match minute {
             Some(minute) => {
                 court.clock.set_efiling_until(minute);
@@ -138,6 +150,41 @@ impl Court {
         ensures { option_copied result ≡ slice_get self.now.rooms number }
     {
         self.rooms.get(usize::from(number))
+    }
+
+    /// The text of the period to which the court's file gives this name, as it is entered.
+    pub fn period_text(&self, name: &str) -> Option<&str>
+        ensures { option_map (λ text. text.now) result ≡ text_named self.now.periods.texts name.now }
+    {
+        self.periods.text(name)
+    }
+
+    /// Where the period to which the court's file gives this name is from, if the file says it.
+    pub fn period_cite(&self, name: &str) -> Option<&str>
+        ensures { option_map (λ text. text.now) result ≡ text_named self.now.periods.cites name.now }
+    {
+        self.periods.cite(name)
+    }
+
+    /// The text of the set of periods to which the court's file gives this name, with commas between them.
+    pub fn trigger_text(&self, name: &str) -> Option<&str>
+        ensures { option_map (λ text. text.now) result ≡ text_named self.now.periods.triggers name.now }
+    {
+        self.periods.trigger(name)
+    }
+
+    /// The name of the judge or the room to which the court's file gives this short name.
+    pub fn long_name(&self, short: &str) -> Option<&str>
+        ensures { option_map (λ text. text.now) result ≡ text_named self.now.periods.shorts short.now }
+    {
+        self.periods.long_name(short)
+    }
+
+    /// The periods to which the court's file gives names, in its order, each with its text.
+    pub fn periods(&self) -> &[NamedText]
+        ensures { result.now ≡ self.now.periods.texts }
+    {
+        self.periods.texts()
     }
 
     /// How many judges the court has: at most 32.

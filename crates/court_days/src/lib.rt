@@ -10,6 +10,6 @@ pub use court::Court;
 pub use days::{Days, Outage};
 pub use holiday_list::HolidayList;
 pub use laws::{
-    desk_reads_alike, earliest_is_least, files_name_no_outages, latest_is_greatest,
-    rolled_is_nearest,
+    desk_reads_alike, desk_takes_names, earliest_is_least, files_name_no_outages,
+    latest_is_greatest, rolled_is_nearest,
 };

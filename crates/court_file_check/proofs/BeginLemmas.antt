@@ -1,14 +1,14 @@
 -- A list of faults begins with the one that reading gives.
-use Rattle.std.proofs.Common.{◌≡◌, ℕ, suc, nat_lt, ℤ, List, [], ◌++◌, Option, Some, None, Result, Ok, Err, refl, ap, append_assoc}
+use Rattle.std.proofs.Common.{◌≡◌, ℕ, suc, nat_lt, true, ℤ, List, [], ◌++◌, Option, Some, None, Result, Ok, Err, refl, ap, append_assoc}
 use Rattle.std.specs.Result.{result_ok}
 use Rattle.toml.specs.Data.{Items, no_items, item, Members}
 use Rattle.court_file_text.specs.declared.key.Key.{Key}
 use Rattle.court_file_text.specs.declared.key.Key.TheVariants as key
 use Rattle.court_file_text.specs.declared.fault.CourtFault.{CourtFault}
 use Rattle.court_file_text.specs.declared.fault.CourtFault.TheVariants.{BadHours, BadSpan}
-use Rattle.court_file_text.specs.Words.{◌>>=◌, must, minute_at, minute_if_there, date_at, list_at, each_item, date_of_item, and_name, names_at}
+use Rattle.court_file_text.specs.Words.{◌>>=◌, must, minute_at, minute_if_there, date_at, list_at, each_item, date_of_item, and_desk_name, desk_names_at, no_period_names, period_names}
 use Rattle.court_days.specs.Court.{zone_at, hours_at, days_at, is_span}
-use Rattle.court_days.specs.Words.{DaysView, court_of, desk_court_of, with_minute}
+use Rattle.court_days.specs.Words.{DaysView, court_by, desk_court_of, with_minute, with_names}
 use Rattle.court_days.specs.Court.Reading.{keep_date, and_date, dates_at}
 use Rattle.court_file_check.specs.Seen.{FaultView}
 use Rattle.court_file_check.specs.Faults.{faulty, zone_faults, order_faults, hours_faults, efiling_faults, office_faults_in, extent_faults, span_faults, each_date, dates_faulty, dates_faults, and_good, each_name, names_faulty, names_faults, faults_in, BeginsWith, FaultsBeginWithTheCourts}
@@ -69,18 +69,18 @@ dates_begin k from to file = go (list_at k 4096 file) where
   go (Err e) = one_begins {A = Items} k None (Err e)
 
 -- the items of a list of names
-names_begin_items : (k : Key) (i : ℕ) (names : List (List ℕ)) (items : Items) → BeginsWith (each_item (and_name k) names items) (each_name k i names items)
+names_begin_items : (k : Key) (i : ℕ) (names : List (List ℕ)) (items : Items) → BeginsWith (each_item (and_desk_name k) names items) (each_name k i names items)
 unfolding each_item each_name
 names_begin_items k i names no_items = refl
-names_begin_items k i names (item value rest) = go (and_name k names value) (λ more. names_begin_items k (suc i) more rest) where
-  go : (read : Result (List (List ℕ)) CourtFault) → ((more : List (List ℕ)) → BeginsWith (each_item (and_name k) more rest) (each_name k (suc i) more rest)) → BeginsWith (read >>= λ more. each_item (and_name k) more rest) (faulty k (Some i) read ++ each_name k (suc i) (and_good names read) rest)
+names_begin_items k i names (item value rest) = go (and_desk_name k names value) (λ more. names_begin_items k (suc i) more rest) where
+  go : (read : Result (List (List ℕ)) CourtFault) → ((more : List (List ℕ)) → BeginsWith (each_item (and_desk_name k) more rest) (each_name k (suc i) more rest)) → BeginsWith (read >>= λ more. each_item (and_desk_name k) more rest) (faulty k (Some i) read ++ each_name k (suc i) (and_good names read) rest)
   go (Ok more) rest_begins = rest_begins more
   go (Err e) rest_begins = (record { key = k; item = Some i; fault = e }, each_name k (suc i) names rest, refl, refl)
 
-names_begin : (k : Key) (file : Members) → BeginsWith (names_at k file) (names_faults k file)
-unfolding names_at names_faults
+names_begin : (k : Key) (file : Members) → BeginsWith (desk_names_at k file) (names_faults k file)
+unfolding desk_names_at names_faults
 names_begin k file = go (list_at k 32 file) where
-  go : (read : Result Items CourtFault) → BeginsWith (read >>= λ items. each_item (and_name k) [] items) (names_faulty k read)
+  go : (read : Result Items CourtFault) → BeginsWith (read >>= λ items. each_item (and_desk_name k) [] items) (names_faulty k read)
   go (Ok items) = names_begin_items k 0 [] items
   go (Err e) = one_begins {A = Items} k None (Err e)
 
@@ -102,18 +102,18 @@ days_begin file =
           then_begins (dates_at key.Federal x y file) (λ federal. dates_at key.State x y file >>= λ state. Ok (record { from = x; to = y; federal = federal; state = state; outages = [] })) (dates_faults key.Federal file) (dates_faults key.State file) (dates_begin key.Federal x y file) (λ federal is.
           done_begins (dates_at key.State x y file) (λ state. record { from = x; to = y; federal = federal; state = state; outages = [] }) (dates_faults key.State file) (dates_begin key.State x y file))
 
-office_begin : (file : Members) → BeginsWith (court_of file) (office_faults_in file)
-unfolding court_of office_faults_in
+office_begin : (file : Members) → BeginsWith (court_by true file) (office_faults_in file)
+unfolding office_faults_in
 office_begin file =
     then_begins (zone_at file) _ (zone_faults file) _ (zone_begins file) (λ zone is.
     then_begins (hours_at file) _ (hours_faults file) _ (hours_begin file) (λ hours is.
     then_begins (days_at file) _ (span_faults file ++ (dates_faults key.Federal file ++ dates_faults key.State file)) _ (days_begin file) (λ days is.
-    then_begins (names_at key.Judges file) _ (names_faults key.Judges file) _ (names_begin key.Judges file) (λ judges is.
-    done_begins (names_at key.Rooms file) (λ rooms. record { zone = zone; opens = hours.0; closes = hours.1; efiling_until = None; days = days; judges = judges; rooms = rooms }) (names_faults key.Rooms file) (names_begin key.Rooms file)))))
+    then_begins (desk_names_at key.Judges file) _ (names_faults key.Judges file) _ (names_begin key.Judges file) (λ judges is.
+    done_begins (desk_names_at key.Rooms file) (λ rooms. record { zone = zone; opens = hours.0; closes = hours.1; efiling_until = None; days = days; judges = judges; rooms = rooms; periods = no_period_names }) (names_faults key.Rooms file) (names_begin key.Rooms file)))))
 
 pub faults_begin : FaultsBeginWithTheCourts
 unfolding desk_court_of faults_in efiling_faults
 faults_begin document =
     let minute = minute_if_there key.EfilingUntil document in
-    then_begins (court_of document) _ (office_faults_in document) (efiling_faults document) (office_begin document) (λ file is.
-    done_begins minute (λ m. with_minute m file) (efiling_faults document) (one_begins key.EfilingUntil None minute))
+    then_begins (court_by true document) _ (office_faults_in document) (efiling_faults document) (office_begin document) (λ file is.
+    done_begins minute (λ m. with_names (period_names document) (with_minute m file)) (efiling_faults document) (one_begins key.EfilingUntil None minute))

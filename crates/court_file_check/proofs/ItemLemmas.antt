@@ -7,7 +7,7 @@ use Rattle.toml.specs.View.{view, items_view}
 use Rattle.toml.proofs.Views.{items_view-drop}
 use Rattle.court_file_text.specs.declared.key.Key.{Key}
 use Rattle.court_file_text.specs.declared.key.Key.TheVariants as key
-use Rattle.court_file_text.specs.Words.{date_of_item, and_name}
+use Rattle.court_file_text.specs.Words.{date_of_item, and_desk_name}
 use Rattle.court_days.specs.Words.{DaysView}
 use Rattle.court_file_check.specs.declared.warnings.slips.Slip.{Slip}
 use Rattle.court_file_check.specs.Warnings.{day_of_data, later, slip_of, slips_from}
@@ -29,12 +29,12 @@ unfolding each_date
 dates_done k so_far whole values i past same = sym (append-nil so_far) ∙ (rw (drop_all i values past) at same)
 
 pub name_goes_on : (k : Key) (so_far more whole : List FaultView) (names known : List (List ℕ)) (values : List Value) (i : ℕ) (value : Value)
-    → i < length values → value ≡ get_or values i value → more ≡ so_far ++ faulty k (Some i) (and_name k names (view value))
-    → known ≡ and_good names (and_name k names (view value))
+    → i < length values → value ≡ get_or values i value → more ≡ so_far ++ faulty k (Some i) (and_desk_name k names (view value))
+    → known ≡ and_good names (and_desk_name k names (view value))
     → so_far ++ each_name k i names (items_view (drop i values)) ≡ whole → more ++ each_name k (i + 1) known (items_view (drop (i + 1) values)) ≡ whole
 unfolding each_name
 name_goes_on k so_far more whole names known values i value below is added knows same =
-    let step : so_far ++ each_name k i names (items_view (drop i values)) ≡ so_far ++ (faulty k (Some i) (and_name k names (view value)) ++ each_name k (i + 1) known (items_view (drop (i + 1) values))) =
+    let step : so_far ++ each_name k i names (items_view (drop i values)) ≡ so_far ++ (faulty k (Some i) (and_desk_name k names (view value)) ++ each_name k (i + 1) known (items_view (drop (i + 1) values))) =
     rw (items_view-drop values i value below, ← is, add-one, knows) refl in
     rw (added, append_assoc) (sym step ∙ same)
 

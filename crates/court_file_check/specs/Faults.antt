@@ -6,7 +6,7 @@ use Rattle.court_file_text.specs.declared.key.Key.{Key}
 use Rattle.court_file_text.specs.declared.key.Key.TheVariants as key
 use Rattle.court_file_text.specs.declared.fault.CourtFault.{CourtFault}
 use Rattle.court_file_text.specs.declared.fault.CourtFault.TheVariants.{BadHours, BadSpan}
-use Rattle.court_file_text.specs.Words.{must, minute_at, minute_if_there, date_at, list_at, date_of_item, and_name}
+use Rattle.court_file_text.specs.Words.{must, minute_at, minute_if_there, date_at, list_at, date_of_item, and_desk_name}
 use Rattle.court_days.specs.Court.{zone_at, is_span}
 use Rattle.court_days.specs.Words.{desk_court_of}
 use Rattle.court_file_check.specs.Seen.{FaultView}
@@ -62,7 +62,7 @@ and_good names (Err e) = names
 -- the faults of the items of a list of names, each of which must be none of the good ones before it
 unfoldable pub each_name : Key → ℕ → List (List ℕ) → Items → List FaultView
 each_name k i names no_items = []
-each_name k i names (item value rest) = faulty k (Some i) (and_name k names value) ++ each_name k (suc i) (and_good names (and_name k names value)) rest
+each_name k i names (item value rest) = faulty k (Some i) (and_desk_name k names value) ++ each_name k (suc i) (and_good names (and_desk_name k names value)) rest
 
 abbrev pub names_faulty : Key → Result Items CourtFault → List FaultView
 names_faulty k (Ok items) = each_name k 0 [] items
@@ -75,7 +75,7 @@ names_faults k file = names_faulty k (list_at k 32 file)
 unfoldable pub efiling_faults : Members → List FaultView
 efiling_faults file = faulty key.EfilingUntil None (minute_if_there key.EfilingUntil file)
 
--- those that clerk_office would meet, key by key
+-- those of the keys that clerk_office reads too, key by key
 unfoldable pub office_faults_in : Members → List FaultView
 office_faults_in file =
     zone_faults file

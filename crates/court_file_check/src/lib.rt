@@ -10,7 +10,7 @@ mod review;
 mod warnings;
 
 pub use check::{Checked, check_file};
-pub use faults::names::{is_name, is_named};
+pub use faults::names::is_named;
 pub use faults::{Fault, What};
 pub use laws::{faults_begin_with_the_courts, review_is_exact, review_is_in_order};
 pub use places::{Mark, Part, Place, Places, key_of, place_at};

@@ -3,8 +3,10 @@
 mod fault_lines;
 mod hints;
 mod near_key;
+mod period_lines;
 mod report;
 mod sheet;
+mod short_lines;
 mod syntax_lines;
 mod warning_lines;
 

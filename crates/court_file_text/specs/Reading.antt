@@ -11,6 +11,7 @@ use Rattle.court_file_text.specs.declared.key.Key.{Key}
 use Rattle.court_file_text.specs.declared.fault.CourtFault.{CourtFault}
 use Rattle.court_file_text.specs.declared.fault.CourtFault.TheVariants.{NotToml, Missing, WrongKind, BadDate, BadZone, BadHours, BadSpan, BadName, TwiceNamed, TooMany, OutOfMemory}
 use Rattle.court_file_text.specs.Key.{key_name}
+use Rattle.court_file_text.specs.Control.{has_control}
 
 -- the TOML document that the bytes are
 abbrev pub toml_of : List ℕ → Option Members
@@ -91,6 +92,14 @@ is_name_byte b = is_ascii_alphabetic b || (is_ascii_digit b || ((b == 45) || ((b
 abbrev pub is_name : List ℕ → Bool
 is_name text = nat_le 1 (length text) && (nat_le (length text) 32 && list_all is_name_byte text)
 
+-- no comma, which is between the fields of a row, and no plus, which is between the judges of a hearing
+abbrev pub is_desk_name_byte : ℕ → Bool
+is_desk_name_byte b = not ((b == 44) || (b == 43))
+
+-- a name that the desk takes: 1 to 128 such bytes, and no control character
+abbrev pub is_desk_name : List ℕ → Bool
+is_desk_name text = nat_le 1 (length text) && (nat_le (length text) 128 && (not (has_control text) && list_all is_desk_name_byte text))
+
 -- the text is one of the names
 abbrev pub is_named : List (List ℕ) → List ℕ → Bool
 is_named names text = list_any (bytes_eq text) names
@@ -107,6 +116,26 @@ unfoldable pub names_at : Key → Members → Result (List (List ℕ)) CourtFaul
 names_at k file = do
   items ← list_at k 32 file
   each_item (and_name k) [] items
+
+-- the same, as the desk takes names
+unfoldable pub and_desk_name : Key → List (List ℕ) → Data → Result (List (List ℕ)) CourtFault
+and_desk_name k names value = do
+  text ← text_of k value
+  _ ← must (is_desk_name text) (BadName text)
+  _ ← must (not (is_named names text)) (TwiceNamed text)
+  Ok (names ++ text ∷ [])
+
+unfoldable pub desk_names_at : Key → Members → Result (List (List ℕ)) CourtFault
+desk_names_at k file = do
+  items ← list_at k 32 file
+  each_item (and_desk_name k) [] items
+
+-- either, by whether it is for the desk
+abbrev pub and_name_by : (desk : Bool) → Key → List (List ℕ) → Data → Result (List (List ℕ)) CourtFault
+and_name_by desk k names value = if desk then and_desk_name k names value else and_name k names value
+
+abbrev pub names_by : (desk : Bool) → Key → Members → Result (List (List ℕ)) CourtFault
+names_by desk k file = if desk then desk_names_at k file else names_at k file
 
 -- A fault of the code is the one that is defined; where memory ran out it says nothing.
 abbrev pub Fails : {Y : Type 0} → CourtFault → Result Y CourtFault → Type 0

@@ -31,7 +31,7 @@ pub enum CourtFault {
     BadHours,
     /// 7: `from` is after `to`, or the span has more than 36,525 days.
     BadSpan,
-    /// 8: the text is no name of 1 to 32 letters, digits, `-`, `_` and `.`.
+    /// 8: the text is no name that the program takes.
     BadName(FaultText),
     /// 9: the name is in its list twice.
     TwiceNamed(FaultText),

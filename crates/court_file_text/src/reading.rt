@@ -5,8 +5,9 @@ ghost use Rattle.std.specs.List.{list_all};
 ghost use Rattle.toml.specs.Data.{get_member};
 ghost use Rattle.toml.specs.View.{view, table_view, array_view, items_view};
 ghost use Rattle.court_file_text.specs.Key.{key_name};
-ghost use Rattle.court_file_text.specs.Reading.{Gives, value_at, text_at, minute_at, minute_if_there, date_at, list_at, text_of, date_of_item, and_name, names_at, is_name, is_name_byte, each_item};
+ghost use Rattle.court_file_text.specs.Reading.{Gives, value_at, text_at, minute_at, minute_if_there, date_at, list_at, text_of, date_of_item, and_name, and_desk_name, and_name_by, names_at, desk_names_at, names_by, is_name, is_name_byte, is_desk_name, is_desk_name_byte, each_item};
 
+use crate::control::has_control;
 use crate::fault::{CourtFault, FaultText};
 use crate::key::Key;
 use crate::names::Names;
@@ -139,8 +140,68 @@ fn add_name(alloc: Global, names: &mut Names, value: &Value, key: Key) -> Result
     Ok(())
 }
 
-/// Whether a text may name a judge or a room.
-fn is_name(text: &str) -> bool
+/// The same, as the desk takes names.
+#[tactic(auto, unfolding(crate::specs::Reading::and_desk_name))]
+fn add_desk_name(
+    alloc: Global,
+    names: &mut Names,
+    value: &Value,
+    key: Key,
+) -> Result<(), CourtFault>
+    ensures value { Gives (λ _. names.new) result (and_desk_name key names.old (view value.now)) }
+    ensures one_more { OnOk result (length names.new ≡ length names.old + 1) }
+{
+    let text = text_of(value, key)?;
+    if !is_desk_name(text) {
+        return Err(CourtFault::BadName(FaultText::of(alloc, text)?));
+    }
+    if names.contains(text) {
+        return Err(CourtFault::TwiceNamed(FaultText::of(alloc, text)?));
+    }
+    names.add(alloc, text)?;
+    Ok(())
+}
+
+/// Either, by whether it is for the desk.
+fn add_name_by(
+    alloc: Global,
+    names: &mut Names,
+    value: &Value,
+    key: Key,
+    desk: bool,
+) -> Result<(), CourtFault>
+    ensures value { Gives (λ _. names.new) result (and_name_by desk key names.old (view value.now)) }
+    ensures one_more { OnOk result (length names.new ≡ length names.old + 1) }
+{
+    if desk {
+        add_desk_name(alloc, names, value, key)
+    } else {
+        add_name(alloc, names, value, key)
+    }
+}
+
+/// Whether a text may name a judge or a room for the desk: it has 1 to 128 bytes, no control character, no comma and no plus.
+pub fn is_desk_name(text: &str) -> bool
+    ensures { result ≡ is_desk_name text.now }
+{
+    let length = text.len();
+    1 <= length && length <= 128 && !has_control(text.as_bytes()) && are_desk_bytes(text.as_bytes())
+}
+
+fn are_desk_bytes(text: &[u8]) -> bool
+    ensures { result ≡ list_all is_desk_name_byte text.now }
+{
+    text.iter().all(|b| is_desk_name_byte(*b))
+}
+
+fn is_desk_name_byte(b: u8) -> bool
+    ensures { result ≡ is_desk_name_byte b }
+{
+    !(b == b',' || b == b'+')
+}
+
+/// Whether a text may name a judge or a room for clerk_office, or a period.
+pub fn is_name(text: &str) -> bool
     ensures { result ≡ is_name text.now }
 {
     let length = text.len();
@@ -159,23 +220,45 @@ fn is_name_byte(b: u8) -> bool
     b.is_ascii_alphabetic() || b.is_ascii_digit() || b == b'-' || b == b'_' || b == b'.'
 }
 
-/// The names at a key.
+/// The names at a key, as clerk_office takes them.
 #[tactic(auto, unfolding(crate::specs::Reading::names_at))]
 pub fn names_at(alloc: Global, file: &Table, key: Key) -> Result<Names, CourtFault>
     ensures value { Gives (λ n. n) result (names_at key (table_view file.now)) }
     ensures most { IfOk result (λ n. length n ≤ 32) }
 {
     let values = list_at(file, key, MOST_NAMES)?;
-    names_of(alloc, values, key)
+    names_of(alloc, values, key, false)
 }
 
-fn names_of(alloc: Global, values: &[Value], key: Key) -> Result<Names, CourtFault>
-    ensures value { Gives (λ n. n) result (each_item (and_name key) [] (items_view values.now)) }
+/// The names at a key, as the desk takes them.
+#[tactic(auto, unfolding(crate::specs::Reading::desk_names_at))]
+pub fn desk_names_at(alloc: Global, file: &Table, key: Key) -> Result<Names, CourtFault>
+    ensures value { Gives (λ n. n) result (desk_names_at key (table_view file.now)) }
+    ensures most { IfOk result (λ n. length n ≤ 32) }
+{
+    let values = list_at(file, key, MOST_NAMES)?;
+    names_of(alloc, values, key, true)
+}
+
+/// Either, by whether it is for the desk.
+pub fn names_by(alloc: Global, file: &Table, key: Key, desk: bool) -> Result<Names, CourtFault>
+    ensures value { Gives (λ n. n) result (names_by desk key (table_view file.now)) }
+    ensures most { IfOk result (λ n. length n ≤ 32) }
+{
+    if desk {
+        desk_names_at(alloc, file, key)
+    } else {
+        names_at(alloc, file, key)
+    }
+}
+
+fn names_of(alloc: Global, values: &[Value], key: Key, desk: bool) -> Result<Names, CourtFault>
+    ensures value { Gives (λ n. n) result (each_item (and_name_by desk key) [] (items_view values.now)) }
     ensures most { IfOk result (λ n. length n ≤ length values.now) }
 {
     let mut names = Names::empty(alloc);
     for value in values {
-        add_name(alloc, &mut names, value, key)?;
+        add_name_by(alloc, &mut names, value, key, desk)?;
     }
     Ok(names)
 }

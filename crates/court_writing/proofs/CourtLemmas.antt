@@ -6,8 +6,8 @@ use Rattle.court_file_text.specs.declared.fault.CourtFault.{CourtFault}
 use Rattle.court_file_text.specs.declared.fault.CourtFault.TheVariants.{BadZone}
 use Rattle.court_file_text.specs.declared.key.Key.{Key}
 use Rattle.court_file_text.specs.declared.key.Key.TheVariants as key
-use Rattle.court_file_text.specs.Words.{◌>>=◌, names_at, text_at}
-use Rattle.court_days.specs.Words.{CourtFile, court_of, desk_court_of, with_minute}
+use Rattle.court_file_text.specs.Words.{◌>>=◌, PeriodNamesView, desk_names_at, no_period_names, text_at}
+use Rattle.court_days.specs.Words.{CourtFile, court_by, desk_court_of, with_minute, with_names}
 use Rattle.court_days.proofs.CallerLemmas.{desk_parts}
 use Rattle.court_days.specs.Court.{days_at, hours_at, zone_at}
 
@@ -30,21 +30,22 @@ there : (o : Option Zone) (fault : CourtFault) (zone : Zone) → ok_or o fault �
 there (Some z) fault zone e = cc e
 there None fault zone e = absurd (cc e)
 
--- what a file keeps beside the minute to which electronic filing runs
-kept : (minute : Option ℕ) (file : CourtFile) → ((with_minute minute file).zone ≡ file.zone) × ((with_minute minute file).judges ≡ file.judges) × ((with_minute minute file).rooms ≡ file.rooms)
-kept None file = (refl, refl, refl)
-kept (Some minute) file = (refl, refl, refl)
+-- what a file keeps beside the minute to which electronic filing runs, and the names of periods
+kept : (minute : Option ℕ) (names : PeriodNamesView) (file : CourtFile)
+    → ((with_names names (with_minute minute file)).zone ≡ file.zone) × ((with_names names (with_minute minute file)).judges ≡ file.judges) × ((with_names names (with_minute minute file)).rooms ≡ file.rooms)
+kept None names file = (refl, refl, refl)
+kept (Some minute) names file = (refl, refl, refl)
 
 -- a document with this text of a zone has that zone
-office_zone_read : (members : _) (file : CourtFile) (text : List ℕ) → court_of members ≡ Ok file → text_at key.Zone members ≡ Ok text → zone_of_text text ≡ Some file.zone
-unfolding court_of zone_at
-office_zone_read members file text e named =
+plain_zone_read : (members : _) (file : CourtFile) (text : List ℕ) → court_by true members ≡ Ok file → text_at key.Zone members ≡ Ok text → zone_of_text text ≡ Some file.zone
+unfolding zone_at
+plain_zone_read members file text e named =
     let zone = steps (zone_at members) _ file e in
     let hours = steps (hours_at members) _ file zone.2 in
     let days = steps (days_at members) _ file hours.2 in
-    let judges = steps (names_at key.Judges members) _ file days.2 in
-    let rooms = steps (names_at key.Rooms members) _ file judges.2 in
-    let read : CourtFile = record { zone = zone.0; opens = hours.0.0; closes = hours.0.1; efiling_until = None; days = days.0; judges = judges.0; rooms = rooms.0 } in
+    let judges = steps (desk_names_at key.Judges members) _ file days.2 in
+    let rooms = steps (desk_names_at key.Rooms members) _ file judges.2 in
+    let read : CourtFile = record { zone = zone.0; opens = hours.0.0; closes = hours.0.1; efiling_until = None; days = days.0; judges = judges.0; rooms = rooms.0; periods = no_period_names } in
     let same : read ≡ file = cc rooms.2 in
     let written = steps (text_at key.Zone members) (λ t. ok_or (zone_of_text t) BadZone) zone.0 zone.1 in
     let text_is : written.0 ≡ text = cc (sym written.1 ∙ named) in
@@ -54,31 +55,30 @@ office_zone_read members file text e named =
 pub zone_read : (members : _) (file : CourtFile) (text : List ℕ) → desk_court_of members ≡ Ok file → text_at key.Zone members ≡ Ok text → zone_of_text text ≡ Some file.zone
 zone_read members file text e named =
     let part = desk_parts members file e in
-    let same = kept part.0 part.1 in
-    office_zone_read members part.1 text part.2 named ∙ ap Some (sym same.0) ∙ ap (λ (f : CourtFile). Some f.zone) (sym part.3)
+    let same = kept part.0 part.1 part.2 in
+    plain_zone_read members part.2 text part.3 named ∙ ap Some (sym same.0) ∙ ap (λ (f : CourtFile). Some f.zone) (sym part.4)
 
 -- and the names that it has
-office_names_read : (members : _) (file : CourtFile) → court_of members ≡ Ok file → (names_at key.Judges members ≡ Ok file.judges) × (names_at key.Rooms members ≡ Ok file.rooms)
-unfolding court_of
-office_names_read members file e =
+plain_names_read : (members : _) (file : CourtFile) → court_by true members ≡ Ok file → (desk_names_at key.Judges members ≡ Ok file.judges) × (desk_names_at key.Rooms members ≡ Ok file.rooms)
+plain_names_read members file e =
     let zone = steps (zone_at members) _ file e in
     let hours = steps (hours_at members) _ file zone.2 in
     let days = steps (days_at members) _ file hours.2 in
-    let judges = steps (names_at key.Judges members) _ file days.2 in
-    let rooms = steps (names_at key.Rooms members) _ file judges.2 in
-    let read : CourtFile = record { zone = zone.0; opens = hours.0.0; closes = hours.0.1; efiling_until = None; days = days.0; judges = judges.0; rooms = rooms.0 } in
+    let judges = steps (desk_names_at key.Judges members) _ file days.2 in
+    let rooms = steps (desk_names_at key.Rooms members) _ file judges.2 in
+    let read : CourtFile = record { zone = zone.0; opens = hours.0.0; closes = hours.0.1; efiling_until = None; days = days.0; judges = judges.0; rooms = rooms.0; periods = no_period_names } in
     let same : read ≡ file = cc rooms.2 in
     (judges.1 ∙ ap (λ (f : CourtFile). Ok f.judges) same, rooms.1 ∙ ap (λ (f : CourtFile). Ok f.rooms) same)
 
-pub names_read : (members : _) (file : CourtFile) → desk_court_of members ≡ Ok file → (names_at key.Judges members ≡ Ok file.judges) × (names_at key.Rooms members ≡ Ok file.rooms)
+pub names_read : (members : _) (file : CourtFile) → desk_court_of members ≡ Ok file → (desk_names_at key.Judges members ≡ Ok file.judges) × (desk_names_at key.Rooms members ≡ Ok file.rooms)
 names_read members file e =
     let part = desk_parts members file e in
-    let same = kept part.0 part.1 in
-    let names = office_names_read members part.1 part.2 in (
-      names.0 ∙ ap Ok (sym same.1) ∙ ap (λ (f : CourtFile). Ok f.judges) (sym part.3),
-      names.1 ∙ ap Ok (sym same.2) ∙ ap (λ (f : CourtFile). Ok f.rooms) (sym part.3),
+    let same = kept part.0 part.1 part.2 in
+    let names = plain_names_read members part.2 part.3 in (
+      names.0 ∙ ap Ok (sym same.1) ∙ ap (λ (f : CourtFile). Ok f.judges) (sym part.4),
+      names.1 ∙ ap Ok (sym same.2) ∙ ap (λ (f : CourtFile). Ok f.rooms) (sym part.4),
     )
 
 -- the same names, read twice
-pub read_once : (members : _) (k : Key) (one other : List (List ℕ)) → names_at k members ≡ Ok one → names_at k members ≡ Ok other → one ≡ other
+pub read_once : (members : _) (k : Key) (one other : List (List ℕ)) → desk_names_at k members ≡ Ok one → desk_names_at k members ≡ Ok other → one ≡ other
 read_once members k one other first second = cc (sym first ∙ second)

@@ -5,11 +5,11 @@ use Rattle.std.specs.Str.{is_utf8, trim}
 use Rattle.std.specs.declared.alloc.Global.{Global}
 use Rattle.std.specs.declared.vec.Vec.{Vec}
 use Rattle.court_file_check.specs.Inside.Names.{texts_of}
-use Rattle.court_file_text.specs.Words.{is_name, is_named}
+use Rattle.court_file_text.specs.Words.{is_desk_name, is_named}
 use Rattle.court_writing.specs.declared.names.NamesFault.{NamesFault}
 use Rattle.court_writing.specs.declared.names.NamesFault.TheVariants.{BadName, Twice, TooMany, OutOfMemory}
 
--- the names so far, and that of the line with this number: it is one that a court's file can take, none before it is the same, and there
+-- the names so far, and that of the line with this number: it is one that a folder's court's file can take, none before it is the same, and there
 -- are 32 at most
 abbrev pub and_new : (number : ℕ) → List (List ℕ) → (name : List ℕ) → Result (List (List ℕ)) NamesFault
 and_new number names name =
@@ -20,7 +20,7 @@ and_new number names name =
 abbrev pub and_name : (number : ℕ) → List (List ℕ) → (name : List ℕ) → Result (List (List ℕ)) NamesFault
 and_name number names name =
     if length name == 0 then Ok names
-    else if is_name name then and_new number names name
+    else if is_desk_name name then and_new number names name
     else Err (BadName number)
 
 -- blanks around a name are left out

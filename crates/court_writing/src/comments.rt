@@ -2,6 +2,7 @@
 
 use crate::courts::{CourtName, Elsewhere};
 use crate::own::{CourtOwn, Office};
+use crate::short_names::{are_short, push_quoted, push_short_names};
 use std::alloc::{AllocError, Global};
 use std::fmt::Write;
 
@@ -90,11 +91,12 @@ fn push_elsewhere(text: &mut String, elsewhere: Elsewhere) -> Result<(), AllocEr
     }
 }
 
-/// The judges and rooms, and the head of the table of names.
+/// The judges and rooms, their short names, and the head of the table of names.
 pub(crate) fn judges_and_rooms(alloc: Global, office: &Office<'_>) -> Result<String, AllocError> {
-    let mut text = String::from_str(alloc, NAMES_NOTE)?;
+    let mut text = String::from_str(alloc, names_note(office))?;
     push_names(&mut text, "judges", &office.judges)?;
     push_names(&mut text, "rooms", &office.rooms)?;
+    push_short_names(alloc, &mut text, office)?;
     text.push_str(TABLE_OF_NAMES)?;
     Ok(text)
 }
@@ -104,15 +106,31 @@ fn push_names(text: &mut String, key: &str, names: &[&str]) -> Result<(), AllocE
     let mut between = "";
     write!(text, "{key} = [")?;
     for name in names {
-        write!(text, "{between}\"{name}\"")?;
+        text.push_str(between)?;
+        push_quoted(text, name)?;
         between = ", ";
     }
     text.push_str("]\n")
 }
 
 /// What is said of judges and rooms.
+fn names_note(office: &Office<'_>) -> &'static str {
+    if are_short(&office.judges) && are_short(&office.rooms) {
+        NAMES_NOTE
+    } else {
+        LONG_NAMES_NOTE
+    }
+}
+
+/// What is said of names that `clerk_office` takes too.
 const NAMES_NOTE: &str =
     "\n# Judges and rooms: at most 32 names each, of letters, digits, `-`, `_` and `.`.\n";
+
+/// What is said where it doesn't take one.
+const LONG_NAMES_NOTE: &str = "
+# Judges and rooms: at most 32 names each, of 1 to 128 bytes, with no comma and no plus. clerk_office takes 32 letters, digits,
+# `-`, `_` and `.` at most, and so it refuses this file.
+";
 
 /// The head of the table of names.
 const TABLE_OF_NAMES: &str = "

@@ -15,6 +15,7 @@ mod names;
 mod notes;
 mod own;
 mod put;
+mod short_names;
 mod sources;
 mod update;
 mod writing;

@@ -7,7 +7,8 @@ ghost use Rattle.court_writing.specs.Names.{IsAdded, IsRead, and_line, and_name,
 ghost use Rattle.court_writing.specs.Own.{texts};
 ghost use Rattle.court_writing.specs.declared.names.NamesFault.TheVariants.{OutOfMemory};
 
-use court_file_check::{is_name, is_named};
+use court_file_check::is_named;
+use court_file_text::is_desk_name;
 use std::alloc::{AllocError, AllocFailed, Global};
 use thiserror::Error;
 
@@ -15,7 +16,7 @@ use thiserror::Error;
 #[derive(Clone, Copy, Debug, PartialEq, Eq, Error)]
 pub enum NamesFault {
     /// A line has no name that a court's file can take.
-    #[error("a name has 1 to 32 letters, digits, '-', '_' and '.', and a line has one name")]
+    #[error("a name has 1 to 128 bytes, with no comma, no plus and no control character, and a line has one name")]
     BadName(usize),
     /// A line has the name of one before it.
     #[error("the name is there twice: leave one out")]
@@ -107,7 +108,7 @@ fn add_name(
 {
     if name.is_empty() {
         Ok(())
-    } else if is_name(name) {
+    } else if is_desk_name(name) {
         add_new(alloc, names, number, name)
     } else {
         Err(NamesFault::BadName(number))

@@ -4,7 +4,7 @@ ghost use Rattle.std.specs.Prelude.{◌≡◌, ◌↔◌, true, false, IfOk, Ok,
 ghost use Rattle.std.specs.String.{string_bytes};
 ghost use Rattle.toml.specs.View.{table_view};
 ghost use Rattle.jiff_core.specs.Calendar.{days_from_civil};
-ghost use Rattle.court_file_text.specs.Words.{names_at, text_at, toml_of};
+ghost use Rattle.court_file_text.specs.Words.{desk_names_at, text_at, toml_of};
 ghost use Rattle.court_file_text.specs.declared.key.Key.TheVariants as Key;
 ghost use Rattle.court_holidays.specs.States.Words.{IsNear, IsStated};
 ghost use Rattle.court_writing.specs.Courts.{zone_text};
@@ -24,7 +24,7 @@ use crate::own::{CourtOwn, Office};
 use crate::zones::ZoneName;
 use court_clock::Day;
 use court_days::{Court, Days, HolidayList};
-use court_file_text::{CourtFault, Key, Names, names_at, text_at};
+use court_file_text::{CourtFault, Key, Names, desk_names_at, text_at};
 use court_holidays::{State, on};
 use std::alloc::{AllocError, Global};
 use toml::Table;
@@ -120,11 +120,11 @@ fn has_zone(file: &Table, zone: ZoneName) -> bool
 
 /// Whether the document has these names at a key.
 fn has_names(alloc: Global, file: &Table, key: Key, names: &[&str]) -> Result<bool, WriteFault>
-    ensures named { IfOk result (λ yes. yes ≡ true → names_at key (table_view file.now) ≡ Ok (texts names.now)) }
+    ensures named { IfOk result (λ yes. yes ≡ true → desk_names_at key (table_view file.now) ≡ Ok (texts names.now)) }
     ensures no_years { result ≡ Err BadYears → ⊥ }
     ensures no_hours { result ≡ Err BadHours → ⊥ }
 {
-    match names_at(alloc, file, key) {
+    match desk_names_at(alloc, file, key) {
         Ok(read) => Ok(are_names(&read, names)),
         Err(CourtFault::OutOfMemory) => Err(WriteFault::OutOfMemory),
         Err(_) => Ok(false),

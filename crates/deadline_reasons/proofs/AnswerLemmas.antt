@@ -21,7 +21,7 @@ use Rattle.rule_periods.specs.declared.period.Length.{Length}
 use Rattle.rule_periods.specs.declared.period.Length.TheVariants.{Days, Hours, ToDay, ToTime}
 use Rattle.rule_periods.specs.declared.period.Period.{Period}
 use Rattle.rule_periods.specs.declared.period.Period.TheVariants.{Rule, Entered}
-use Rattle.rule_periods.specs.Words.{DeadlineRowView, base_of_period, end_of_rule, end_of_length, extended_of, act_due, direction_of, grant_fits, granted, granted_if_it_fits, is_certain, is_in_hours, shown_end, shown_after, shown_of}
+use Rattle.rule_periods.specs.Words.{DeadlineRowView, base_of_period, end_of_rule, end_of_length, extended_of, act_due, direction_of, goes_on_from_day, goes_on_from_instant, grant_fits, granted, granted_if_it_fits, is_certain, is_in_hours, shown_end, shown_after, shown_of}
 use Rattle.deadline_reasons.specs.declared.look.Look.{Look}
 use Rattle.deadline_reasons.specs.declared.reason.Reason.{Reason}
 use Rattle.deadline_reasons.specs.declared.reason.Reason.TheVariants as reason
@@ -167,8 +167,26 @@ module _ (c : DaysView) (clock : ClockView) (row : DeadlineRowView) where
   pub extended_is : (hours : Bool) (end : Option Expiry) (g : Grant) → grant_fits hours g ≡ true → granted_if_it_fits c clock hours end g ≡ granted c clock end g
   extended_is hours end g fits = rw fits refl
 
-  pub not_extended_is : (hours : Bool) (end : Option Expiry) (g : Grant) → grant_fits hours g ≡ false → granted_if_it_fits c clock hours end g ≡ None
-  not_extended_is hours end g fails = rw fails refl
+  -- none that doesn't go on from a last day, or from an instant, gives an end
+  nothing_from_day : (hours : Bool) (last : ℤ) (g : Grant) → goes_on_from_day hours g ≡ false → granted_if_it_fits c clock hours (Some (OnDay last)) g ≡ None
+  nothing_from_day true last (ByDays n) h = refl
+  nothing_from_day false last (ByDays n) h = absurd (cc)
+  nothing_from_day true last (ByHours n) h = refl
+  nothing_from_day false last (ByHours n) h = refl
+  nothing_from_day true last (Until d) h = refl
+  nothing_from_day false last (Until d) h = absurd (cc)
+  nothing_from_day hours last (Reset d) h = absurd (cc)
+  nothing_from_day hours last (ResetAt at) h = absurd (cc)
+
+  pub nothing_from_instant : (hours : Bool) (end : ℤ) (g : Grant) → goes_on_from_instant hours g ≡ false → granted_if_it_fits c clock hours (Some (AtInstant end)) g ≡ None
+  nothing_from_instant true end (ByDays n) h = refl
+  nothing_from_instant false end (ByDays n) h = refl
+  nothing_from_instant true end (ByHours n) h = absurd (cc)
+  nothing_from_instant false end (ByHours n) h = refl
+  nothing_from_instant true end (Until d) h = refl
+  nothing_from_instant false end (Until d) h = absurd (cc)
+  nothing_from_instant hours end (Reset d) h = absurd (cc)
+  nothing_from_instant hours end (ResetAt at) h = absurd (cc)
 
   pub and_then_extended : (next end : Option Expiry) (g : Grant) (grants : List Grant) → granted_if_it_fits c clock (is_in_hours row.period) end g ≡ next → with_grants c clock row next grants ≡ with_grants c clock row end (g ∷ grants)
   and_then_extended next end g grants same = ap (λ e. with_grants c clock row e grants) (sym same)
@@ -182,11 +200,14 @@ module _ (c : DaysView) (clock : ClockView) (row : DeadlineRowView) where
       ap (answer_from c clock row) h.2
       ∙ and_then_extended _ (Some (OnDay last)) (Until d) grants (extended_is (is_in_hours row.period) (Some (OnDay last)) (Until d) (ap not h.1))
   goes_on_keeps last false (Reset d ∷ grants) (reason.Extended grant) next h =
-      ap (answer_from c clock row) h.2
-      ∙ and_then_extended _ (Some (OnDay last)) (Reset d) grants (extended_is (is_in_hours row.period) (Some (OnDay last)) (Reset d) (ap not h.1))
+      ap (answer_from c clock row) h.1
+      ∙ and_then_extended _ (Some (OnDay last)) (Reset d) grants (extended_is (is_in_hours row.period) (Some (OnDay last)) (Reset d) refl)
+  goes_on_keeps last false (ResetAt at ∷ grants) (reason.Extended grant) next h =
+      ap (answer_from c clock row) h.1
+      ∙ and_then_extended _ (Some (OnDay last)) (ResetAt at) grants (extended_is (is_in_hours row.period) (Some (OnDay last)) (ResetAt at) refl)
   goes_on_keeps last false (g ∷ grants) (reason.NotExtended grant) next h =
       ap (answer_from c clock row) h.2
-      ∙ and_then_extended None (Some (OnDay last)) g grants (not_extended_is (is_in_hours row.period) (Some (OnDay last)) g h.1)
+      ∙ and_then_extended None (Some (OnDay last)) g grants (nothing_from_day (is_in_hours row.period) last g h.1)
   goes_on_keeps last false [] (reason.Inaccessible outage) next h =
       ap (answer_from c clock row) h.3 ∙ shut last h.0 (outage_lies_on outage last h.1.0 h.2)
   goes_on_keeps last false [] r next h = closes_keeps (act_due row) last r next h.1 ∙ not_shut last h.0
@@ -200,10 +221,8 @@ module _ (c : DaysView) (clock : ClockView) (row : DeadlineRowView) where
   nothing_from_none false (ByHours n) h = refl
   nothing_from_none true (Until d) h = refl
   nothing_from_none false (Until d) h = absurd (cc)
-  nothing_from_none true (Reset d) h = refl
-  nothing_from_none false (Reset d) h = absurd (cc)
-  nothing_from_none true (ResetAt at) h = absurd (cc)
-  nothing_from_none false (ResetAt at) h = refl
+  nothing_from_none hours (Reset d) h = absurd (cc)
+  nothing_from_none hours (ResetAt at) h = absurd (cc)
 
   lacks_end : with_grants c clock row None [] ≡ shown.Beyond
   unfolding shown_after
@@ -216,9 +235,9 @@ module _ (c : DaysView) (clock : ClockView) (row : DeadlineRowView) where
   lacks_keeps (Until d ∷ grants) (reason.Extended grant) next h =
       ap (answer_from c clock row) h.2 ∙ and_then_extended _ None (Until d) grants (extended_is (is_in_hours row.period) None (Until d) (ap not h.1))
   lacks_keeps (Reset d ∷ grants) (reason.Extended grant) next h =
-      ap (answer_from c clock row) h.2 ∙ and_then_extended _ None (Reset d) grants (extended_is (is_in_hours row.period) None (Reset d) (ap not h.1))
+      ap (answer_from c clock row) h.1 ∙ and_then_extended _ None (Reset d) grants (extended_is (is_in_hours row.period) None (Reset d) refl)
   lacks_keeps (ResetAt at ∷ grants) (reason.Extended grant) next h =
-      ap (answer_from c clock row) h.2 ∙ and_then_extended _ None (ResetAt at) grants (extended_is (is_in_hours row.period) None (ResetAt at) h.1)
+      ap (answer_from c clock row) h.1 ∙ and_then_extended _ None (ResetAt at) grants (extended_is (is_in_hours row.period) None (ResetAt at) refl)
   lacks_keeps (g ∷ grants) (reason.NotExtended grant) next h =
       ap (answer_from c clock row) h.2 ∙ and_then_extended None None g grants (nothing_from_none (is_in_hours row.period) g h.1)
   lacks_keeps [] reason.Beyond next h = ap (answer_from c clock row) h ∙ sym lacks_end

@@ -1,5 +1,5 @@
 -- A step of hours doesn't change what the definitions give.
-use Rattle.std.proofs.Common.{◌≡◌, inl, inr, ℕ, ℤ, true, false, ◌&&◌, Contains, List, [], ◌∷◌, Option, Some, None, option_map, refl, sym, ◌∙◌, ap, arith}
+use Rattle.std.proofs.Common.{◌≡◌, inl, inr, ℕ, ℤ, true, false, not, ◌&&◌, Contains, List, [], ◌∷◌, Option, Some, None, option_map, refl, sym, ◌∙◌, ap, arith}
 use Rattle.std.specs.List.{list_any}
 use Rattle.std.specs.Option.{option_and_then}
 use Rattle.std.proofs.lemmas.Bool.{cases_Bool}
@@ -9,7 +9,7 @@ use Rattle.court_days.specs.Words.{DaysView, OutageView, is_permitted}
 use Rattle.rule6.specs.Words.{continued, end_of_hours_from, extended_end, hours_from, meets_last_hour, same_time_on}
 use Rattle.rule_periods.specs.declared.expiry.Expiry.TheVariants.{AtInstant}
 use Rattle.rule_periods.specs.declared.grant.Grant.{Grant}
-use Rattle.rule_periods.specs.declared.grant.Grant.TheVariants.{ByHours, ResetAt}
+use Rattle.rule_periods.specs.declared.grant.Grant.TheVariants.{ByHours, Until, Reset, ResetAt}
 use Rattle.rule_periods.specs.Words.{DeadlineRowView, act_due, is_in_hours, shown_end, shown_after}
 use Rattle.deadline_reasons.specs.declared.reason.Reason.{Reason}
 use Rattle.deadline_reasons.specs.declared.reason.Reason.TheVariants as reason
@@ -18,7 +18,7 @@ use Rattle.deadline_reasons.specs.Row.{needs_access, access_holidays}
 use Rattle.deadline_reasons.specs.Standing.{Standing, AccessibleHour}
 use Rattle.deadline_reasons.specs.Follows.{CountsHours, EndsHours, GoesOnUntil, ClosesAt}
 use Rattle.deadline_reasons.proofs.Answer.{answer_from, reached, with_grants}
-use Rattle.deadline_reasons.proofs.AnswerLemmas.{passes, and_then_extended, extended_is, not_extended_is}
+use Rattle.deadline_reasons.proofs.AnswerLemmas.{passes, and_then_extended, extended_is, nothing_from_instant}
 use Rattle.deadline_reasons.proofs.PassingLemmas.{found_by, found_rolls, found_accessible}
 
 module _ (c : DaysView) (clock : ClockView) (row : DeadlineRowView) where
@@ -87,12 +87,18 @@ module _ (c : DaysView) (clock : ClockView) (row : DeadlineRowView) where
   goes_on_until_keeps end (ByHours n ∷ grants) (reason.Extended grant) next h =
       ap (answer_from c clock row) h.2
       ∙ and_then_extended c clock row _ (Some (AtInstant end)) (ByHours n) grants (extended_is c clock row (is_in_hours row.period) (Some (AtInstant end)) (ByHours n) h.1)
-  goes_on_until_keeps end (ResetAt at ∷ grants) (reason.Extended grant) next h =
+  goes_on_until_keeps end (Until d ∷ grants) (reason.Extended grant) next h =
       ap (answer_from c clock row) h.2
-      ∙ and_then_extended c clock row _ (Some (AtInstant end)) (ResetAt at) grants (extended_is c clock row (is_in_hours row.period) (Some (AtInstant end)) (ResetAt at) h.1)
+      ∙ and_then_extended c clock row _ (Some (AtInstant end)) (Until d) grants (extended_is c clock row (is_in_hours row.period) (Some (AtInstant end)) (Until d) (ap not h.1))
+  goes_on_until_keeps end (Reset d ∷ grants) (reason.Extended grant) next h =
+      ap (answer_from c clock row) h.1
+      ∙ and_then_extended c clock row _ (Some (AtInstant end)) (Reset d) grants (extended_is c clock row (is_in_hours row.period) (Some (AtInstant end)) (Reset d) refl)
+  goes_on_until_keeps end (ResetAt at ∷ grants) (reason.Extended grant) next h =
+      ap (answer_from c clock row) h.1
+      ∙ and_then_extended c clock row _ (Some (AtInstant end)) (ResetAt at) grants (extended_is c clock row (is_in_hours row.period) (Some (AtInstant end)) (ResetAt at) refl)
   goes_on_until_keeps end (g ∷ grants) (reason.NotExtended grant) next h =
       ap (answer_from c clock row) h.2
-      ∙ and_then_extended c clock row None (Some (AtInstant end)) g grants (not_extended_is c clock row (is_in_hours row.period) (Some (AtInstant end)) g h.1)
+      ∙ and_then_extended c clock row None (Some (AtInstant end)) g grants (nothing_from_instant c clock row (is_in_hours row.period) end g h.1)
   goes_on_until_keeps end [] (reason.LastHour outage day second) next h =
       ap (answer_from c clock row) h.4 ∙ shut end day second h.0 (outage_meets end outage h.1.0 h.2) h.3
   goes_on_until_keeps end [] reason.NotCovered next h = ap (answer_from c clock row) h.2 ∙ shut_beyond end h.0 h.1

@@ -3,4 +3,5 @@ pub mod Answer
 pub mod AnswerLemmas
 pub mod HourLemmas
 pub mod DerivationLemmas
+pub mod ExtensionLemmas
 pub mod OneDerivation

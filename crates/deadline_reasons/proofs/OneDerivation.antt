@@ -16,7 +16,7 @@ use Rattle.rule_periods.specs.declared.grant.Grant.{Grant}
 use Rattle.rule_periods.specs.declared.grant.Grant.TheVariants.{ByDays, ByHours, Until, Reset, ResetAt}
 use Rattle.rule_periods.specs.declared.period.Length.{Length}
 use Rattle.rule_periods.specs.declared.period.Length.TheVariants.{Days, Hours, ToDay, ToTime}
-use Rattle.rule_periods.specs.Words.{DeadlineRowView, act_due, direction_of, grant_fits, is_certain, is_in_hours}
+use Rattle.rule_periods.specs.Words.{DeadlineRowView, act_due, direction_of, goes_on_from_day, goes_on_from_instant, grant_fits, is_certain, is_in_hours}
 use Rattle.deadline_reasons.specs.declared.look.Look.{Look}
 use Rattle.deadline_reasons.specs.declared.reason.Reason.{Reason}
 use Rattle.deadline_reasons.specs.declared.reason.Reason.TheVariants as reason
@@ -105,13 +105,13 @@ module _ (c : DaysView) (clock : ClockView) (row : DeadlineRowView) where
   extends_day last (ByHours n) grants = None
   extends_day last (Until d) grants = Some (reason.Extended (Until d), Runs d (record { three = false; grants = grants }))
   extends_day last (Reset d) grants = Some (reason.Extended (Reset d), Runs d (record { three = false; grants = grants }))
-  extends_day last (ResetAt at) grants = None
+  extends_day last (ResetAt at) grants = Some (reason.Extended (ResetAt at), RunsUntil (instant_of clock.zone at.day (60 * at.minute)) grants)
 
   abbrev goes_on : ℤ → Bool → List Grant → Option (Reason × Standing)
   goes_on last true grants =
       option_map (λ kind. (reason.ThreeAdded kind, Counting last 3 After (record { three = false; grants = grants }))) row.service
   goes_on last false (g ∷ grants) =
-      if grant_fits (is_in_hours row.period) g then extends_day last g grants else Some (reason.NotExtended g, Nowhere grants)
+      if goes_on_from_day (is_in_hours row.period) g then extends_day last g grants else Some (reason.NotExtended g, Nowhere grants)
   goes_on last false [] =
       if needs_access row && has_outage c last then
       option_map (λ o. (reason.Inaccessible o, Looking (day_later c last) (for_access (access_holidays row)) AccessibleDay)) (find (λ o. int_eq o.day last) c.outages)
@@ -121,8 +121,13 @@ module _ (c : DaysView) (clock : ClockView) (row : DeadlineRowView) where
   goes_on_one last true grants (reason.ThreeAdded kind) next h = rw (h.0, h.1) refl
   goes_on_one last false (ByDays n ∷ grants) (reason.Extended grant) next h = rw (h.1, h.2, h.0) refl
   goes_on_one last false (Until d ∷ grants) (reason.Extended grant) next h = rw (h.1, h.2, h.0) refl
-  goes_on_one last false (Reset d ∷ grants) (reason.Extended grant) next h = rw (h.1, h.2, h.0) refl
-  goes_on_one last false (g ∷ grants) (reason.NotExtended grant) next h = rw (h.1, h.2, h.0) refl
+  goes_on_one last false (Reset d ∷ grants) (reason.Extended grant) next h = rw (h.1, h.0) refl
+  goes_on_one last false (ResetAt at ∷ grants) (reason.Extended grant) next h = rw (h.1, h.0) refl
+  goes_on_one last false (ByDays n ∷ grants) (reason.NotExtended grant) next h = rw (h.1, h.2, h.0) refl
+  goes_on_one last false (ByHours n ∷ grants) (reason.NotExtended grant) next h = rw (h.2, h.0) refl
+  goes_on_one last false (Until d ∷ grants) (reason.NotExtended grant) next h = rw (h.1, h.2, h.0) refl
+  goes_on_one last false (Reset d ∷ grants) (reason.NotExtended grant) next h = cc h.1
+  goes_on_one last false (ResetAt at ∷ grants) (reason.NotExtended grant) next h = cc h.1
   goes_on_one last false [] (reason.Inaccessible outage) next h =
       rw (h.0, outage_lies_on c clock row outage last h.1.0 h.2, h.1.1, h.3) refl
   goes_on_one last false [] r next h = rw h.0 (ap Some (closes_one (act_due row) last r next h.1))
@@ -158,8 +163,8 @@ module _ (c : DaysView) (clock : ClockView) (row : DeadlineRowView) where
   abbrev extends_hours : ℤ → Grant → List Grant → Option (Reason × Standing)
   extends_hours end (ByDays n) grants = None
   extends_hours end (ByHours n) grants = Some (reason.Extended (ByHours n), CountingHours end n After grants)
-  extends_hours end (Until d) grants = None
-  extends_hours end (Reset d) grants = None
+  extends_hours end (Until d) grants = Some (reason.Extended (Until d), Runs d (record { three = false; grants = grants }))
+  extends_hours end (Reset d) grants = Some (reason.Extended (Reset d), Runs d (record { three = false; grants = grants }))
   extends_hours end (ResetAt at) grants = Some (reason.Extended (ResetAt at), RunsUntil (instant_of clock.zone at.day (60 * at.minute)) grants)
 
   abbrev shut_at : ℤ → Option CivilTime → Option (Reason × Standing)
@@ -169,15 +174,21 @@ module _ (c : DaysView) (clock : ClockView) (row : DeadlineRowView) where
 
   abbrev goes_on_until : ℤ → List Grant → Option (Reason × Standing)
   goes_on_until end (g ∷ grants) =
-      if grant_fits (is_in_hours row.period) g then extends_hours end g grants else Some (reason.NotExtended g, Nowhere grants)
+      if goes_on_from_instant (is_in_hours row.period) g then extends_hours end g grants else Some (reason.NotExtended g, Nowhere grants)
   goes_on_until end [] =
       if needs_access row && list_any (meets_last_hour clock end) c.outages then shut_at end (civil_of clock.zone end)
       else Some (reason.UntilInstant end, Ended (shown.Until end))
 
   goes_on_until_one : (end : ℤ) (grants : List Grant) (r : Reason) (next : Standing) → GoesOnUntil c clock row end grants r next → goes_on_until end grants ≡ Some (r, next)
   goes_on_until_one end (ByHours n ∷ grants) (reason.Extended grant) next h = rw (h.1, h.2, h.0) refl
-  goes_on_until_one end (ResetAt at ∷ grants) (reason.Extended grant) next h = rw (h.1, h.2, h.0) refl
-  goes_on_until_one end (g ∷ grants) (reason.NotExtended grant) next h = rw (h.1, h.2, h.0) refl
+  goes_on_until_one end (Until d ∷ grants) (reason.Extended grant) next h = rw (h.1, h.2, h.0) refl
+  goes_on_until_one end (Reset d ∷ grants) (reason.Extended grant) next h = rw (h.1, h.0) refl
+  goes_on_until_one end (ResetAt at ∷ grants) (reason.Extended grant) next h = rw (h.1, h.0) refl
+  goes_on_until_one end (ByDays n ∷ grants) (reason.NotExtended grant) next h = rw (h.2, h.0) refl
+  goes_on_until_one end (ByHours n ∷ grants) (reason.NotExtended grant) next h = rw (h.1, h.2, h.0) refl
+  goes_on_until_one end (Until d ∷ grants) (reason.NotExtended grant) next h = rw (h.1, h.2, h.0) refl
+  goes_on_until_one end (Reset d ∷ grants) (reason.NotExtended grant) next h = cc h.1
+  goes_on_until_one end (ResetAt at ∷ grants) (reason.NotExtended grant) next h = cc h.1
   goes_on_until_one end [] (reason.LastHour outage day second) next h =
       rw (h.0, outage_meets c clock row end outage h.1.0 h.2, h.3, h.1.1, h.4) refl
   goes_on_until_one end [] reason.NotCovered next h = rw (h.0, h.1, h.2) refl
@@ -202,13 +213,13 @@ module _ (c : DaysView) (clock : ClockView) (row : DeadlineRowView) where
 
   lacks_one : (grants : List Grant) (r : Reason) (next : Standing) → Lacks clock row grants r next → lacks grants ≡ Some (r, next)
   lacks_one (Until d ∷ grants) (reason.Extended grant) next h = rw (h.1, h.2, h.0) refl
-  lacks_one (Reset d ∷ grants) (reason.Extended grant) next h = rw (h.1, h.2, h.0) refl
-  lacks_one (ResetAt at ∷ grants) (reason.Extended grant) next h = rw (h.1, h.2, h.0) refl
+  lacks_one (Reset d ∷ grants) (reason.Extended grant) next h = rw (h.1, h.0) refl
+  lacks_one (ResetAt at ∷ grants) (reason.Extended grant) next h = rw (h.1, h.0) refl
   lacks_one (ByDays n ∷ grants) (reason.NotExtended grant) next h = rw (h.2, h.0) refl
   lacks_one (ByHours n ∷ grants) (reason.NotExtended grant) next h = rw (h.2, h.0) refl
   lacks_one (Until d ∷ grants) (reason.NotExtended grant) next h = rw (h.1, h.2, h.0) refl
-  lacks_one (Reset d ∷ grants) (reason.NotExtended grant) next h = rw (h.1, h.2, h.0) refl
-  lacks_one (ResetAt at ∷ grants) (reason.NotExtended grant) next h = rw (h.1, h.2, h.0) refl
+  lacks_one (Reset d ∷ grants) (reason.NotExtended grant) next h = cc h.1
+  lacks_one (ResetAt at ∷ grants) (reason.NotExtended grant) next h = cc h.1
   lacks_one [] reason.Beyond next h = rw h refl
   lacks_one grants r next h = absurd h
 

@@ -15,7 +15,7 @@ use Rattle.rule_periods.specs.declared.grant.Grant.{Grant}
 use Rattle.rule_periods.specs.declared.grant.Grant.TheVariants.{ByDays, ByHours, Until, Reset, ResetAt}
 use Rattle.rule_periods.specs.declared.period.Length.{Length}
 use Rattle.rule_periods.specs.declared.period.Length.TheVariants.{Days, Hours, ToDay, ToTime}
-use Rattle.rule_periods.specs.Words.{DeadlineRowView, act_due, direction_of, grant_fits, is_certain, is_in_hours}
+use Rattle.rule_periods.specs.Words.{DeadlineRowView, act_due, direction_of, goes_on_from_day, goes_on_from_instant, grant_fits, is_certain, is_in_hours}
 use Rattle.deadline_reasons.specs.declared.look.Look.{Look}
 use Rattle.deadline_reasons.specs.declared.reason.Reason.{Reason}
 use Rattle.deadline_reasons.specs.declared.reason.Reason.TheVariants as reason
@@ -72,7 +72,7 @@ Closes clock act.Filing last (reason.UntilClosing day closes until) next =
 Closes clock a last r next = ⊥
 
 -- From a last day first three days are counted where the service adds them (6(d)), then each extension in turn (6(b),
--- 4(m)); an order may set another day in place of the one so far. Then, for filing, an outage on the last day moves the
+-- 4(m)); an order may set another day, or an instant, in place of the day so far. Then, for filing, an outage on the last day moves the
 -- time (6(a)(3)(A)); of several outages the first is given. Without one the time ends.
 abbrev pub GoesOn : DaysView → ClockView → DeadlineRowView → ℤ → Bool → List Grant → Reason → Standing → Type 0
 GoesOn c clock row last true grants (reason.ThreeAdded kind) next =
@@ -82,9 +82,11 @@ GoesOn c clock row last false (ByDays n ∷ grants) (reason.Extended grant) next
 GoesOn c clock row last false (Until d ∷ grants) (reason.Extended grant) next =
     (grant ≡ Until d) × (is_in_hours row.period ≡ false) × (next ≡ Runs d (record { three = false; grants = grants }))
 GoesOn c clock row last false (Reset d ∷ grants) (reason.Extended grant) next =
-    (grant ≡ Reset d) × (is_in_hours row.period ≡ false) × (next ≡ Runs d (record { three = false; grants = grants }))
+    (grant ≡ Reset d) × (next ≡ Runs d (record { three = false; grants = grants }))
+GoesOn c clock row last false (ResetAt at ∷ grants) (reason.Extended grant) next =
+    (grant ≡ ResetAt at) × (next ≡ RunsUntil (instant_of clock.zone at.day (60 * at.minute)) grants)
 GoesOn c clock row last false (g ∷ grants) (reason.NotExtended grant) next =
-    (grant ≡ g) × (grant_fits (is_in_hours row.period) g ≡ false) × (next ≡ Nowhere grants)
+    (grant ≡ g) × (goes_on_from_day (is_in_hours row.period) g ≡ false) × (next ≡ Nowhere grants)
 GoesOn c clock row last false [] (reason.Inaccessible outage) next =
     (needs_access row ≡ true) × IsFirstOutage (λ o. int_eq o.day last) c.outages outage × (outage.day ≡ last) × (next ≡ Looking (day_later c last) (for_access (access_holidays row)) AccessibleDay)
 GoesOn c clock row last false [] r next =
@@ -110,16 +112,20 @@ EndsHours c clock end direction grants (reason.Continued day second) next =
 EndsHours c clock end direction grants reason.NotCovered next = (civil_of clock.zone end ≡ None) × (next ≡ Nowhere grants)
 EndsHours c clock end direction grants r next = ⊥
 
--- From an instant each extension goes on in turn (6(b)); an order may set another instant in its place. Then, for filing,
+-- From an instant each extension goes on in turn (6(b)); an order may set another instant, or a day, in its place. Then, for filing,
 -- an outage in the last hour moves the time (6(a)(3)(B)); of several outages the first is given. Without one the time
 -- ends.
 abbrev pub GoesOnUntil : DaysView → ClockView → DeadlineRowView → ℤ → List Grant → Reason → Standing → Type 0
 GoesOnUntil c clock row end (ByHours h ∷ grants) (reason.Extended grant) next =
     (grant ≡ ByHours h) × (is_in_hours row.period ≡ true) × (next ≡ CountingHours end h After grants)
+GoesOnUntil c clock row end (Until d ∷ grants) (reason.Extended grant) next =
+    (grant ≡ Until d) × (is_in_hours row.period ≡ false) × (next ≡ Runs d (record { three = false; grants = grants }))
+GoesOnUntil c clock row end (Reset d ∷ grants) (reason.Extended grant) next =
+    (grant ≡ Reset d) × (next ≡ Runs d (record { three = false; grants = grants }))
 GoesOnUntil c clock row end (ResetAt at ∷ grants) (reason.Extended grant) next =
-    (grant ≡ ResetAt at) × (is_in_hours row.period ≡ true) × (next ≡ RunsUntil (instant_of clock.zone at.day (60 * at.minute)) grants)
+    (grant ≡ ResetAt at) × (next ≡ RunsUntil (instant_of clock.zone at.day (60 * at.minute)) grants)
 GoesOnUntil c clock row end (g ∷ grants) (reason.NotExtended grant) next =
-    (grant ≡ g) × (grant_fits (is_in_hours row.period) g ≡ false) × (next ≡ Nowhere grants)
+    (grant ≡ g) × (goes_on_from_instant (is_in_hours row.period) g ≡ false) × (next ≡ Nowhere grants)
 GoesOnUntil c clock row end [] (reason.LastHour outage day second) next =
     (needs_access row ≡ true) × IsFirstOutage (meets_last_hour clock end) c.outages outage × (meets_last_hour clock end outage ≡ true) × (civil_of clock.zone end ≡ Some (record { day = day; second = second })) × (next ≡ Looking (day_later c day) (for_access (access_holidays row)) (AccessibleHour second))
 GoesOnUntil c clock row end [] reason.NotCovered next =
@@ -138,9 +144,9 @@ abbrev pub Lacks : ClockView → DeadlineRowView → List Grant → Reason → S
 Lacks clock row (Until d ∷ grants) (reason.Extended grant) next =
     (grant ≡ Until d) × (is_in_hours row.period ≡ false) × (next ≡ Runs d (record { three = false; grants = grants }))
 Lacks clock row (Reset d ∷ grants) (reason.Extended grant) next =
-    (grant ≡ Reset d) × (is_in_hours row.period ≡ false) × (next ≡ Runs d (record { three = false; grants = grants }))
+    (grant ≡ Reset d) × (next ≡ Runs d (record { three = false; grants = grants }))
 Lacks clock row (ResetAt at ∷ grants) (reason.Extended grant) next =
-    (grant ≡ ResetAt at) × (is_in_hours row.period ≡ true) × (next ≡ RunsUntil (instant_of clock.zone at.day (60 * at.minute)) grants)
+    (grant ≡ ResetAt at) × (next ≡ RunsUntil (instant_of clock.zone at.day (60 * at.minute)) grants)
 Lacks clock row (g ∷ grants) (reason.NotExtended grant) next =
     (grant ≡ g) × ((is_certain g && grant_fits (is_in_hours row.period) g) ≡ false) × (next ≡ Nowhere grants)
 Lacks clock row [] reason.Beyond next = next ≡ Ended shown.Beyond

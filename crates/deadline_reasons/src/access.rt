@@ -9,7 +9,7 @@ ghost use Rattle.deadline_reasons.specs.Follows.{Closes};
 ghost use Rattle.deadline_reasons.specs.Passing.{IsFirstOutage};
 ghost use Rattle.deadline_reasons.specs.Row.{needs_access};
 ghost use Rattle.deadline_reasons.specs.Standing.{Runs, Ended};
-ghost use Rattle.deadline_reasons.specs.Inside.Leading.{LeadsOn, with_day};
+ghost use Rattle.deadline_reasons.specs.Inside.Leading.{LeadsOn};
 
 use crate::look::{day_later, for_access, look_for};
 use crate::reason::{Reason, push};
@@ -20,28 +20,24 @@ use rule_periods::{DeadlineRow, act_due};
 use rule6::Act;
 use std::alloc::AllocError;
 
-/// Ends a period in days.
-pub(crate) fn close(
+/// Ends a time that runs to a last day.
+pub(crate) fn close_on(
     days: &Days,
     clock: &Clock,
     row: &DeadlineRow,
     reasons: &mut Vec<Reason>,
-    last: Option<Day>,
+    last: Day,
 ) -> Result<(), AllocError>
-    ensures { IfOk result (λ _. (shown : Shown) × LeadsOn days.now clock.now row.now reasons.old.items reasons.new.items (with_day last (record { three = false; grants = [] })) (Ended shown)) }
+    ensures { IfOk result (λ _. (shown : Shown) × LeadsOn days.now clock.now row.now reasons.old.items reasons.new.items (Runs last (record { three = false; grants = [] })) (Ended shown)) }
 {
-    let Some(day) = last else {
-        push(reasons, Reason::Beyond)?;
+    let Some(outage) = shutting_outage(days, row, last) else {
+        push(reasons, closing(clock, act_due(row), last))?;
         return Ok(());
     };
-    let Some(outage) = shutting_outage(days, row, day) else {
-        push(reasons, closing(clock, act_due(row), day))?;
-        return Ok(());
-    };
-    close_later(days, clock, row, reasons, day, outage)
+    close_later(days, clock, row, reasons, last, outage)
 }
 
-/// Ends a period in days, where the clerk's office was inaccessible on its last day.
+/// Ends a time that runs to a last day on which the clerk's office was inaccessible.
 fn close_later(
     days: &Days,
     clock: &Clock,

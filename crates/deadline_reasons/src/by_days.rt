@@ -1,22 +1,21 @@
 //! The reasons of a period that is stated in days, and of a day that an order sets.
 
-ghost use Rattle.std.specs.Prelude.{◌≡◌, ◌≤◌, true, false, [], ◌∷◌, List, IfOk};
+ghost use Rattle.std.specs.Prelude.{◌≡◌, ◌≤◌, false, IfOk};
 ghost use Rattle.court_clock.specs.Words.{ClockView, counted_from};
 ghost use Rattle.rule6.specs.declared.timeliness.Shown.{Shown};
-ghost use Rattle.rule_periods.specs.declared.grant.Grant.{Grant as GrantData};
 ghost use Rattle.rule_periods.specs.declared.period.Length.TheVariants as stated;
-ghost use Rattle.rule_periods.specs.Words.{DeadlineRowView, is_grant_length, is_in_hours};
+ghost use Rattle.rule_periods.specs.Words.{DeadlineRowView};
 ghost use Rattle.deadline_reasons.specs.Row.{length_of, adds_three};
 ghost use Rattle.deadline_reasons.specs.Standing.{ToCome, Unstarted, Counting, Ended};
 ghost use Rattle.deadline_reasons.specs.Inside.Leading.{LeadsOn, with_day};
 
-use crate::access::close;
+use crate::extended::finish_days;
 use crate::look::{away_from_event, covered_day, look_for};
 use crate::reason::{Reason, push};
 use crate::row::{adding_kind, event_day};
 use court_clock::{Clock, Day, Direction};
 use court_days::Days;
-use rule_periods::{DeadlineRow, Grant};
+use rule_periods::DeadlineRow;
 use std::alloc::AllocError;
 
 /// The days that are added after service by mail, on the clerk or by other means (Fed. R. Civ. P. 6(d)).
@@ -38,8 +37,7 @@ pub(crate) fn push_days(
     push(reasons, Reason::Excluded(event))?;
     let expiry = count(days, reasons, event, n, row.period().direction())?;
     let last = three_more(days, row, reasons, expiry)?;
-    let extended = extend_all(days, row, reasons, last)?;
-    close(days, clock, row, reasons, extended)
+    finish_days(days, clock, row, reasons, last)
 }
 
 /// Adds the reasons of a deadline for which an order sets the day on which it ends.
@@ -54,12 +52,11 @@ pub(crate) fn push_set_day(
 {
     let day = row.event().day();
     push(reasons, Reason::Set(day))?;
-    let extended = extend_all(days, row, reasons, Some(day))?;
-    close(days, clock, row, reasons, extended)
+    finish_days(days, clock, row, reasons, Some(day))
 }
 
 /// Counts `n` days, and looks for the last day from there.
-fn count(
+pub(crate) fn count(
     days: &Days,
     reasons: &mut Vec<Reason>,
     from: Day,
@@ -111,55 +108,4 @@ fn three_more(
     };
     push(reasons, Reason::ThreeAdded(kind))?;
     count(days, reasons, day, ADDED_DAYS, Direction::After)
-}
-
-/// Goes on by each extension in turn.
-fn extend_all(
-    days: &Days,
-    row: &DeadlineRow,
-    reasons: &mut Vec<Reason>,
-    last: Option<Day>,
-) -> Result<Option<Day>, AllocError>
-    requires { is_in_hours row.now.period ≡ false }
-    ensures { (clock : ClockView) → IfOk result (λ extended. LeadsOn days.now clock row.now reasons.old.items reasons.new.items (with_day last (record { three = false; grants = row.now.grants })) (with_day extended (record { three = false; grants = [] }))) }
-{
-    let mut extended = last;
-    for grant in row.grants() {
-        extended = extend(days, reasons, extended, *grant)?;
-    }
-    Ok(extended)
-}
-
-/// Goes on by one extension, or to the day that an order sets.
-fn extend(
-    days: &Days,
-    reasons: &mut Vec<Reason>,
-    last: Option<Day>,
-    grant: Grant,
-) -> Result<Option<Day>, AllocError>
-    requires { is_grant_length grant ≡ true }
-    ensures { (clock : ClockView) (row : DeadlineRowView) (grants : List GrantData) → is_in_hours row.period ≡ false → IfOk result (λ extended. LeadsOn days.now clock row reasons.old.items reasons.new.items (with_day last (record { three = false; grants = grant ∷ grants })) (with_day extended (record { three = false; grants = grants }))) }
-{
-    match grant {
-        Grant::ByDays(n) => {
-            let Some(day) = last else {
-                push(reasons, Reason::NotExtended(grant))?;
-                return Ok(None);
-            };
-            push(reasons, Reason::Extended(grant))?;
-            count(days, reasons, day, n, Direction::After)
-        }
-        Grant::Until(day) => {
-            push(reasons, Reason::Extended(grant))?;
-            Ok(Some(day))
-        }
-        Grant::Reset(day) => {
-            push(reasons, Reason::Extended(grant))?;
-            Ok(Some(day))
-        }
-        Grant::ByHours(_) | Grant::ResetAt(_) => {
-            push(reasons, Reason::NotExtended(grant))?;
-            Ok(None)
-        }
-    }
 }

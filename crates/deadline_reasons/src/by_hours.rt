@@ -1,24 +1,25 @@
 //! The reasons of a period that is stated in hours, and of a time of day that an order sets.
 
-ghost use Rattle.std.specs.Prelude.{◌≡◌, ◌<◌, ◌≤◌, ◌+ℤ◌, ◌&&◌, true, false, [], ◌∷◌, List, IfSome, IfNone, IfOk};
+ghost use Rattle.std.specs.Prelude.{◌≡◌, ◌<◌, ◌≤◌, ◌+ℤ◌, ◌&&◌, true, false, [], List, IfSome, IfNone, IfOk};
 ghost use Rattle.std.specs.List.{list_any};
 ghost use Rattle.court_clock.specs.Words.{IsInstantSecond, offset_seconds};
 ghost use Rattle.rule6.specs.declared.timeliness.Shown.{Shown};
 ghost use Rattle.rule6.specs.Words.{hours_from, meets_last_hour};
 ghost use Rattle.rule_periods.specs.declared.grant.Grant.{Grant as GrantData};
 ghost use Rattle.rule_periods.specs.declared.period.Length.TheVariants as stated;
-ghost use Rattle.rule_periods.specs.Words.{DeadlineRowView, is_grant_length, is_in_hours};
+ghost use Rattle.rule_periods.specs.Words.{DeadlineRowView};
 ghost use Rattle.deadline_reasons.specs.Passing.{IsFirstOutage, away_from_event, day_later, for_access};
 ghost use Rattle.deadline_reasons.specs.Row.{length_of, needs_access, access_holidays};
 ghost use Rattle.deadline_reasons.specs.Standing.{Aim, Hour, AccessibleHour, Unstarted, CountingHours, HoursEnd, Looking, RunsUntil, MovedUntil, Nowhere, Ended};
 ghost use Rattle.deadline_reasons.specs.Inside.Leading.{LeadsOn, with_instant, moved_to};
 
+use crate::extended::finish_hours;
 use crate::look::{Look, away_from_event, day_later, for_access, look_for};
 use crate::reason::{Reason, push};
 use crate::row::{access_holidays, needs_access};
 use court_clock::{Clock, Day, Direction, Instant};
 use court_days::{Days, Outage};
-use rule_periods::{DeadlineRow, Grant};
+use rule_periods::DeadlineRow;
 use rule6::meets_last_hour;
 use std::alloc::AllocError;
 
@@ -41,8 +42,7 @@ pub(crate) fn push_hours(
     let begins = clock.instant_of(event.day(), 60 * u32::from(event.minute()));
     push(reasons, Reason::HoursFrom(begins))?;
     let end = count(days, clock, reasons, begins, h, row.period().direction())?;
-    let extended = extend_all(days, clock, row, reasons, end)?;
-    close(days, clock, row, reasons, extended)
+    finish_hours(days, clock, row, reasons, end)
 }
 
 /// Adds the reasons of a deadline for which an order sets the time at which it ends.
@@ -58,12 +58,11 @@ pub(crate) fn push_set_time(
     let event = row.event();
     let end = clock.instant_of(event.day(), 60 * u32::from(event.minute()));
     push(reasons, Reason::SetAt(end))?;
-    let extended = extend_all(days, clock, row, reasons, Some(end))?;
-    close(days, clock, row, reasons, extended)
+    finish_hours(days, clock, row, reasons, Some(end))
 }
 
 /// Counts `h` hours, and looks for the day on which they end.
-fn count(
+pub(crate) fn count(
     days: &Days,
     clock: &Clock,
     reasons: &mut Vec<Reason>,
@@ -157,78 +156,24 @@ fn same_time(
     Ok(Some(instant))
 }
 
-/// Goes on by each extension in turn.
-fn extend_all(
+/// Ends a time that runs until an instant.
+pub(crate) fn close_at(
     days: &Days,
     clock: &Clock,
     row: &DeadlineRow,
     reasons: &mut Vec<Reason>,
-    end: Option<Instant>,
-) -> Result<Option<Instant>, AllocError>
-    requires { is_in_hours row.now.period ≡ true }
-    ensures { IfOk result (λ extended. LeadsOn days.now clock.now row.now reasons.old.items reasons.new.items (with_instant end row.now.grants) (with_instant extended [])) }
-{
-    let mut extended = end;
-    for grant in row.grants() {
-        extended = extend(days, clock, reasons, extended, *grant)?;
-    }
-    Ok(extended)
-}
-
-/// Goes on by one extension, or to the time that an order sets.
-fn extend(
-    days: &Days,
-    clock: &Clock,
-    reasons: &mut Vec<Reason>,
-    end: Option<Instant>,
-    grant: Grant,
-) -> Result<Option<Instant>, AllocError>
-    requires { is_grant_length grant ≡ true }
-    ensures { (row : DeadlineRowView) (grants : List GrantData) → is_in_hours row.period ≡ true → IfOk result (λ extended. LeadsOn days.now clock.now row reasons.old.items reasons.new.items (with_instant end (grant ∷ grants)) (with_instant extended grants)) }
-{
-    match grant {
-        Grant::ByHours(h) => {
-            let Some(from) = end else {
-                push(reasons, Reason::NotExtended(grant))?;
-                return Ok(None);
-            };
-            push(reasons, Reason::Extended(grant))?;
-            count(days, clock, reasons, from, h, Direction::After)
-        }
-        Grant::ResetAt(at) => {
-            let instant = clock.instant_of(at.day(), 60 * u32::from(at.minute()));
-            push(reasons, Reason::Extended(grant))?;
-            Ok(Some(instant))
-        }
-        Grant::ByDays(_) | Grant::Until(_) | Grant::Reset(_) => {
-            push(reasons, Reason::NotExtended(grant))?;
-            Ok(None)
-        }
-    }
-}
-
-/// Ends a period in hours.
-fn close(
-    days: &Days,
-    clock: &Clock,
-    row: &DeadlineRow,
-    reasons: &mut Vec<Reason>,
-    end: Option<Instant>,
+    end: Instant,
 ) -> Result<(), AllocError>
-    ensures { IfOk result (λ _. (shown : Shown) × LeadsOn days.now clock.now row.now reasons.old.items reasons.new.items (with_instant end []) (Ended shown)) }
+    ensures { IfOk result (λ _. (shown : Shown) × LeadsOn days.now clock.now row.now reasons.old.items reasons.new.items (RunsUntil end []) (Ended shown)) }
 {
-    let Some(instant) = end else {
-        push(reasons, Reason::Beyond)?;
+    let Some(outage) = shutting_outage(days, clock, row, end) else {
+        push(reasons, Reason::UntilInstant(end))?;
         return Ok(());
     };
-    let Some(outage) = shutting_outage(days, clock, row, instant) else {
-        push(reasons, Reason::UntilInstant(instant))?;
-        return Ok(());
-    };
-    close_later(days, clock, row, reasons, instant, outage)
+    close_later(days, clock, row, reasons, end, outage)
 }
 
-/// Ends a period in hours, where the clerk's office was inaccessible during its last hour.
+/// Ends a time that runs until an instant in whose last hour the clerk's office was inaccessible.
 fn close_later(
     days: &Days,
     clock: &Clock,

@@ -6,6 +6,7 @@ mod by_days;
 mod by_hours;
 mod cause;
 mod derivation;
+mod extended;
 mod laws;
 mod look;
 mod reason;

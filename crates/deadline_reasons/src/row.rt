@@ -1,7 +1,7 @@
 //! What a deadline says of its own counting.
 
 ghost use Rattle.std.specs.Prelude.{◌≡◌, true, false, Some, IfSome, IfNone};
-ghost use Rattle.rule_periods.specs.Words.{is_length};
+ghost use Rattle.rule_periods.specs.Words.{is_in_hours, is_length};
 ghost use Rattle.deadline_reasons.specs.Row.{length_of, event_day, adds_three, needs_access, access_holidays};
 
 use court_clock::{Day, Direction};
@@ -30,6 +30,13 @@ pub(crate) fn event_day(row: &DeadlineRow) -> Day
         Period::Rule(_) => runs_from(row),
         Period::Entered(_) => row.event().day(),
     }
+}
+
+/// Whether the period is in hours, so that its time is extended by hours.
+pub(crate) fn in_hours(row: &DeadlineRow) -> bool
+    ensures { result ≡ is_in_hours row.now.period }
+{
+    row.period().is_in_hours()
 }
 
 /// The kind of service that adds three days, if one does (Fed. R. Civ. P. 6(d)).

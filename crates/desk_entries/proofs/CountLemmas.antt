@@ -13,7 +13,7 @@ use Rattle.docket_rows.specs.declared.command.Command.{Command as CommandOf}
 use Rattle.docket_rows.specs.declared.command.Command.TheVariants.{OpenCase, Start, FileAct, Extend, Motion, Book, MoveHearing, Cancel, Holiday, Inaccessible, Fact}
 use Rattle.docket_rows.specs.declared.fact.Fact.TheVariants.{Ended, Resumed, Closed, Reopened, Ruled, Assigned, Titled, Labelled}
 use Rattle.docket_rows.specs.declared.refusal.Refusal.{Refusal}
-use Rattle.docket_rows.specs.Words.{CourtSetup, DocketedDeadline, DocketedMotion, Rows, answer_if_made, answered, is_deadline, is_deadline_in, is_motion_in, motion_checks, motion_refusal, next_deadline, next_motion, parts_of, refusal, rows_after, start_deadline_checks, start_deadline_refusal, started, step, with_deadline}
+use Rattle.docket_rows.specs.Words.{CourtSetup, DocketedDeadline, DocketedMotion, Rows, answer_if_made, answered, is_deadline, is_deadline_in, is_motion_in, motion_checks, motion_refusal, next_deadline, next_motion, parts_of, refusal, rows_after, start_deadline_checks, start_deadline_refusal, started, step, with_deadline, with_fact}
 use Rattle.docket_laws.proofs.CallerLemmas.{none_of, when-not-None}
 use Rattle.docket_laws.proofs.LawfulLemmas.SeenLemmas.{count_deadlines_in, count_motions_in, is_open_of}
 use Rattle.docket_laws.proofs.PartsLists.{filter-map}
@@ -78,7 +78,8 @@ after_command rows (Cancel case motion) c kind = of_same rows (rows_after rows (
 after_command rows (Holiday day list) c kind = of_same rows (rows_after rows (Holiday day list)) c kind refl refl
 after_command rows (Inaccessible day from to) c kind = of_same rows (rows_after rows (Inaccessible day from to)) c kind refl refl
 after_command rows (Fact case (Ended deadline why dated)) c kind = of_same rows (rows_after rows (Fact case (Ended deadline why dated))) c kind refl refl
-after_command rows (Fact case (Resumed deadline dated)) c kind = of_same rows (rows_after rows (Fact case (Resumed deadline dated))) c kind refl refl
+after_command rows (Fact case (Resumed deadline day dated)) c counted.Deadline = of_changed (with_fact case (Resumed deadline day dated) rows) case deadline c _ counted.Deadline
+after_command rows (Fact case (Resumed deadline day dated)) c counted.Motion = of_changed (with_fact case (Resumed deadline day dated) rows) case deadline c (λ (row : DeadlineRowView). row) counted.Motion
 after_command rows (Fact case (Closed why dated)) c kind = of_same rows (rows_after rows (Fact case (Closed why dated))) c kind refl refl
 after_command rows (Fact case (Reopened dated)) c kind = of_same rows (rows_after rows (Fact case (Reopened dated))) c kind refl refl
 after_command rows (Fact case (Ruled motion how dated)) c kind = of_same rows (rows_after rows (Fact case (Ruled motion how dated))) c kind refl refl

@@ -12,8 +12,8 @@ use Rattle.row_forms.specs.declared.line.line.Line.{Line}
 use Rattle.row_forms.specs.declared.line.line.Line.TheVariants as line
 use Rattle.row_forms.specs.Line.Words.{fields_read, line_read}
 use Rattle.desk_register.specs.declared.standing.Standing.{Standing}
-use Rattle.desk_register.specs.Words.{most_clerks}
-use Rattle.desk_entries.specs.Export.{before_number, number_asked, row_placed, row_written, rows_written, said_placed, shown_as}
+use Rattle.desk_register.specs.Words.{before_number, most_clerks}
+use Rattle.desk_entries.specs.Export.{asked_placed, number_asked, row_placed, row_suspended, row_written, rows_written, said_placed, shown_as, suspender_in, work_placed}
 use Rattle.desk_entries.specs.Laws.{RowsAreWrittenAsTheyAre}
 
 same_number : (n : ℕ) → nat_eq n n ≡ true
@@ -23,10 +23,17 @@ at_its_place : (before : ℕ) (number : Option ℕ) (fields : List (List ℕ)) �
 at_its_place before None fields = refl
 at_its_place before (Some number) fields = rw (same_number number) refl
 
+at_its_motion : (asked : Work) (motion : Option ℕ) (fields : List (List ℕ)) → row_suspended asked asked motion motion fields ≡ work_placed asked asked fields
+at_its_motion asked None fields = refl
+at_its_motion asked (Some motion) fields = rw (same_number motion) refl
+
 none_placed : (said : Line) (fields : List (List ℕ)) → said_placed [] said fields ≡ shown_as said fields
 none_placed line.Blank fields = refl
 none_placed (line.Fault cause) fields = refl
-none_placed (line.Row row) fields = ap (λ (w : Work). row_placed (before_number row.work) (number_asked row.work) (number_asked w) fields) (sym (placed_alone [] row.work refl)) ∙ at_its_place (before_number row.work) (number_asked row.work) fields
+none_placed (line.Row row) fields =
+    ap (λ (w : Work). asked_placed row.work w fields) (sym (placed_alone [] row.work refl))
+    ∙ at_its_motion row.work (suspender_in row.work) fields
+    ∙ at_its_place (before_number row.work) (number_asked row.work) fields
 
 pub rows_as_they_are : RowsAreWrittenAsTheyAre
 unfolding row_written

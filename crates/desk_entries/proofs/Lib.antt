@@ -1,4 +1,3 @@
-pub mod CalledLemmas
 pub mod CallerLemmas
 pub mod CountLemmas
 pub mod DocketedLemmas

@@ -40,24 +40,24 @@ unfolding told_to left_by lines_from rows_in docketed_after
 none_run court kept = record { told = refl; docket = ap (docketed_by (plain court)) (append-nil kept) }
 
 -- a line in which there is no fault is read as it is
-reads_plain : (court : CourtView) (kept : List (List ℕ)) (bytes : List ℕ) (said : Line) → line_read most_clerks (names_of court) bytes ≡ said → lacks_field 3 said ≡ false → lacks_field 4 said ≡ false → reading_at (plain court) kept bytes ≡ as_it_is bytes
-reads_plain court kept bytes said is third fourth = other_lines (plain court) kept bytes (ap (lacks_field 3) is ∙ third) (ap (lacks_field 4) is ∙ fourth)
+reads_plain : (court : CourtView) (kept : List (List ℕ)) (bytes : List ℕ) (said : Line) → line_read most_clerks (names_of court) bytes ≡ said → lacks_field 3 said ≡ false → lacks_field 4 said ≡ false → lacks_field 5 said ≡ false → reading_at (plain court) kept bytes ≡ as_it_is bytes
+reads_plain court kept bytes said is third fourth fifth = other_lines (plain court) kept bytes (ap (lacks_field 3) is ∙ third) (ap (lacks_field 4) is ∙ fourth) (ap (lacks_field 5) is ∙ fifth)
 
--- a line that lacks no third field and no fourth is answered as its plain line is
-answered_plain : (under : Standing) (kept : List (List ℕ)) (bytes : List ℕ) (said : Line) → line_read most_clerks (names_of under.court) bytes ≡ said → lacks_field 3 said ≡ false → lacks_field 4 said ≡ false → answers under kept bytes ≡ plain_answers under kept bytes (reading_at under kept bytes).text
+-- a line that lacks no third field, no fourth and no fifth is answered as its plain line is
+answered_plain : (under : Standing) (kept : List (List ℕ)) (bytes : List ℕ) (said : Line) → line_read most_clerks (names_of under.court) bytes ≡ said → lacks_field 3 said ≡ false → lacks_field 4 said ≡ false → lacks_field 5 said ≡ false → answers under kept bytes ≡ plain_answers under kept bytes (reading_at under kept bytes).text
 unfolding answers
-answered_plain under kept bytes said is third fourth =
+answered_plain under kept bytes said is third fourth fifth =
     ap (λ (special : Option LineCause). told_or under kept bytes special (plain_answers under kept bytes (reading_at under kept bytes).text))
-    (nothing_special under kept bytes (ap (lacks_field 3) is ∙ third) (ap (lacks_field 4) is ∙ fourth))
+    (nothing_special under kept bytes (ap (lacks_field 3) is ∙ third) (ap (lacks_field 4) is ∙ fourth) (ap (lacks_field 5) is ∙ fifth))
 
 -- a line that says nothing
 blank_run : (court : CourtView) (kept lines : List (List ℕ)) (bytes : List ℕ) → line_read most_clerks (names_of court) bytes ≡ line.Blank → IsRun court kept lines → IsRun court kept (bytes ∷ lines)
 unfolding told_to left_by rows_in leaves answers plain_answers
 blank_run court kept lines bytes blank run =
-    let as_is = reads_plain court kept bytes line.Blank blank refl refl in
+    let as_is = reads_plain court kept bytes line.Blank blank refl refl refl in
     let left : leaves (plain court) kept bytes ≡ [] =
     ap (λ (r : Reading). with_name r.name (plain_leaves (plain court) kept r.text)) as_is ∙ ap (with_name None) (plain_none (plain court) kept bytes line.Blank (ap (within kept) blank) refl) in
-    let told : answers (plain court) kept bytes ≡ [] = answered_plain (plain court) kept bytes line.Blank blank refl refl ∙ ap (λ (r : Reading). plain_answers (plain court) kept bytes r.text) as_is ∙ ap (λ (l : Line). told_of (plain court) kept bytes (within kept l)) blank in
+    let told : answers (plain court) kept bytes ≡ [] = answered_plain (plain court) kept bytes line.Blank blank refl refl refl ∙ ap (λ (r : Reading). plain_answers (plain court) kept bytes r.text) as_is ∙ ap (λ (l : Line). told_of (plain court) kept bytes (within kept l)) blank in
     let rows : rows_in (names_of court) (bytes ∷ lines) ≡ rows_in (names_of court) lines = ap (λ (l : Line). row_in l ++ rows_in (names_of court) lines) blank in
     let same : kept ++ leaves (plain court) kept bytes ≡ kept = ap (λ (l : List (List ℕ)). kept ++ l) left ∙ append-nil kept in
     record {
@@ -120,7 +120,7 @@ row_run : (court : CourtView) (kept lines : List (List ℕ)) (bytes : List ℕ) 
     → IsRun court (kept ++ entry_of (plain court) kept (fields_read bytes) row ∷ []) lines → IsRun court kept (bytes ∷ lines)
 unfolding told_to left_by rows_in leaves answers plain_answers lines_from docketed_after
 row_run court kept lines bytes row begun room said names run =
-    let as_is = reads_plain court kept bytes (line.Row row) said refl refl in
+    let as_is = reads_plain court kept bytes (line.Row row) said refl refl refl in
     let entry = entry_of (plain court) kept (fields_read bytes) row in
     let spelled = says_row most_clerks (names_of court) bytes row said in
     let none = is_no_note (names_of court) (fields_read bytes) row (answer_to (plain court) kept row) spelled in
@@ -131,7 +131,7 @@ row_run court kept lines bytes row begun room said names run =
     let is : within kept (line_read most_clerks (names_of court) bytes) ≡ line.Row row = ap (within kept) said ∙ rw room refl in
     let left : leaves (plain court) kept bytes ≡ entry ∷ [] = ap (λ (r : Reading). with_name r.name (plain_leaves (plain court) kept r.text)) as_is ∙ ap (with_name None) (plain_one (plain court) kept bytes row is room) in
     let told : answers (plain court) kept bytes ≡ line_of court (next_number kept) row.clerk (reply_to (setup_of court) (docketed_by (plain court) kept) row.work) =
-    answered_plain (plain court) kept bytes (line.Row row) said refl refl ∙ ap (λ (r : Reading). plain_answers (plain court) kept bytes r.text) as_is ∙ ap (told_of (plain court) kept bytes) is ∙ no_names_answer court kept row names in
+    answered_plain (plain court) kept bytes (line.Row row) said refl refl refl ∙ ap (λ (r : Reading). plain_answers (plain court) kept bytes r.text) as_is ∙ ap (told_of (plain court) kept bytes) is ∙ no_names_answer court kept row names in
     let rows : rows_in (names_of court) (bytes ∷ lines) ≡ row ∷ rows_in (names_of court) lines = ap (λ (l : Line). row_in l ++ rows_in (names_of court) lines) said in
     let then = docketed_by (plain court) (kept ++ entry ∷ []) in
     let others = rows_in (names_of court) lines in

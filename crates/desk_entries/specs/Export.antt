@@ -7,8 +7,9 @@ use Rattle.case_numbers.specs.Words.{after_name}
 use Rattle.docket_rows.specs.declared.command.Command.{Command as CommandOf}
 use Rattle.docket_rows.specs.declared.command.Command.TheVariants as command
 use Rattle.docket_rows.specs.declared.command.Subject.{Subject}
-use Rattle.docket_rows.specs.declared.fact.Fact.TheVariants.{Labelled}
-use Rattle.docket_rows.specs.Words.{subject_of}
+use Rattle.docket_rows.specs.declared.fact.Fact.{Fact}
+use Rattle.docket_rows.specs.declared.fact.Fact.TheVariants.{Ended}
+use Rattle.docket_rows.specs.Words.{subject_of, suspended_by}
 use Rattle.row_forms.specs.declared.row.Work.{Work}
 use Rattle.row_forms.specs.declared.row.Work.TheVariants.{Command, Query}
 use Rattle.row_forms.specs.Words.{names_of}
@@ -19,7 +20,7 @@ use Rattle.row_forms.specs.declared.line.line.Line.TheVariants as line
 use Rattle.row_forms.specs.Line.Words.{fields_read, line_read}
 use Rattle.desk_numbers.specs.Strikes.Words.{is_struck}
 use Rattle.desk_register.specs.declared.standing.Standing.{Standing}
-use Rattle.desk_register.specs.Words.{most_clerks}
+use Rattle.desk_register.specs.Words.{before_number, most_clerks, with_suspender}
 
 -- the number of the deadline or the motion that a command names
 abbrev pub number_in : CommandOf → Option ℕ
@@ -29,16 +30,7 @@ abbrev pub number_asked : Work → Option ℕ
 number_asked (Command command) = number_in command
 number_asked (Query query) = None
 
--- how many fields of a row come before that number: a row that says what one is called says before it which of the two it is
-abbrev pub before_in : CommandOf → ℕ
-before_in (command.Fact case (Labelled counted number)) = 4
-before_in command = 3
-
-abbrev pub before_number : Work → ℕ
-before_number (Command command) = before_in command
-before_number (Query query) = 3
-
--- A row with these fields that names this number after so many of them, where what has the number is at this place: with the place
+-- A row with these fields that names this number after `before` of them, where what has the number is at this place: with the place
 -- in the number's field, where it is another. A number that nothing has any more is at a place apart, and its row, which was
 -- refused, is left out.
 abbrev pub row_placed : (before : ℕ) → (number place : Option ℕ) → (fields : List (List ℕ)) → List ℕ
@@ -49,11 +41,41 @@ row_placed before (Some number) (Some place) fields =
     else if is_apart place then []
     else row_text default_writer (take before fields ++ decimal place ∷ drop (before + 1) fields)
 
+-- the motion that a row says suspends a deadline
+abbrev pub suspender_by : Fact → Option ℕ
+suspender_by (Ended deadline why dated) = suspended_by why
+suspender_by fact = None
+
+abbrev pub suspender_of : CommandOf → Option ℕ
+suspender_of (command.Fact case fact) = suspender_by fact
+suspender_of other = None
+
+abbrev pub suspender_in : Work → Option ℕ
+suspender_in (Command command) = suspender_of command
+suspender_in (Query query) = None
+
+-- a row with these fields that asks for this, where by places it asks for that
+abbrev pub work_placed : (asked placed : Work) → (fields : List (List ℕ)) → List ℕ
+work_placed asked placed fields = row_placed (before_number asked) (number_asked asked) (number_asked placed) fields
+
+-- The same of one that says that this motion suspends a deadline, where the motion is at this place: with the place in its field, where
+-- it is another.
+abbrev pub row_suspended : (asked placed : Work) → (motion place : Option ℕ) → (fields : List (List ℕ)) → List ℕ
+row_suspended asked placed None place fields = work_placed asked placed fields
+row_suspended asked placed (Some motion) None fields = work_placed asked placed fields
+row_suspended asked placed (Some motion) (Some place) fields =
+    if nat_eq motion place then work_placed asked placed fields
+    else if is_apart place then []
+    else work_placed asked placed (with_suspender fields place)
+
+abbrev pub asked_placed : (asked placed : Work) → (fields : List (List ℕ)) → List ℕ
+asked_placed asked placed fields = row_suspended asked placed (suspender_in asked) (suspender_in placed) fields
+
 -- what is written of a line that says this
 abbrev pub said_placed : List Moved → Line → (fields : List (List ℕ)) → List ℕ
 said_placed moved line.Blank fields = []
 said_placed moved (line.Fault cause) fields = []
-said_placed moved (line.Row row) fields = row_placed (before_number row.work) (number_asked row.work) (number_asked (placed moved row.work)) fields
+said_placed moved (line.Row row) fields = asked_placed row.work (placed moved row.work) fields
 
 -- what is written of the row of that number, whose entry this is, where this is what isn't at the place of its number
 unfoldable pub row_written : Standing → List Moved → (number : ℕ) → (entry : List ℕ) → List ℕ

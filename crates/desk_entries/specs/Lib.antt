@@ -1,6 +1,5 @@
 pub mod Review
 pub mod Export
-pub mod Called
 pub mod Reported
 pub mod Past
 pub mod Docketed

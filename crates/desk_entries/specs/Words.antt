@@ -7,7 +7,7 @@ pub use Rattle.desk_entries.specs.Docketed.{AreHistory, HasDocketFault, HasFault
 pub use Rattle.desk_entries.specs.Follow.{GoingOnIsOpeningAnew, StandForTheSame, are_rows, goes_on}
 pub use Rattle.desk_entries.specs.Laws.{ARestoreLeavesTheDocket, AnswersAreTheRuns, RowsAreWrittenAsTheyAre, plain}
 unfoldable pub use Rattle.desk_entries.specs.Export.{row_written, rows_written}
-pub use Rattle.desk_entries.specs.Called.{called_standing}
+pub use Rattle.desk_register.specs.Words.{called_standing}
 pub use Rattle.desk_entries.specs.Reported.{ReportsAreOfTheDocket, rows_standing}
 unfoldable pub use Rattle.desk_entries.specs.Past.{rows_struck}
 pub use Rattle.desk_entries.specs.Past.{corrections_in, rows_refused}

@@ -1,12 +1,14 @@
 //! Rows as they are written for other programs.
 ghost use Rattle.std.specs.Prelude.{◌≡◌, ◌++◌, OnOk};
 ghost use Rattle.csv.specs.Records.{fields_of};
-ghost use Rattle.desk_entries.specs.Export.{before_in, before_number, number_asked, number_in, row_placed, row_written, said_placed};
+ghost use Rattle.desk_entries.specs.Export.{asked_placed, number_asked, number_in, row_placed, row_written, said_placed, suspender_by, suspender_in, suspender_of, work_placed};
 
 use case_numbers::after_name;
 use csv::StringRecord;
 use desk_numbers::{MovedNumbers, is_apart};
-use desk_register::{MOST_CLERKS, RowTypes, Standing, with_field};
+use desk_register::{
+    MOST_CLERKS, RowTypes, Standing, before_number, with_field, with_suspender,
+};
 use docket_rows::{Command, Fact};
 use row_forms::{Line, Work, push_row_text, read_line};
 use std::alloc::{AllocError, Global};
@@ -31,30 +33,7 @@ fn number_asked(work: &Work) -> Option<u32>
     }
 }
 
-// How many fields of the row of a command come before that number.
-fn before_in(command: &Command) -> u8
-    ensures { result ≡ before_in command.now }
-{
-    match command {
-        Command::Fact {
-            fact: Fact::Labelled { .. },
-            ..
-        } => 4,
-        _ => 3,
-    }
-}
-
-// How many fields of a row come before that number.
-fn before_number(work: &Work) -> u8
-    ensures { result ≡ before_number work.now }
-{
-    match work {
-        Work::Command(command) => before_in(command),
-        Work::Query(_) => 3,
-    }
-}
-
-// Adds a row with these fields that names this number after so many of them, where what has the number is at this place.
+// Adds a row with these fields that names this number after `before` of them, where what has the number is at this place.
 fn push_placed(
     alloc: Global,
     text: &mut Vec<u8>,
@@ -80,6 +59,83 @@ fn push_placed(
     push_row_text(text, &with_field(alloc, fields, before, place)?)
 }
 
+// The number of the motion that a fact says suspends a deadline, if it says one.
+fn suspender_by(fact: Fact) -> Option<u32>
+    ensures { result ≡ suspender_by fact }
+{
+    match fact {
+        Fact::Ended { why, .. } => why.suspended_by(),
+        _ => None,
+    }
+}
+
+// The same of a command.
+fn suspender_of(command: &Command) -> Option<u32>
+    ensures { result ≡ suspender_of command.now }
+{
+    match command {
+        Command::Fact { fact, .. } => suspender_by(*fact),
+        _ => None,
+    }
+}
+
+// The same of a row.
+fn suspender_in(work: &Work) -> Option<u32>
+    ensures { result ≡ suspender_in work.now }
+{
+    match work {
+        Work::Command(command) => suspender_of(command),
+        Work::Query(_) => None,
+    }
+}
+
+// Adds a row with these fields that asks for this, where by places it asks for that.
+fn push_work(
+    alloc: Global,
+    text: &mut Vec<u8>,
+    asked: &Work,
+    placed: &Work,
+    fields: &StringRecord,
+) -> Result<(), AllocError>
+    ensures { OnOk result (text.new.items ≡ text.old.items ++ work_placed asked.now placed.now (fields_of fields.now)) }
+{
+    let before = before_number(asked);
+    push_placed(
+        alloc,
+        text,
+        before,
+        number_asked(asked),
+        number_asked(placed),
+        fields,
+    )
+}
+
+// The same of a row that may say that a motion suspends a deadline.
+fn push_asked(
+    alloc: Global,
+    text: &mut Vec<u8>,
+    asked: &Work,
+    placed: &Work,
+    fields: &StringRecord,
+) -> Result<(), AllocError>
+    ensures { OnOk result (text.new.items ≡ text.old.items ++ asked_placed asked.now placed.now (fields_of fields.now)) }
+{
+    let Some(motion) = suspender_in(asked) else {
+        return push_work(alloc, text, asked, placed, fields);
+    };
+    let Some(at) = suspender_in(placed) else {
+        return push_work(alloc, text, asked, placed, fields);
+    };
+    if motion == at {
+        return push_work(alloc, text, asked, placed, fields);
+    }
+    if is_apart(at) {
+        return Ok(());
+    }
+    let fields = with_suspender(alloc, fields, at)?;
+    push_work(alloc, text, asked, placed, &fields)
+}
+
 // Adds what is written of a line that says this and has these fields.
 fn push_said(
     alloc: Global,
@@ -92,11 +148,7 @@ fn push_said(
 {
     let _types: RowTypes = None;
     match said {
-        Line::Row(row) => {
-            let place = number_asked(&moved.place(&row.work));
-            let before = before_number(&row.work);
-            push_placed(alloc, text, before, number_asked(&row.work), place, fields)
-        }
+        Line::Row(row) => push_asked(alloc, text, &row.work, &moved.place(&row.work), fields),
         _ => Ok(()),
     }
 }

@@ -21,7 +21,7 @@ fn are_rows(entries: &[Vec<u8>]) -> bool
     true
 }
 
-// Whether a journal of so many entries has room for so many more.
+// Whether a journal of that many entries has room for that many more.
 fn has_room(count: u32, more: usize) -> bool
     ensures { IsTrue result ↔ (count + more ≤ most_entries) }
 {

@@ -3,7 +3,6 @@
 //! types and functions from here.
 #![tactic(auto)]
 
-mod called;
 mod docketed;
 mod export;
 mod fault;

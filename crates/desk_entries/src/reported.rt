@@ -1,12 +1,10 @@
 //! The rows that stand, as reports take them.
 ghost use Rattle.std.specs.Prelude.{◌≡◌, ◌<◌, ◌≤◌, ◌++◌, ◌∷◌, [], ℕ, List, length, map, IfOk, OnOk};
 ghost use Rattle.desk_journal.specs.Words.{batch_of};
-ghost use Rattle.desk_register.specs.Words.{StandsAt, change_in, most_entries, note_in};
-ghost use Rattle.desk_entries.specs.Called.{called_as, called_standing};
+ghost use Rattle.desk_register.specs.Words.{StandsAt, called_standing, change_in, most_entries, note_in};
 ghost use Rattle.desk_entries.specs.Review.{changes_by};
 ghost use Rattle.desk_entries.specs.Reported.{rows_standing, said_standing, standing_as};
 
-use crate::called::note_said;
 use case_numbers::after_name;
 use csv::StringRecord;
 use desk_numbers::{CalledTexts, MovedNumbers};
@@ -51,7 +49,7 @@ pub(crate) fn push_said(
     Ok(())
 }
 
-// Adds the row that an entry is, if it is one that stands, and what it calls something, before the register takes it.
+// Adds the row that an entry is, if it is one that stands, before the register takes it.
 fn push_standing(
     alloc: Global,
     under: &Standing,
@@ -59,10 +57,8 @@ fn push_standing(
     entry: &[u8],
     fields: &mut StringRecord,
     rows: &mut Vec<NumberedRow>,
-    called: &mut CalledTexts,
 ) -> Result<(), AllocError>
-    ensures rows { (kept : List (List ℕ)) → StandsAt under.now register.now kept → OnOk result (rows.new.items ≡ rows.old.items ++ standing_as (note_in entry.now) under.now kept entry.now) }
-    ensures called { (kept : List (List ℕ)) → StandsAt under.now register.now kept → OnOk result (called.new ≡ called_as (note_in entry.now) under.now kept called.old entry.now) }
+    ensures { (kept : List (List ℕ)) → StandsAt under.now register.now kept → OnOk result (rows.new.items ≡ rows.old.items ++ standing_as (note_in entry.now) under.now kept entry.now) }
 {
     let _types: RowTypes = None;
     if !is_row(entry) {
@@ -75,7 +71,6 @@ fn push_standing(
     let apart = register.numbers().moved();
     let said = read_line(alloc, after_name(entry), MOST_CLERKS, &under.court, fields)?;
     push_said(rows, apart, number, &said)?;
-    note_said(alloc, register.docket(), apart, &said, fields, called)?;
     Ok(())
 }
 
@@ -98,7 +93,6 @@ pub fn standing_rows(
     let mut fields = StringRecord::new(alloc);
     let mut rows = Vec::new(alloc);
     let mut differences = Vec::new(alloc);
-    let mut called = CalledTexts::new(alloc);
     for place in 1..entries.len() {
         push_standing(
             alloc,
@@ -107,7 +101,6 @@ pub fn standing_rows(
             &entries[place],
             &mut fields,
             &mut rows,
-            &mut called,
         )?;
         decide_entry(
             alloc,
@@ -117,6 +110,7 @@ pub fn standing_rows(
             &mut differences,
         )?;
     }
+    let called = register.into_called();
     Ok(Reported {
         rows,
         differences,

@@ -10,6 +10,7 @@ unfoldable pub use Rattle.desk_numbers.specs.Numbers.{numbers_after}
 unfoldable pub use Rattle.desk_numbers.specs.Numbered.{numbered, placed}
 pub use Rattle.desk_numbers.specs.Moved.{is_apart, is_at, is_moved, number_of, place_apart}
 unfoldable pub use Rattle.desk_numbers.specs.Moved.{number_in}
-pub use Rattle.desk_numbers.specs.Numbered.{numbered_booking, numbered_refusal, numbered_sheet, numbered_view, placed_command}
+pub use Rattle.desk_numbers.specs.Numbered.{numbered_booking, numbered_ended, numbered_refusal, numbered_sheet, numbered_view, placed_command}
 pub use Rattle.desk_numbers.specs.Subjects.{found_in}
+pub use Rattle.desk_numbers.specs.Given.{last_given}
 pub use Rattle.desk_numbers.specs.Laws.{ANumberIsGivenOnce, ARowKeepsItsNumber, NothingMovesAtFirst, NumberAndPlaceGoTogether, OthersAreAtTheirPlaces, WithNoneMovedNothingChanges}

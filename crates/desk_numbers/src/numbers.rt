@@ -1,5 +1,6 @@
 //! The numbers of what rows start and enter, as they are decided one after another.
 ghost use Rattle.std.specs.Prelude.{◌≡◌, [], max, IfOk, OnOk};
+ghost use Rattle.desk_numbers.specs.Given.{last_given};
 ghost use Rattle.desk_numbers.specs.Numbers.{NumbersView, fitted, no_numbers, number_for, numbers_after, passed, with_number};
 
 use crate::given::Given;
@@ -55,6 +56,16 @@ impl RowNumbers {
         ensures { result.now ≡ self.now.given }
     {
         &self.given
+    }
+
+    /// What the last row gave, if it gave something.
+    pub fn last(&self) -> Option<Given>
+        ensures { result ≡ last_given self.now.given }
+    {
+        match self.given.last() {
+            Some(given) => *given,
+            None => None,
+        }
     }
 
     /// The numbers that rows keep from here on. `Err` says that memory ran out.

@@ -1,9 +1,9 @@
 //! Sheets and bookings, with the numbers of what they show.
 ghost use Rattle.std.specs.Prelude.{◌≡◌, map};
-ghost use Rattle.desk_numbers.specs.Numbered.{numbered_booking, numbered_deadline, numbered_motion, numbered_sheet};
+ghost use Rattle.desk_numbers.specs.Numbered.{numbered_booking, numbered_deadline, numbered_ended, numbered_ending, numbered_motion, numbered_sheet};
 
 use crate::moved::MovedNumbers;
-use docket_rows::{Counted, Sheet, SheetDeadline, SheetDeadlines, SheetMotion, SheetMotions};
+use docket_rows::{Counted, Ending, Sheet, SheetDeadline, SheetDeadlines, SheetMotion, SheetMotions};
 use hearing_slots::{Booking, Bookings};
 
 impl MovedNumbers {
@@ -39,6 +39,27 @@ impl MovedNumbers {
     {
         'list: for deadline in deadlines.iter_mut() {
             deadline.number = self.number_at(case, Counted::Deadline, deadline.number);
+            deadline.ended = self.number_ended(case, deadline.ended);
+        }
+    }
+
+    /// Why a deadline of a case was ended, with the number of the motion that suspends it.
+    pub fn number_ended(&self, case: u32, ended: Option<Ending>) -> Option<Ending>
+        ensures { result ≡ numbered_ended self.now case ended }
+    {
+        match ended {
+            Some(why) => Some(self.number_ending(case, why)),
+            None => None,
+        }
+    }
+
+    // The same of one that was ended.
+    fn number_ending(&self, case: u32, why: Ending) -> Ending
+        ensures { result ≡ numbered_ending self.now case why }
+    {
+        match why.suspended_by() {
+            Some(motion) => why.naming(self.number_at(case, Counted::Motion, motion)),
+            None => why,
         }
     }
 

@@ -136,10 +136,10 @@ changed_between now after entries next had has next_is had_is has_is =
     ∙ walked_between now after entries
 
 -- where there are none, there are no rows
-pub none_between : (rows : List ChangedRowView) → length rows ≡ 0 → rows ≡ []
+pub none_between : (rows : List ℕ) → length rows ≡ 0 → rows ≡ []
 none_between [] none = refl
 none_between (row ∷ rows) none = absurd (omega (arith, none))
 
 -- and where there are some, there are rows
-pub some_between : (rows : List ChangedRowView) (count : ℕ) → count ≡ length rows → (count ≡ 0 → ⊥) → rows ≡ [] → ⊥
+pub some_between : (rows : List ℕ) (count : ℕ) → count ≡ length rows → (count ≡ 0 → ⊥) → rows ≡ [] → ⊥
 some_between rows count is some none = some (is ∙ ap length none)

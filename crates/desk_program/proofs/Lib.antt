@@ -6,6 +6,7 @@ pub mod DeskLemmas
 pub mod FaultLemmas
 pub mod FaultWordLemmas
 pub mod LogJsonLemmas
+pub mod LogLastLemmas
 pub mod LogLemmas
 pub mod LogReadLemmas
 pub mod NoteLemmas
@@ -15,5 +16,6 @@ pub mod RowCaseLemmas
 pub mod RowsLemmas
 pub mod StruckLemmas
 pub mod TextLemmas
+pub mod TimeOrderLemmas
 pub mod TogetherLemmas
 pub mod TrialLemmas

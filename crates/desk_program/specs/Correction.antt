@@ -8,6 +8,7 @@ use Rattle.desk_program.specs.declared.entry_kind.EntryKind.{EntryKind}
 use Rattle.desk_program.specs.declared.entry_kind.EntryKind.TheVariants.{CourtFile, Restore, Row, Strike}
 use Rattle.desk_program.specs.Changed.{changes_between}
 use Rattle.desk_program.specs.ChangedText.{changes_text}
+use Rattle.desk_program.specs.Leave.{asking_between}
 use Rattle.desk_program.specs.LogText.{indented, kind_text}
 
 -- the docket of entries under what stands, as it is shown
@@ -30,13 +31,14 @@ head_text entries Row = []
 abbrev pub correction_text : (now after : Standing) → (entries : List (List ℕ)) → EntryKind → List ℕ
 correction_text now after entries kind = head_text entries kind ++ changes_text (changes_between now after entries) ++ shifts (shown_at now entries) (shown_at after entries)
 
--- It is written. Without leave no row is answered otherwise than now; that cases, deadlines and hearings change needs no leave.
+-- It is written. Without leave no row is answered otherwise than now, but for one that is restored and would be refused; that cases,
+-- deadlines and hearings change needs no leave.
 pub record IsListed (now after : Standing) (entries : List (List ℕ)) (kind : EntryKind) (accept : Bool) (old new : Option (List ℕ)) : Type 0 where
   pub written : Appends old new (correction_text now after entries kind)
-  pub without_leave : accept ≡ false → changes_between now after entries ≡ []
+  pub without_leave : accept ≡ false → asking_between now after entries ≡ []
 
--- It is written and not taken, since this many rows would be answered otherwise than now.
+-- It is written and not taken, since for this many rows leave is asked.
 pub record IsOnlyListed (now after : Standing) (entries : List (List ℕ)) (kind : EntryKind) (count : ℕ) (old new : Option (List ℕ)) : Type 0 where
   pub written : Appends old new (correction_text now after entries kind)
-  pub count_is : count ≡ length (changes_between now after entries)
-  pub some : changes_between now after entries ≢ []
+  pub count_is : count ≡ length (asking_between now after entries)
+  pub some : asking_between now after entries ≢ []

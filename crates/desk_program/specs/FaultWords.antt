@@ -50,9 +50,9 @@ expected Slots = codes "half hours, as 2, or quarter hours, as 3q"
 expected Holidays = codes "federal or state"
 expected Act = codes "filing or service"
 expected Dated = codes "a date, as 2025-09-02"
-expected Why = codes "moot, vacated, stayed, suspended or withdrawn"
+expected Why = codes "moot, vacated, stayed, suspended, suspended:3 or withdrawn"
 expected Closing = codes "dismissed, judgment, settled, transferred, remanded or otherwise"
-expected ResumeDay = codes "nothing, since the deadline has its days as before"
+expected ResumeDay = codes "a date, as 2025-09-02, or nothing"
 expected Ruling = codes "granted, denied, in part, moot, withdrawn or reserved"
 expected JudgeOrNone = codes "a judge, or nothing"
 expected Title = codes "a text of 1 to 200 bytes without control characters"
@@ -114,4 +114,4 @@ fault_words cause line = if is_utf8 line then line_words cause line else not_tex
 abbrev pub cause_words : LineCause → List ℕ → List ℕ
 cause_words (lines.Row cause) line = fault_words cause line
 cause_words lines.TooManyCases line = too_many_words
-cause_words (lines.NotFound why) line = unfound_words why
+cause_words (lines.NotFound unfound) line = unfound_words unfound

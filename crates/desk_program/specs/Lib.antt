@@ -8,8 +8,10 @@ pub mod Desk
 pub mod EntryKind
 pub mod FaultWords
 pub mod Faults
+pub mod Leave
 pub mod Log
 pub mod LogJson
+pub mod LogLast
 pub mod LogText
 pub mod Remembered
 pub mod RowCase
@@ -17,6 +19,7 @@ pub mod RowCorrection
 pub mod Rows
 pub mod Shown
 pub mod Struck
+pub mod TimeOrder
 pub mod Together
 pub mod Trial
 pub mod Words

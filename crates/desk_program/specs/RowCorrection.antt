@@ -58,7 +58,7 @@ pub record CorrectsRow (done : RowCorrection) (under : Standing) (entries : List
   pub keeps : Keeps (entries ++ note_entry note (unsaid_by under entries) remark ∷ [])
   pub history : IsHistory entries → IsHistory (entries ++ note_entry note (unsaid_by under entries) remark ∷ [])
 
--- The row is left as it is, since this many rows would be answered otherwise than now. What the strike or the restore changes is written.
+-- The row is left as it is, since for this many rows leave is asked. What the strike or the restore changes is written.
 pub record LeavesRow (done : RowCorrection) (under : Standing) (entries : List (List ℕ)) (row : ℕ) (count : ℕ) (before after : Option (List ℕ)) : Type 0 where
   pub note : RowNote
   pub then : Standing

@@ -2,6 +2,7 @@
 ghost use Rattle.std.specs.Prelude.{◌≡◌, ◌-◌, ◌++◌, length, map, option_map, string_bytes, IfOk, OnOk};
 ghost use Rattle.desk_entries.specs.Words.{change_in};
 ghost use Rattle.desk_program.specs.Inside.Changed.{walked};
+ghost use Rattle.desk_program.specs.Leave.{asking_of, if_asking, stays_undone};
 ghost use Rattle.desk_program.specs.ChangedText.{after_blank, answer_now, answer_text, change_text, changes_text, had_text, is_done, kept_text, mark_of, mark_text, says_done};
 
 use crate::changed::{ChangedRow, answer_in, changed_rows};
@@ -133,20 +134,65 @@ pub(crate) fn push_changes(
     Ok(())
 }
 
-/// Adds what is written of the rows before the next that are answered otherwise after a correction than now, and gives their
-/// number: these are the differences now, and these are those after it. `Err` says that memory ran out.
+// Whether a row is struck before a correction and would be refused after it: it isn't done before or after.
+fn stays_undone(alloc: Global, before: &Corrections, row: &ChangedRow) -> Result<bool, AllocError>
+    ensures { IfOk result (λ stays. stays ≡ stays_undone before.now row.now) }
+{
+    if !before.is_struck(row.number) {
+        return Ok(false);
+    }
+    let done = is_done(alloc, row.number, row.answer)?;
+    Ok(!done)
+}
+
+// Adds the number of a row, unless it stays undone.
+#[tactic(auto, using(crate::proofs::LogLastLemmas::none_more))]
+fn push_if_asking(
+    alloc: Global,
+    numbers: &mut Vec<u32>,
+    before: &Corrections,
+    row: &ChangedRow,
+) -> Result<(), AllocError>
+    ensures { OnOk result (numbers.new.items ≡ numbers.old.items ++ if_asking before.now row.now) }
+{
+    if stays_undone(alloc, before, row)? {
+        return Ok(());
+    }
+    numbers.push(row.number)?;
+    Ok(())
+}
+
+// The numbers of the rows for which leave is asked.
+fn numbers_asking(
+    alloc: Global,
+    before: &Corrections,
+    rows: &[ChangedRow],
+) -> Result<Vec<u32>, AllocError>
+    ensures { IfOk result (λ numbers. numbers.items ≡ asking_of before.now rows.now) }
+{
+    let mut numbers = Vec::new(alloc);
+    for row in rows {
+        push_if_asking(alloc, &mut numbers, before, row)?;
+    }
+    Ok(numbers)
+}
+
+/// Adds what is written of the rows before the next that are answered otherwise after a correction than now, and gives for how many of
+/// them leave is asked: what is corrected before it, and after it, and the differences now, and after it. `Err` says that memory ran out.
 pub(crate) fn push_changed(
     alloc: Global,
     text: &mut Vec<u8>,
+    before: &Corrections,
     corrections: &Corrections,
     had: &[Difference],
     has: &[Difference],
     next: u32,
 ) -> Result<usize, AllocError>
     ensures text { OnOk result (text.new.items ≡ text.old.items ++ changes_text (walked corrections.now (next - 1) 1 (map change_in had.now) (map change_in has.now))) }
-    ensures count { IfOk result (λ count. count ≡ length (walked corrections.now (next - 1) 1 (map change_in had.now) (map change_in has.now))) }
+    ensures count { IfOk result (λ count. count ≡ length (asking_of before.now (walked corrections.now (next - 1) 1 (map change_in had.now) (map change_in has.now)))) }
 {
     let rows = changed_rows(alloc, corrections, had, has, next)?;
     push_changes(alloc, text, &rows)?;
-    Ok(rows.len())
+    let asking = numbers_asking(alloc, before, &rows)?;
+    Ok(asking.len())
 }

@@ -7,7 +7,7 @@ ghost use Rattle.docket_shifts.specs.Words.{rows_shown, shifts};
 ghost use Rattle.desk_journal.specs.Words.{batch_of};
 ghost use Rattle.desk_entries.specs.Words.{StandsAt, docketed_by, most_entries};
 ghost use Rattle.program_streams.specs.Words.{has_failed, watched};
-ghost use Rattle.desk_program.specs.Changed.{changes_between};
+ghost use Rattle.desk_program.specs.Leave.{asking_between};
 ghost use Rattle.desk_program.specs.Inside.Correction.{IsReview};
 ghost use Rattle.desk_program.specs.Correction.{IsListed, IsOnlyListed, correction_text, head_text, row_head, shown_at};
 
@@ -21,7 +21,7 @@ use program_streams::{Watched, write_all};
 use std::alloc::{AllocError, Global};
 use std::io::Write;
 
-// What is written of a correction, and how many rows would be answered otherwise than now.
+// What is written of a correction, and for how many rows leave is asked.
 #[derive(Drop)]
 struct Listing {
     text: Vec<u8>,
@@ -103,13 +103,14 @@ fn listed(
     kind: EntryKind,
 ) -> Result<Listing, AllocError>
     ensures text { IsReview now.now (batch_of entries.now) before.now → IsReview after.now (batch_of entries.now) review.now → IfOk result (λ listing. listing.text.items ≡ correction_text now.now after.now (batch_of entries.now) kind) }
-    ensures count { IsReview now.now (batch_of entries.now) before.now → IsReview after.now (batch_of entries.now) review.now → IfOk result (λ listing. listing.count ≡ length (changes_between now.now after.now (batch_of entries.now))) }
+    ensures count { IsReview now.now (batch_of entries.now) before.now → IsReview after.now (batch_of entries.now) review.now → IfOk result (λ listing. listing.count ≡ length (asking_between now.now after.now (batch_of entries.now))) }
 {
     let mut text = Vec::new(alloc);
     push_head(alloc, &mut text, entries, kind)?;
     let count = push_changed(
         alloc,
         &mut text,
+        &now.corrections,
         &after.corrections,
         &before.differences,
         &review.differences,
@@ -120,7 +121,7 @@ fn listed(
     Ok(Listing { text, count })
 }
 
-// Writes what a correction changes. `Differs` says that rows would be answered otherwise than now, and no leave.
+// Writes what a correction changes. `Differs` says that leave is asked, and not given.
 fn write_listing<W: Write>(
     text: &[u8],
     count: usize,
@@ -154,7 +155,7 @@ fn listed_after(
     requires some { 0 < length entries.now }
     requires few { length entries.now ≤ most_entries }
     ensures text { IsReview after.now (batch_of entries.now) review.now → IfOk result (λ listing. listing.text.items ≡ correction_text now.now after.now (batch_of entries.now) kind) }
-    ensures count { IsReview after.now (batch_of entries.now) review.now → IfOk result (λ listing. listing.count ≡ length (changes_between now.now after.now (batch_of entries.now))) }
+    ensures count { IsReview after.now (batch_of entries.now) review.now → IfOk result (λ listing. listing.count ≡ length (asking_between now.now after.now (batch_of entries.now))) }
 {
     let before = decided_again(alloc, now, entries)?;
     listed(alloc, now, &before, after, review, entries, kind)
@@ -185,7 +186,7 @@ fn list<W: Write>(
 }
 
 /// The docket that entries come to under what is to stand after a correction, where this stands now. What the correction changes
-/// is written. `Differs` says that rows would be answered otherwise than now, and no leave.
+/// is written. `Differs` says that rows would be answered otherwise than now, for which leave is asked and not given.
 pub(crate) fn reviewed<W: Write>(
     alloc: Global,
     now: &Standing,

@@ -19,6 +19,7 @@ mod faults;
 mod file;
 mod log;
 mod log_json;
+mod log_last;
 mod log_text;
 mod note;
 mod remembered;
@@ -28,6 +29,7 @@ mod rows;
 mod shown;
 mod struck;
 mod tally;
+mod time_order;
 mod together;
 mod trial;
 
@@ -44,9 +46,11 @@ pub use faults::{
 pub use file::{file_fault, open_file};
 pub use log::{LogChoice, write_log};
 pub use log_json::the_log_reads_back;
+pub use log_last::last_log;
 pub use remembered::{Remembered, Resumed};
 pub use row_correction::RowCorrection;
 pub use rows::{checked_rows, write_count, write_rows};
 pub use shown::lines_shown;
 pub use struck::write_struck;
 pub use tally::all_taken;
+pub use time_order::earlier_entry;

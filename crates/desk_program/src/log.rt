@@ -142,7 +142,7 @@ fn is_entry_asked(
 }
 
 // The time and the account of the stamp at a place.
-fn stamp_at(stamps: &[Stamp], place: usize) -> (u64, &[u8])
+pub(crate) fn stamp_at(stamps: &[Stamp], place: usize) -> (u64, &[u8])
     ensures time { result.0 ≡ (first_stamp (drop place stamps.now)).time }
     ensures account { result.1.now ≡ (first_stamp (drop place stamps.now)).account }
 {
@@ -174,7 +174,7 @@ fn push_said_of(
 }
 
 // Adds what is written of an entry, where a row has this number.
-fn push_entry(
+pub(crate) fn push_entry(
     alloc: Global,
     choice: &LogChoice,
     named: &[Option<u32>],
@@ -233,7 +233,7 @@ fn push_first(
 }
 
 // The number of the next row after an entry, where it has this number if it is a row.
-fn row_number_after(number: u64, entry: &[u8]) -> u64
+pub(crate) fn row_number_after(number: u64, entry: &[u8]) -> u64
     requires fits { number + 1 < 2 ^ 64 }
     ensures { result ≡ number + length (row_only (note_in entry.now) entry.now) }
 {
@@ -241,7 +241,7 @@ fn row_number_after(number: u64, entry: &[u8]) -> u64
 }
 
 // The cases that rows name, if they have to be known for what is asked.
-fn cases_looked_up(
+pub(crate) fn cases_looked_up(
     alloc: Global,
     court: &Court,
     choice: &LogChoice,

@@ -30,7 +30,11 @@ impl<D: Disk> Desk<D> {
     {
         let batch = batch_with(alloc, entry)?;
         match self.journal.append(&batch) {
-            Err(fault) => Err(fault),
+            Err(fault) => {
+                drop(standing);
+                drop(register);
+                Err(fault)
+            }
             Ok(()) => {
                 register.pass_note();
                 drop(mem::replace(&mut self.setup.standing, standing));

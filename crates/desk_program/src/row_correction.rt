@@ -141,7 +141,8 @@ impl<D: Disk> Desk<D> {
     /// Strikes a row, which is counted from 1, or restores one that was struck. The strike or the restore is kept as the next entry,
     /// with the numbers that rows gave since the last correction and a remark, and the row's entry stays. The row is written, then the
     /// rows that are answered otherwise after it than now, each with its answers, and then each case, deadline and hearing that changes.
-    /// If there are such rows, it is done only with leave; without it, at `Differs`, the journal is as it was.
+    /// If there are such rows, it is done only with leave, which a row that is restored and would be refused doesn't ask for; without
+    /// it, at `Differs`, the journal is as it was.
     pub fn correct_row<W: Write>(
         &mut self,
         alloc: Global,

@@ -1,23 +1,26 @@
 -- The cases that entries opened, after one more; and how lines are read.
-use Rattle.std.proofs.Common.{◌≡◌, ◌∙◌, ◌<◌, ℕ, Bool, true, false, cond, List, [], ◌∷◌, ◌++◌, Option, Some, None, length, refl, ap}
-use Rattle.std.specs.Prelude.{◌&&◌, IsSome, codes, is_none, option_map}
+use Rattle.std.proofs.Common.{◌≡◌, ◌∙◌, ◌<◌, ℕ, Bool, true, false, cond, List, [], ◌∷◌, ◌++◌, Option, Some, None, length, refl, ap, arith}
+use Rattle.std.specs.Prelude.{◌&&◌, IsSome, codes, is_none, nat_eq, option_map}
+use Rattle.std.proofs.lemmas.Bool.Decides.{nat_tests}
 use Rattle.std.specs.Str.{bytes_eq}
 use Rattle.case_numbers.specs.Words.{AreApart, CasesView, NameView, after_name, fresh, name_before, no_cases, number_of}
 use Rattle.case_numbers.proofs.CallerLemmas.{names_stay_apart_lem}
 use Rattle.court_days.specs.Words.{CourtView}
 use Rattle.desk_register.specs.declared.standing.Standing.{Standing}
+use Rattle.row_forms.specs.declared.fault.RowCause.{RowCause}
+use Rattle.row_forms.specs.declared.fault.RowCause.TheVariants.{BadClerk, BadField, NotText, TooManyRows, UnknownCommand, WrongCount}
 use Rattle.row_forms.specs.Words.{CourtNames, column, names_of}
 use Rattle.row_forms.specs.declared.line.line.Line.{Line}
 use Rattle.row_forms.specs.declared.line.line.Line.TheVariants as line
 use Rattle.row_forms.specs.Line.Words.{fields_read, line_read}
-use Rattle.desk_register.specs.CaseLines.{Reading, as_it_is, case_in, finds_no_number, lacks_field, lacks_number, named, named_if, newly, opens_too_many, reading_of}
+use Rattle.desk_register.specs.CaseLines.{Reading, as_it_is, case_in, finds_no_number, is_field, lacks_field, lacks_number, named, named_if, newly, opens_too_many, reading_of}
 use Rattle.desk_register.specs.Cases.{cases_after, cases_of, cases_with, opened_in, with_opened}
 use Rattle.desk_register.specs.Entries.{most_clerks, note_in, row_entries}
 use Rattle.desk_register.specs.Laws.{ACaseKeepsItsNumber, ACaseNumberIsOneCase, OtherLinesAreReadAsTheyAre}
 use Rattle.desk_register.specs.declared.subject.Named.{Named}
 use Rattle.desk_register.specs.Rows.{found_text, row_in, special_at, unfound_at, unfound_of, with_subject}
 use Rattle.desk_register.specs.declared.cause.LineCause.TheVariants.{NotFound, TooManyCases}
-use Rattle.desk_register.specs.Subjects.{named_in}
+use Rattle.desk_register.specs.Subjects.{named_by, named_fifth, named_in}
 use Rattle.desk_register.proofs.ListLemmas.{row_entries-note, row_entries-row}
 
 cases_after-append : (names : CourtNames) (cases : CasesView) (some more : List (List ℕ)) → cases_after names cases (some ++ more) ≡ cases_after names (cases_after names cases some) more
@@ -77,27 +80,44 @@ pub reads_itself : (names : CourtNames) (cases : CasesView) (bytes : List ℕ) �
 unfolding reading_of
 reads_itself names cases bytes is = rw is refl
 
--- a plain text whose fourth field is what it should be names nothing
-pub names_nothing : (names : CourtNames) (text : List ℕ) → lacks_field 4 (line_read most_clerks names text) ≡ false → named_in names text ≡ None
+-- a line that lacks one field lacks no other
+one_field : (lacked other : ℕ) (cause : RowCause) → nat_eq lacked other ≡ false → is_field lacked cause ≡ true → is_field other cause ≡ false
+one_field lacked other (BadField column) apart so = grind (arith, nat_tests)
+one_field lacked other BadClerk apart so = refl
+one_field lacked other UnknownCommand apart so = refl
+one_field lacked other WrongCount apart so = refl
+one_field lacked other NotText apart so = refl
+one_field lacked other TooManyRows apart so = refl
+
+pub one_lack : (lacked other : ℕ) (said : Line) → nat_eq lacked other ≡ false → lacks_field lacked said ≡ true → lacks_field other said ≡ false
+one_lack lacked other line.Blank apart so = refl
+one_lack lacked other (line.Fault cause) apart so = one_field lacked other cause apart so
+one_lack lacked other (line.Row row) apart so = refl
+
+-- a plain text whose fourth field and whose fifth are what they should be names nothing
+pub names_nothing : (names : CourtNames) (text : List ℕ) → lacks_field 4 (line_read most_clerks names text) ≡ false → lacks_field 5 (line_read most_clerks names text) ≡ false → named_in names text ≡ None
 unfolding named_in
-names_nothing names text is = rw is refl
+names_nothing names text fourth fifth =
+    ap (λ (b : Bool). cond b (named_by names 4 (fields_read text)) (named_fifth names text)) fourth
+    ∙ ap (λ (b : Bool). cond b (named_by names 5 (fields_read text)) None) fifth
 
 pub other_lines : OtherLinesAreReadAsTheyAre
-other_lines under kept bytes third fourth =
+other_lines under kept bytes third fourth fifth =
     ap (with_subject under kept) (reads_itself (names_of under.court) (cases_of under kept) bytes third)
-    ∙ ap (λ (named : Option Named). as_it_is (found_text under kept bytes named)) (names_nothing (names_of under.court) bytes fourth)
+    ∙ ap (λ (named : Option Named). as_it_is (found_text under kept bytes named)) (names_nothing (names_of under.court) bytes fourth fifth)
 
 -- one that lacks no third field opens no case too many
 few_enough : (names : CourtNames) (cases : CasesView) (bytes : List ℕ) → lacks_field 3 (line_read most_clerks names bytes) ≡ false → opens_too_many names cases bytes ≡ false
 unfolding opens_too_many
 few_enough names cases bytes is = rw is refl
 
--- nothing is wrong with a line but what it says that lacks no third field and no fourth
-pub nothing_special : (under : Standing) (kept : List (List ℕ)) (bytes : List ℕ) → lacks_field 3 (line_read most_clerks (names_of under.court) bytes) ≡ false → lacks_field 4 (line_read most_clerks (names_of under.court) bytes) ≡ false → special_at under kept bytes ≡ None
-nothing_special under kept bytes third fourth =
+-- nothing is wrong with a line but what it says that lacks no third field, no fourth and no fifth
+pub nothing_special : (under : Standing) (kept : List (List ℕ)) (bytes : List ℕ) → lacks_field 3 (line_read most_clerks (names_of under.court) bytes) ≡ false → lacks_field 4 (line_read most_clerks (names_of under.court) bytes) ≡ false
+    → lacks_field 5 (line_read most_clerks (names_of under.court) bytes) ≡ false → special_at under kept bytes ≡ None
+nothing_special under kept bytes third fourth fifth =
     ap (λ (b : Bool). cond b (Some TooManyCases) (option_map NotFound (unfound_at under kept bytes))) (few_enough (names_of under.court) (cases_of under kept) bytes third)
-    ∙ ap (λ (r : Reading). option_map NotFound (unfound_of under kept (named_in (names_of under.court) r.text))) (reads_itself (names_of under.court) (cases_of under kept) bytes third)
-    ∙ ap (λ (named : Option Named). option_map NotFound (unfound_of under kept named)) (names_nothing (names_of under.court) bytes fourth)
+    ∙ ap (λ (r : Reading). option_map NotFound (unfound_of under kept r.text (named_in (names_of under.court) r.text))) (reads_itself (names_of under.court) (cases_of under kept) bytes third)
+    ∙ ap (λ (named : Option Named). option_map NotFound (unfound_of under kept bytes named)) (names_nothing (names_of under.court) bytes fourth fifth)
 
 -- a line that opens a case too many is read as it is, and lacks its third field
 finds_none : (line : List ℕ) (fields : List (List ℕ)) (name : NameView) (opens : Bool) (free : Option ℕ) → (opens && is_none free) ≡ true → newly line fields name (cond opens free None) ≡ as_it_is line

@@ -1,3 +1,4 @@
+pub mod CalledLemmas
 pub mod CallerLemmas
 pub mod ChangeLemmas
 pub mod CaseLemmas
@@ -13,5 +14,6 @@ pub mod ListLemmas
 pub mod NoteLemmas
 pub mod QuestionLemmas
 pub mod RegisterLemmas
+pub mod SameLemmas
 pub mod ShiftLemmas
 pub mod StrikingLemmas

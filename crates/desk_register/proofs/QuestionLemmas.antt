@@ -36,10 +36,10 @@ line_asked under questions kept bytes batch text said is stands text_after told 
   told = told ∙ ap (λ (l : Line). text ++ shown_with under kept bytes (special_at under kept bytes) l) (sym is);
 }
 
--- a line that lacks no third field and no fourth
-pub shown_plain : (under : Standing) (kept : List (List ℕ)) (bytes text : List ℕ) (said : Line) → line_read most_clerks (names_of under.court) (reading_at under kept bytes).text ≡ said → lacks_field 3 said ≡ false → lacks_field 4 said ≡ false
+-- a line that lacks no third field, no fourth and no fifth
+pub shown_plain : (under : Standing) (kept : List (List ℕ)) (bytes text : List ℕ) (said : Line) → line_read most_clerks (names_of under.court) (reading_at under kept bytes).text ≡ said → lacks_field 3 said ≡ false → lacks_field 4 said ≡ false → lacks_field 5 said ≡ false
     → text ++ shown_to under kept bytes said ≡ text ++ shown_with under kept bytes (special_at under kept bytes) said
-shown_plain under kept bytes text said is third fourth = ap (λ (special : Option LineCause). text ++ shown_with under kept bytes special said) (sym (read_whole under kept bytes said is third fourth))
+shown_plain under kept bytes text said is third fourth fifth = ap (λ (special : Option LineCause). text ++ shown_with under kept bytes special said) (sym (read_whole under kept bytes said is third fourth fifth))
 
 -- a question gives no number
 pub question_moves_nothing : (under : Standing) (run : Run) (number : ℕ) (asked : Work) → asks asked ≡ true → (numbers_with under run number asked).moved ≡ run.numbers.moved
@@ -55,11 +55,12 @@ question_dockets_nothing under run (Query query) question = refl
 
 -- so the register after it is as it was
 pub stands_asked : (under : Standing) (before register : DocketRegister) (kept : List (List ℕ)) (asked : Work) → StandsAt under before kept → asks asked ≡ true → Holds (setup_of under.court) register.docket (docketed_with under (run_by under kept) asked)
-    → register.numbers ≡ before.numbers → register.cases ≡ before.cases → register.number ≡ before.number → register.count ≡ before.count → StandsAt under register kept
-stands_asked under before register kept asked stands question holds numbers cases number count = record {
+    → register.numbers ≡ before.numbers → register.cases ≡ before.cases → register.called ≡ before.called → register.number ≡ before.number → register.count ≡ before.count → StandsAt under register kept
+stands_asked under before register kept asked stands question holds numbers cases called number count = record {
   docket = subst (Holds (setup_of under.court) register.docket) (question_dockets_nothing under (run_by under kept) asked question) holds;
   numbers = numbers ∙ stands.numbers;
   cases = cases ∙ stands.cases;
+  called = called ∙ stands.called;
   number = number ∙ stands.number;
   count = count ∙ stands.count;
   begun = stands.begun;

@@ -18,18 +18,18 @@ use Rattle.desk_session.specs.Words.{TakesLine}
 use Rattle.std.specs.Prelude.{IsSome, None, Some, option_map}
 use Rattle.case_numbers.specs.Words.{CasesView, NameView, after_name, name_before, name_line}
 use Rattle.row_forms.specs.declared.fault.RowCause.{RowCause}
-use Rattle.row_forms.specs.declared.fault.RowCause.TheVariants.{BadClerk, BadField, NotText, TooManyRows, UnknownCommand, WrongCount}
 use Rattle.desk_numbers.specs.declared.subjects.Found.{Found}
 use Rattle.desk_numbers.specs.declared.subjects.Found.TheVariants as found
 use Rattle.desk_numbers.specs.declared.subjects.SubjectName.{SubjectName}
-use Rattle.desk_numbers.specs.declared.subjects.SubjectName.TheVariants.{Newest, Under}
+use Rattle.desk_numbers.specs.declared.subjects.SubjectName.TheVariants.{Called, Made, Newest, Under}
 use Rattle.desk_register.specs.declared.cause.LineCause.{LineCause}
 use Rattle.desk_register.specs.declared.cause.LineCause.TheVariants.{NotFound, TooManyCases}
 use Rattle.desk_register.specs.declared.subject.Named.{Named}
 use Rattle.desk_register.specs.Subjects.{named_in, with_found}
 use Rattle.desk_register.specs.declared.standing.Standing.{Standing}
-use Rattle.desk_register.specs.CaseLines.{is_field, lacks_field}
-use Rattle.desk_register.specs.LineCauses.{cause_or, fault_told, unfound_as}
+use Rattle.desk_register.specs.Called.{called_as, called_standing, newly_called, with_newly}
+use Rattle.desk_register.specs.CaseLines.{lacks_field}
+use Rattle.desk_register.specs.LineCauses.{cause_or, fault_told, unfound_as, unfound_there}
 use Rattle.desk_register.specs.Cases.{cases_of, opened_as, opened_in, with_opened}
 use Rattle.desk_register.specs.Entries.{most_clerks, most_entries, next_number, note_in}
 use Rattle.desk_register.specs.Rows.{answer_to, answers, asks, cased_at, entry_of, follows, found_at, found_text, has_room, kept_answers, kept_leaves, leaves, left_again, left_of, plain_answers, plain_leaves, reading_at, row_in, special_at, told_of, told_or, too_many_at, unfound_at, unfound_of, with_name, within}
@@ -38,8 +38,9 @@ use Rattle.desk_register.specs.Register.{IsDone, IsReadyAt, StandsAt}
 use Rattle.desk_register.specs.Shifts.{shifts_by, shifts_said, told}
 use Rattle.desk_register.specs.declared.register.Done.{Done}
 use Rattle.desk_register.specs.declared.register.DocketRegister.{DocketRegister}
-use Rattle.desk_register.proofs.CaseLemmas.{cases_of-note, cases_of-row, names_nothing, none_opened, too_many_lacks}
-use Rattle.desk_register.proofs.EntryLemmas.{WasRead, is_no_note_named, its_name, past_its_name, plain_full, plain_none, plain_one, reading_read, says_its_row, within_row}
+use Rattle.desk_register.proofs.CalledLemmas.{called_none, called_noted, called_said, called_standing-more, called_struck}
+use Rattle.desk_register.proofs.CaseLemmas.{cases_of-note, cases_of-row, names_nothing, none_opened, one_lack, too_many_lacks}
+use Rattle.desk_register.proofs.EntryLemmas.{WasRead, has_its_fields, is_no_note_named, its_name, past_its_name, plain_full, plain_none, plain_one, reading_read, says_its_row, within_row}
 use Rattle.desk_register.proofs.DecidedLemmas.{run_by-more, run_by-none, run_by-note, run_by-struck}
 use Rattle.desk_register.proofs.ShiftLemmas.{just_answered, none_said, question_shifts_nothing}
 use Rattle.desk_register.proofs.ListLemmas.{before-row, next_number-note, next_number-row, not_struck}
@@ -57,15 +58,18 @@ numbers_taken under kept asked own before made number given is own_is before_is 
 -- the register after the row of an entry
 pub stands_row : (under : Standing) (register : DocketRegister) (kept : List (List ℕ)) (entry : List ℕ) (row : Row) → 0 < length kept → length kept < most_entries → note_in entry ≡ None → is_struck under.corrections (next_number kept) ≡ false
     → line_read most_clerks (names_of under.court) (after_name entry) ≡ line.Row row → Holds (setup_of under.court) register.docket (docketed_with under (run_by under kept) row.work)
-    → register.numbers ≡ numbers_with under (run_by under kept) (next_number kept) row.work → register.cases ≡ with_opened (cases_of under kept) (opened_as row.work) (name_before entry) → register.number ≡ next_number kept + 1 → register.count ≡ length kept + 1
+    → register.numbers ≡ numbers_with under (run_by under kept) (next_number kept) row.work → register.cases ≡ with_opened (cases_of under kept) (opened_as row.work) (name_before entry)
+    → (fields : List (List ℕ)) → fields ≡ fields_read (after_name entry) → register.called ≡ with_newly (called_standing under kept) (newly_called (setup_of under.court) (docketed_by under kept) (run_by under kept).numbers.moved row.work fields)
+    → register.number ≡ next_number kept + 1 → register.count ≡ length kept + 1
     → StandsAt under register (kept ++ entry ∷ [])
-stands_row under register kept entry row begun room none live said holds numbers cases number count =
+stands_row under register kept entry row begun room none live said holds numbers cases fields same called number count =
     let long : length (kept ++ entry ∷ []) ≡ length kept + 1 = length-append kept (entry ∷ []) in
     let more = run_by-more under kept entry row begun none live said in
     record {
       docket = subst (Holds (setup_of under.court) register.docket) (sym (ap (λ (r : Run). r.docketed) more)) holds;
       numbers = numbers ∙ sym (ap (λ (r : Run). r.numbers) more);
       cases = cases ∙ ap (λ (l : Line). with_opened (cases_of under kept) (opened_in l) (name_before entry)) (sym said) ∙ sym (cases_of-row under kept entry begun none);
+      called = called ∙ sym (called_said under kept (called_standing under kept) entry row fields none live said same) ∙ sym (called_standing-more under kept entry begun);
       number = number ∙ sym (next_number-row kept entry begun none);
       count = count ∙ sym long;
       begun = omega (arith, long);
@@ -75,26 +79,35 @@ stands_row under register kept entry row begun room none live said holds numbers
 -- the register after a row that is done, and its own entry, perhaps with a name
 pub stands_after : (under : Standing) (register : DocketRegister) (kept : List (List ℕ)) (fields : List (List ℕ)) (row : Row) (name : Option NameView) → WasRead name → 0 < length kept → length kept < most_entries → is_struck under.corrections (next_number kept) ≡ false
     → row_of most_clerks (names_of under.court) fields ≡ Ok row → Holds (setup_of under.court) register.docket (docketed_with under (run_by under kept) row.work)
-    → register.numbers ≡ numbers_with under (run_by under kept) (next_number kept) row.work → register.cases ≡ with_opened (cases_of under kept) (opened_as row.work) name → register.number ≡ next_number kept + 1 → register.count ≡ length kept + 1
+    → register.numbers ≡ numbers_with under (run_by under kept) (next_number kept) row.work → register.cases ≡ with_opened (cases_of under kept) (opened_as row.work) name
+    → register.called ≡ with_newly (called_standing under kept) (newly_called (setup_of under.court) (docketed_by under kept) (run_by under kept).numbers.moved row.work fields) → register.number ≡ next_number kept + 1 → register.count ≡ length kept + 1
     → StandsAt under register (kept ++ (name_line name ++ entry_of under kept fields row) ∷ [])
-stands_after under register kept fields row name was begun room live spelled holds numbers cases number count =
+stands_after under register kept fields row name was begun room live spelled holds numbers cases called number count =
     let answer = answer_to under kept row in
     let past = past_its_name (names_of under.court) fields row answer spelled name was in
     let named = its_name (names_of under.court) fields row answer spelled name was in
     stands_row under register kept (name_line name ++ entry_of under kept fields row) row begun room (is_no_note_named (names_of under.court) fields row answer spelled name) live
     (ap (line_read most_clerks (names_of under.court)) past ∙ says_its_row (names_of under.court) fields row answer spelled) holds numbers
-    (cases ∙ ap (with_opened (cases_of under kept) (opened_as row.work)) (sym named)) number count
+    (cases ∙ ap (with_opened (cases_of under kept) (opened_as row.work)) (sym named))
+    fields (sym (ap fields_read past ∙ has_its_fields (names_of under.court) fields row answer spelled)) called number count
+
+-- what things are called after an entry that calls nothing anything
+called_past : (under : Standing) (before register : DocketRegister) (kept : List (List ℕ)) (entry : List ℕ) → StandsAt under before kept → register.called ≡ before.called
+    → called_as (note_in entry) under kept (called_standing under kept) entry ≡ called_standing under kept → register.called ≡ called_standing under (kept ++ entry ∷ [])
+called_past under before register kept entry stands same none = same ∙ stands.called ∙ sym none ∙ sym (called_standing-more under kept entry stands.begun)
 
 -- the register after an entry that is passed over, which changes nothing but numbers
 stands_past : (under : Standing) (before register : DocketRegister) (kept : List (List ℕ)) (entry : List ℕ) → StandsAt under before kept → before.count < most_entries → docketed_by under (kept ++ entry ∷ []) ≡ docketed_by under kept
-    → register.docket ≡ before.docket → register.numbers ≡ (run_by under (kept ++ entry ∷ [])).numbers → register.cases ≡ cases_of under (kept ++ entry ∷ []) → register.number ≡ next_number (kept ++ entry ∷ []) → register.count ≡ before.count + 1 → StandsAt under register (kept ++ entry ∷ [])
-stands_past under before register kept entry stands room docketed docket numbers cases number count =
+    → register.docket ≡ before.docket → register.numbers ≡ (run_by under (kept ++ entry ∷ [])).numbers → register.cases ≡ cases_of under (kept ++ entry ∷ []) → register.called ≡ called_standing under (kept ++ entry ∷ [])
+    → register.number ≡ next_number (kept ++ entry ∷ []) → register.count ≡ before.count + 1 → StandsAt under register (kept ++ entry ∷ [])
+stands_past under before register kept entry stands room docketed docket numbers cases called number count =
     let long : length (kept ++ entry ∷ []) ≡ length kept + 1 = length-append kept (entry ∷ []) in
     let was : before.count ≡ length kept = stands.count in
     record {
       docket = subst (Holds (setup_of under.court) register.docket) (sym docketed) (subst (λ (d : DocketView). Holds (setup_of under.court) d (docketed_by under kept)) (sym docket) stands.docket);
       numbers = numbers;
       cases = cases;
+      called = called;
       number = number;
       count = count ∙ ap (λ (n : ℕ). n + 1) was ∙ sym long;
       begun = omega (arith, long);
@@ -108,42 +121,47 @@ cases_of-none under kept entry begun none said =
 
 -- the register after a row that is passed over
 stands_past_row : (under : Standing) (before register : DocketRegister) (kept : List (List ℕ)) (entry : List ℕ) → StandsAt under before kept → before.count < most_entries → note_in entry ≡ None → run_by under (kept ++ entry ∷ []) ≡ run_past under (run_by under kept) (next_number kept)
-    → register.docket ≡ before.docket → register.numbers ≡ passed under.corrections.kept before.numbers before.number → register.cases ≡ cases_of under (kept ++ entry ∷ []) → register.number ≡ before.number + 1 → register.count ≡ before.count + 1 → StandsAt under register (kept ++ entry ∷ [])
-stands_past_row under before register kept entry stands room none run docket numbers cases number count =
+    → register.docket ≡ before.docket → register.numbers ≡ passed under.corrections.kept before.numbers before.number → register.cases ≡ cases_of under (kept ++ entry ∷ []) → register.called ≡ called_standing under (kept ++ entry ∷ [])
+    → register.number ≡ before.number + 1 → register.count ≡ before.count + 1 → StandsAt under register (kept ++ entry ∷ [])
+stands_past_row under before register kept entry stands room none run docket numbers cases called number count =
     stands_past under before register kept entry stands room (ap (λ (r : Run). r.docketed) run) docket
-    (numbers ∙ ap (λ (n : NumbersView). passed under.corrections.kept n before.number) stands.numbers ∙ ap (passed under.corrections.kept (run_by under kept).numbers) stands.number ∙ sym (ap (λ (r : Run). r.numbers) run)) cases
+    (numbers ∙ ap (λ (n : NumbersView). passed under.corrections.kept n before.number) stands.numbers ∙ ap (passed under.corrections.kept (run_by under kept).numbers) stands.number ∙ sym (ap (λ (r : Run). r.numbers) run)) cases called
     (number ∙ ap (λ (n : ℕ). n + 1) stands.number ∙ sym (next_number-row kept entry stands.begun none)) count
 
 -- the register after an entry that says no row
 pub stands_passed : (under : Standing) (before register : DocketRegister) (kept : List (List ℕ)) (entry : List ℕ) → StandsAt under before kept → before.count < most_entries → note_in entry ≡ None → row_in (line_read most_clerks (names_of under.court) (after_name entry)) ≡ []
-    → register.docket ≡ before.docket → register.numbers ≡ passed under.corrections.kept before.numbers before.number → register.cases ≡ before.cases → register.number ≡ before.number + 1 → register.count ≡ before.count + 1 → StandsAt under register (kept ++ entry ∷ [])
-stands_passed under before register kept entry stands room none said docket numbers cases number count =
-    stands_past_row under before register kept entry stands room none (run_by-none under kept entry stands.begun none said) docket numbers (cases ∙ stands.cases ∙ sym (cases_of-none under kept entry stands.begun none said)) number count
+    → register.docket ≡ before.docket → register.numbers ≡ passed under.corrections.kept before.numbers before.number → register.cases ≡ before.cases → register.called ≡ before.called → register.number ≡ before.number + 1 → register.count ≡ before.count + 1 → StandsAt under register (kept ++ entry ∷ [])
+stands_passed under before register kept entry stands room none said docket numbers cases called number count =
+    stands_past_row under before register kept entry stands room none (run_by-none under kept entry stands.begun none said) docket numbers (cases ∙ stands.cases ∙ sym (cases_of-none under kept entry stands.begun none said))
+    (called_past under before register kept entry stands called (called_none under kept (called_standing under kept) entry none said)) number count
 
 -- the register after a row that is struck
 pub stands_past_struck : (under : Standing) (before register : DocketRegister) (kept : List (List ℕ)) (entry : List ℕ) → StandsAt under before kept → before.count < most_entries → note_in entry ≡ None → is_struck under.corrections (next_number kept) ≡ true
     → register.docket ≡ before.docket → register.numbers ≡ passed under.corrections.kept before.numbers before.number → register.cases ≡ with_opened before.cases (opened_in (line_read most_clerks (names_of under.court) (after_name entry))) (name_before entry)
-    → register.number ≡ before.number + 1 → register.count ≡ before.count + 1 → StandsAt under register (kept ++ entry ∷ [])
-stands_past_struck under before register kept entry stands room none struck docket numbers cases number count =
+    → register.called ≡ before.called → register.number ≡ before.number + 1 → register.count ≡ before.count + 1 → StandsAt under register (kept ++ entry ∷ [])
+stands_past_struck under before register kept entry stands room none struck docket numbers cases called number count =
     stands_past_row under before register kept entry stands room none (run_by-struck under kept entry stands.begun none struck) docket numbers
-    (cases ∙ ap (λ (c : CasesView). with_opened c (opened_in (line_read most_clerks (names_of under.court) (after_name entry))) (name_before entry)) stands.cases ∙ sym (cases_of-row under kept entry stands.begun none)) number count
+    (cases ∙ ap (λ (c : CasesView). with_opened c (opened_in (line_read most_clerks (names_of under.court) (after_name entry))) (name_before entry)) stands.cases ∙ sym (cases_of-row under kept entry stands.begun none))
+    (called_past under before register kept entry stands called (called_struck under kept (called_standing under kept) entry none struck)) number count
 
 -- the register after an entry that is no row
 pub stands_past_note : (under : Standing) (before register : DocketRegister) (kept : List (List ℕ)) (entry : List ℕ) → StandsAt under before kept → before.count < most_entries → IsSome (note_in entry)
-    → register.docket ≡ before.docket → register.numbers ≡ before.numbers → register.cases ≡ before.cases → register.number ≡ before.number → register.count ≡ before.count + 1 → StandsAt under register (kept ++ entry ∷ [])
-stands_past_note under before register kept entry stands room some docket numbers cases number count =
+    → register.docket ≡ before.docket → register.numbers ≡ before.numbers → register.cases ≡ before.cases → register.called ≡ before.called → register.number ≡ before.number → register.count ≡ before.count + 1 → StandsAt under register (kept ++ entry ∷ [])
+stands_past_note under before register kept entry stands room some docket numbers cases called number count =
     let run = run_by-note under kept entry stands.begun some in
     stands_past under before register kept entry stands room (ap (λ (r : Run). r.docketed) run) docket
     (numbers ∙ stands.numbers ∙ sym (ap (λ (r : Run). r.numbers) run)) (cases ∙ stands.cases ∙ sym (cases_of-note under kept entry stands.begun some))
+    (called_past under before register kept entry stands called (called_noted under kept (called_standing under kept) entry some))
     (number ∙ stands.number ∙ sym (next_number-note kept entry stands.begun some)) count
 
 -- the register as it was, but for the fields that it read
-pub as_it_was : (under : Standing) (before register : DocketRegister) (kept : List (List ℕ)) → StandsAt under before kept → register.docket ≡ before.docket → register.numbers ≡ before.numbers → register.cases ≡ before.cases → register.number ≡ before.number → register.count ≡ before.count → StandsAt under register kept
-as_it_was under before register kept stands docket numbers cases number count =
+pub as_it_was : (under : Standing) (before register : DocketRegister) (kept : List (List ℕ)) → StandsAt under before kept → register.docket ≡ before.docket → register.numbers ≡ before.numbers → register.cases ≡ before.cases → register.called ≡ before.called → register.number ≡ before.number → register.count ≡ before.count → StandsAt under register kept
+as_it_was under before register kept stands docket numbers cases called number count =
     record {
       docket = subst (λ (d : DocketView). Holds (setup_of under.court) d (docketed_by under kept)) (sym docket) stands.docket;
       numbers = numbers ∙ stands.numbers;
       cases = cases ∙ stands.cases;
+      called = called ∙ stands.called;
       number = number ∙ stands.number;
       count = count ∙ stands.count;
       begun = stands.begun;
@@ -154,43 +172,33 @@ as_it_was under before register kept stands docket numbers cases number count =
 abbrev pub told_with : Standing → (kept : List (List ℕ)) → (bytes : List ℕ) → (special : Option LineCause) → Line → List ℕ
 told_with under kept bytes special said = told_or under kept bytes special (told_of under kept bytes said)
 
--- a line that lacks no third field and no fourth opens no case too many, and names nothing that isn't found
+-- a line that lacks no third field, no fourth and no fifth opens no case too many, and names nothing that isn't found
 lacks_it : (number : ℕ) (kept : List (List ℕ)) (said then : Line) → within kept said ≡ then → lacks_field number then ≡ false → lacks_field number said ≡ false
 lacks_it number kept line.Blank then is none = refl
 lacks_it number kept (line.Fault cause) then is none = ap (lacks_field number) is ∙ none
 lacks_it number kept (line.Row row) then is none = refl
 
-one_field : (cause : RowCause) → is_field 3 cause ≡ true → is_field 4 cause ≡ false
-one_field (BadField column) so = grind (arith, nat_tests)
-one_field BadClerk so = refl
-one_field UnknownCommand so = refl
-one_field WrongCount so = refl
-one_field NotText so = refl
-one_field TooManyRows so = refl
-
-one_lack : (said : Line) → lacks_field 3 said ≡ true → lacks_field 4 said ≡ false
-one_lack line.Blank so = refl
-one_lack (line.Fault cause) so = one_field cause so
-one_lack (line.Row row) so = refl
-
 one_found : (name : SubjectName) (number : ℕ) → unfound_as name (found.One number) ≡ None
 one_found (Under rule) number = refl
 one_found Newest number = refl
+one_found (Made counted) number = refl
+one_found (Called counted) number = refl
 
-all_found : (under : Standing) (kept : List (List ℕ)) (text : List ℕ) (named : Option Named) → named_in (names_of under.court) text ≡ named → lacks_field 4 (line_read most_clerks (names_of under.court) (found_text under kept text named)) ≡ false → unfound_of under kept named ≡ None
-all_found under kept text None is none = refl
-all_found under kept text (Some named) is none = by (found_at under kept named) none
+all_found : (under : Standing) (kept : List (List ℕ)) (text : List ℕ) (named : Option Named) → named_in (names_of under.court) text ≡ named → lacks_field 4 (line_read most_clerks (names_of under.court) (found_text under kept text named)) ≡ false
+    → lacks_field 5 (line_read most_clerks (names_of under.court) (found_text under kept text named)) ≡ false → unfound_of under kept text named ≡ None
+all_found under kept text None is no_fourth no_fifth = refl
+all_found under kept text (Some named) is no_fourth no_fifth = ap (unfound_there named.at) (by (found_at under kept text named) no_fourth no_fifth)
   where
-    nothing : lacks_field 4 (line_read most_clerks (names_of under.court) text) ≡ false → ⊥
-    nothing fourth = let no : ◌≡◌ {A = Option Named} (Some named) None = sym is ∙ names_nothing (names_of under.court) text fourth in cc no
+    nothing : lacks_field 4 (line_read most_clerks (names_of under.court) text) ≡ false → lacks_field 5 (line_read most_clerks (names_of under.court) text) ≡ false → ⊥
+    nothing fourth fifth = let no : ◌≡◌ {A = Option Named} (Some named) None = sym is ∙ names_nothing (names_of under.court) text fourth fifth in cc no
 
-    by : (there : Found) → lacks_field 4 (line_read most_clerks (names_of under.court) (with_found text there)) ≡ false → unfound_as named.name there ≡ None
-    by (found.One number) fourth = one_found named.name number
-    by found.None fourth = absurd (nothing fourth)
-    by (found.Two number other) fourth = absurd (nothing fourth)
+    by : (there : Found) → lacks_field 4 (line_read most_clerks (names_of under.court) (with_found named.at text there)) ≡ false → lacks_field 5 (line_read most_clerks (names_of under.court) (with_found named.at text there)) ≡ false → unfound_as named.name there ≡ None
+    by (found.One number) fourth fifth = one_found named.name number
+    by found.None fourth fifth = absurd (nothing fourth fifth)
+    by (found.Two number other) fourth fifth = absurd (nothing fourth fifth)
 
-pub read_whole : (under : Standing) (kept : List (List ℕ)) (bytes : List ℕ) (said : Line) → line_read most_clerks (names_of under.court) (reading_at under kept bytes).text ≡ said → lacks_field 3 said ≡ false → lacks_field 4 said ≡ false → special_at under kept bytes ≡ None
-read_whole under kept bytes said is third fourth = by (too_many_at under kept bytes) refl
+pub read_whole : (under : Standing) (kept : List (List ℕ)) (bytes : List ℕ) (said : Line) → line_read most_clerks (names_of under.court) (reading_at under kept bytes).text ≡ said → lacks_field 3 said ≡ false → lacks_field 4 said ≡ false → lacks_field 5 said ≡ false → special_at under kept bytes ≡ None
+read_whole under kept bytes said is third fourth fifth = by (too_many_at under kept bytes) refl
   where
     names : CourtNames
     names = names_of under.court
@@ -202,19 +210,19 @@ read_whole under kept bytes said is third fourth = by (too_many_at under kept by
     reads text = line_read most_clerks names text
 
     by : (too_many : Bool) → too_many_at under kept bytes ≡ too_many → cond too_many (Some TooManyCases) (option_map NotFound (unfound_at under kept bytes)) ≡ None
-    by false so = ap (option_map NotFound) (all_found under kept cased (named_in names cased) refl (ap (lacks_field 4) is ∙ fourth))
+    by false so = ap (option_map NotFound) (all_found under kept cased (named_in names cased) refl (ap (lacks_field 4) is ∙ fourth) (ap (lacks_field 5) is ∙ fifth))
     by true so =
         let lacks : lacks_field 3 (reads cased) ≡ true = too_many_lacks names (cases_of under kept) bytes so in
-        let none = names_nothing names cased (one_lack (reads cased) lacks) in
+        let none = names_nothing names cased (one_lack 3 4 (reads cased) refl lacks) (one_lack 3 5 (reads cased) refl lacks) in
         let same : lacks_field 3 (reads (reading_at under kept bytes).text) ≡ lacks_field 3 (reads cased) = ap (λ (named : Option Named). lacks_field 3 (reads (found_text under kept cased named))) none in
         let no : true ≡ false = sym lacks ∙ sym same ∙ ap (lacks_field 3) is ∙ third in
         cc no
 
 -- and so it is where there is no room for a row
-pub not_special : (under : Standing) (kept : List (List ℕ)) (bytes : List ℕ) (said : Line) → within kept (line_read most_clerks (names_of under.court) (reading_at under kept bytes).text) ≡ said → lacks_field 3 said ≡ false → lacks_field 4 said ≡ false → special_at under kept bytes ≡ None
-not_special under kept bytes said is third fourth =
+pub not_special : (under : Standing) (kept : List (List ℕ)) (bytes : List ℕ) (said : Line) → within kept (line_read most_clerks (names_of under.court) (reading_at under kept bytes).text) ≡ said → lacks_field 3 said ≡ false → lacks_field 4 said ≡ false → lacks_field 5 said ≡ false → special_at under kept bytes ≡ None
+not_special under kept bytes said is third fourth fifth =
     let read = line_read most_clerks (names_of under.court) (reading_at under kept bytes).text in
-    read_whole under kept bytes read refl (lacks_it 3 kept read said is third) (lacks_it 4 kept read said is fourth)
+    read_whole under kept bytes read refl (lacks_it 3 kept read said is third) (lacks_it 4 kept read said is fourth) (lacks_it 5 kept read said is fifth)
 
 -- what is told of a fault, by its cause
 pub cause_told : (under : Standing) (kept : List (List ℕ)) (bytes : List ℕ) (special : Option LineCause) (cause : RowCause) → fault_told (next_number kept) bytes (cause_or special cause) ≡ told_with under kept bytes special (line.Fault cause)
@@ -246,7 +254,7 @@ module _ (under : Standing) (register : DocketRegister) (kept : List (List ℕ))
       → (text_after : List ℕ) → text_after ≡ text ++ answer_to under kept row → TakesLine (leaves under) (told under) (IsReadyAt under register) kept bytes batch batch text text_after
   question_left row is question full stands text_after added =
       just_told (line.Row row) is (plain_full under kept (reading_at under kept bytes).text full) (question_shifts_nothing under kept row question) stands text_after
-      (added ∙ ap (λ (special : Option LineCause). text ++ told_or under kept bytes special (answer_to under kept row)) (sym (not_special under kept bytes (line.Row row) is refl refl)))
+      (added ∙ ap (λ (special : Option LineCause). text ++ told_or under kept bytes special (answer_to under kept row)) (sym (not_special under kept bytes (line.Row row) is refl refl refl)))
 
   -- a line that says a row, which is done
   pub row_left : (row : Row) → within kept (line_read most_clerks (names_of under.court) (reading_at under kept bytes).text) ≡ line.Row row → has_room kept ≡ true → 0 < length kept → all_before under.corrections (next_number kept) ≡ true → (fields : List (List ℕ)) → fields ≡ fields_read (reading_at under kept bytes).text
@@ -266,13 +274,13 @@ module _ (under : Standing) (register : DocketRegister) (kept : List (List ℕ))
       let was : WasRead name = subst WasRead (sym name_is) (reading_read (names_of under.court) (cases_of under kept) bytes) in
       record {
         stands = subst (IsReadyAt under register) (sym (ap (λ (l : List (List ℕ)). kept ++ l) left)) (record {
-          at = stands_after under register kept (fields_read plain) row name was begun below (not_struck under.corrections (next_number kept) before) spelled done.docket done.numbers done.cases done.number done.count;
+          at = stands_after under register kept (fields_read plain) row name was begun below (not_struck under.corrections (next_number kept) before) spelled done.docket done.numbers done.cases (done.called ∙ ap (λ (f : List (List ℕ)). with_newly (called_standing under kept) (newly_called (setup_of under.court) (docketed_by under kept) (run_by under kept).numbers.moved row.work f)) fields_are) done.number done.count;
           before = before-row under.corrections kept entry begun (is_no_note_named (names_of under.court) (fields_read plain) row (answer_to under kept row) spelled name) before;
         });
         left = batch_is ∙ ap (λ (e : List ℕ). batch ++ e ∷ []) made_is ∙ ap (λ (l : List (List ℕ)). batch ++ l) (sym left);
         told = text_is ∙ ap (λ l. text ++ (told_of under kept bytes l ++ shifts_said under kept l)) (sym is)
             ∙ ap (λ (special : Option LineCause). text ++ (told_or under kept bytes special (plain_answers under kept bytes plain) ++ shifts_said under kept (within kept (line_read most_clerks (names_of under.court) plain))))
-            (sym (not_special under kept bytes (line.Row row) is refl refl));
+            (sym (not_special under kept bytes (line.Row row) is refl refl refl));
       }
 
 -- an entry that says a row is the next one where the row leaves it

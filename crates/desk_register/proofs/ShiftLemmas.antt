@@ -32,7 +32,7 @@ use Rattle.office_texts.specs.Words.{hearing_text, shown_text}
 use Rattle.office_texts.proofs.RunLemmas.CallerLemmas.{range_more}
 use Rattle.desk_session.specs.declared.outcome.Outcome.TheVariants.{Refused, Taken}
 use Rattle.desk_numbers.specs.declared.moved.Moved.{Moved}
-use Rattle.desk_numbers.specs.Words.{number_in, numbered_view, placed, placed_command}
+use Rattle.desk_numbers.specs.Words.{number_in, numbered_ended, numbered_view, placed, placed_command}
 use Rattle.desk_register.specs.declared.standing.Standing.{Standing}
 use Rattle.desk_register.specs.Cases.{cases_of, opened_as, with_opened}
 use Rattle.desk_register.specs.Entries.{next_number}
@@ -66,17 +66,17 @@ names_before court docketed before moved cases name (Command (Inaccessible day f
 names_before court docketed before moved cases name (Command (Fact case fact)) = refl
 
 -- what is shown as it was has no line
-alike : (named : List NamedCase) (case : ℕ) (counted : Counted) (number : ℕ) (text : List ℕ) → shift_line named case counted number text text ≡ []
+pub alike : (named : List NamedCase) (case : ℕ) (counted : Counted) (number : ℕ) (text : List ℕ) → shift_line named case counted number text text ≡ []
 alike named case counted number text = rw ((bytes_eq-Decides text text).1 refl) refl
 
 -- where the days are those before, the deadlines of a case have no line
-unmoved : (court : CourtView) (parts : Parts) (facts : List FactOf) (named : List NamedCase) (case : ℕ) (numbers : ℕ → ℕ) (ds : List NumberedDeadline)
-    → flat_map (deadline_shift court parts.days named case) (map (λ (d : SheetDeadline). record d { number = numbers d.number }) (map (sheet_deadline (setup_of court) parts facts) ds)) ≡ []
-unmoved court parts facts named case numbers [] = refl
-unmoved court parts facts named case numbers (d ∷ ds) =
-    ap (λ (l : List ℕ). l ++ flat_map (deadline_shift court parts.days named case) (map (λ (s : SheetDeadline). record s { number = numbers s.number }) (map (sheet_deadline (setup_of court) parts facts) ds)))
-    (alike named case Deadline (numbers d.number) (shown_text court.clock (shown_of parts.days court.clock d.row)))
-    ∙ unmoved court parts facts named case numbers ds
+unmoved : (court : CourtView) (parts : Parts) (facts : List FactOf) (named : List NamedCase) (case : ℕ) (moved : List Moved) (ds : List NumberedDeadline)
+    → flat_map (deadline_shift court parts.days named case) (map (λ (d : SheetDeadline). record d { number = number_in moved case Deadline d.number; ended = numbered_ended moved case d.ended }) (map (sheet_deadline (setup_of court) parts facts) ds)) ≡ []
+unmoved court parts facts named case moved [] = refl
+unmoved court parts facts named case moved (d ∷ ds) =
+    ap (λ (l : List ℕ). l ++ flat_map (deadline_shift court parts.days named case) (map (λ (s : SheetDeadline). record s { number = number_in moved case Deadline s.number; ended = numbered_ended moved case s.ended }) (map (sheet_deadline (setup_of court) parts facts) ds)))
+    (alike named case Deadline (number_in moved case Deadline d.number) (shown_text court.clock (shown_of parts.days court.clock d.row)))
+    ∙ unmoved court parts facts named case moved ds
 
 -- nor have its hearings
 same_hearing : (court : CourtView) (days : DaysView) (named : List NamedCase) (case number : ℕ) (h : Option Hearing) → hearing_shift court days named case number (option_map (sheet_hearing days) h) ≡ []
@@ -96,7 +96,7 @@ unmoved_sheet : (court : CourtView) (parts : Parts) (moved : List Moved) (named 
     → sheet_shifts court parts.days named (numbered_view moved (view.Sheet (sheet_of (setup_of court) parts case c))) ≡ []
 unmoved_sheet court parts moved named case c =
     ap (λ (l : List ℕ). l ++ flat_map (motion_shift court parts.days named case) (map (λ (m : SheetMotion). record m { number = number_in moved case CountedMotion m.number }) (map (sheet_motion parts.days c.facts) c.motions)))
-    (unmoved court parts c.facts named case (number_in moved case Deadline) c.deadlines)
+    (unmoved court parts c.facts named case moved c.deadlines)
     ∙ same_hearings court parts.days c.facts named case (number_in moved case CountedMotion) c.motions
 
 unmoved_view : (court : CourtView) (parts : Parts) (moved : List Moved) (named : List NamedCase) (case : ℕ) (refused : Option RefusalOf) (there : Option CaseRecordView)
@@ -136,7 +136,7 @@ made_taken setup parts (Cancel case motion) = refl
 made_taken setup parts (Holiday day list) = refl
 made_taken setup parts (Inaccessible day from to) = refl
 made_taken setup parts (Fact case (Ended deadline why dated)) = refl
-made_taken setup parts (Fact case (Resumed deadline dated)) = refl
+made_taken setup parts (Fact case (Resumed deadline day dated)) = refl
 made_taken setup parts (Fact case (Closed why dated)) = refl
 made_taken setup parts (Fact case (Reopened dated)) = refl
 made_taken setup parts (Fact case (Ruled motion how dated)) = refl

@@ -26,6 +26,10 @@ as_it_is line = record { text = line; name = None }
 abbrev pub with_number : (place : ℕ) → (fields : List (List ℕ)) → (number : ℕ) → List (List ℕ)
 with_number place fields number = take place fields ++ decimal number ∷ drop (place + 1) fields
 
+-- the fields with the number of the motion that suspends a deadline, in the fifth of them
+abbrev pub with_suspender : (fields : List (List ℕ)) → (motion : ℕ) → List (List ℕ)
+with_suspender fields motion = take 4 fields ++ (codes "suspended:" ++ decimal motion) ∷ drop 5 fields
+
 -- as the row with this number
 abbrev pub numbered : (fields : List (List ℕ)) → (number : ℕ) → Option NameView → Reading
 numbered fields number name = record { text = row_text default_writer (with_number 2 fields number); name = name }

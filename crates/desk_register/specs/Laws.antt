@@ -51,11 +51,11 @@ FaultlessLinesSayRows = (under : Standing) (kept : List (List ℕ)) (lines : Lis
 abbrev pub ACaseNumberIsOneCase : Type 0
 ACaseNumberIsOneCase = (under : Standing) (kept : List (List ℕ)) → AreApart (cases_of under kept).named
 
--- A line that says a row, or has another fault than in its third or its fourth field, is read as it is.
+-- A line that says a row, or has another fault than in its third, its fourth or its fifth field, is read as it is.
 abbrev pub OtherLinesAreReadAsTheyAre : Type 0
 OtherLinesAreReadAsTheyAre = (under : Standing) (kept : List (List ℕ)) (bytes : List ℕ) →
     let said = line_read most_clerks (names_of under.court) bytes in
-    lacks_field 3 said ≡ false → lacks_field 4 said ≡ false → reading_at under kept bytes ≡ as_it_is bytes
+    lacks_field 3 said ≡ false → lacks_field 4 said ≡ false → lacks_field 5 said ≡ false → reading_at under kept bytes ≡ as_it_is bytes
 
 -- A row that is struck is left out: its entry changes nothing of what is docketed.
 abbrev pub AStruckRowIsLeftOut : Type 0

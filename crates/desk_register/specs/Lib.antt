@@ -4,12 +4,14 @@ pub mod CaseLines
 pub mod Subjects
 pub mod LineCauses
 pub mod Run
+pub mod Called
 pub mod Rows
 pub mod History
 pub mod Striking
 pub mod Register
 pub mod Differences
 pub mod LineFaults
+pub mod Same
 pub mod Shifts
 pub mod Laws
 pub mod Questions

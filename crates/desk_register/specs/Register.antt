@@ -8,6 +8,7 @@ use Rattle.desk_numbers.specs.Strikes.Words.{all_before}
 use Rattle.desk_register.specs.declared.register.DocketRegister.{DocketRegister}
 use Rattle.desk_register.specs.declared.register.Done.{Done}
 use Rattle.desk_register.specs.declared.standing.Standing.{Standing}
+use Rattle.desk_register.specs.Called.{called_standing, newly_called, with_newly}
 use Rattle.desk_register.specs.Cases.{cases_of, opened_as, with_opened}
 use Rattle.desk_register.specs.Entries.{most_entries, next_number}
 use Rattle.desk_register.specs.Rows.{answer_to, entry_of, outcome_by}
@@ -21,11 +22,12 @@ entries_taken register = register.count
 abbrev pub number_of_next : DocketRegister → ℕ
 number_of_next register = register.number
 
--- its docket, its numbers and its cases are those of the entries under what stands, and it counts them and their rows
+-- its docket, its numbers, its cases and what these are called are those of the entries under what stands, and it counts them and their rows
 pub record StandsAt (under : Standing) (register : DocketRegister) (kept : List (List ℕ)) : Type 0 where
   pub docket : Holds (setup_of under.court) register.docket (docketed_by under kept)
   pub numbers : register.numbers ≡ (run_by under kept).numbers
   pub cases : register.cases ≡ cases_of under kept
+  pub called : register.called ≡ called_standing under kept
   pub number : register.number ≡ next_number kept
   pub count : register.count ≡ length kept
   pub begun : 0 < length kept
@@ -36,7 +38,8 @@ pub record IsReadyAt (under : Standing) (register : DocketRegister) (kept : List
   pub at : StandsAt under register kept
   pub before : all_before under.corrections (next_number kept) ≡ true
 
--- a row is done: this is its answer, its entry and what came of it, and the docket, the numbers and the cases are those after it
+-- a row is done: this is its answer, its entry and what came of it, and the docket, the numbers, the cases and what
+-- these are called are those after it
 pub record IsDone (under : Standing) (kept : List (List ℕ)) (fields : List (List ℕ)) (row : Row) (name : Option NameView) (register : DocketRegister) (made : Done) : Type 0 where
   pub answer : string_bytes made.answer ≡ answer_to under kept row
   pub entry : made.entry.items ≡ name_line name ++ entry_of under kept fields row
@@ -44,5 +47,6 @@ pub record IsDone (under : Standing) (kept : List (List ℕ)) (fields : List (Li
   pub docket : Holds (setup_of under.court) register.docket (docketed_with under (run_by under kept) row.work)
   pub numbers : register.numbers ≡ numbers_with under (run_by under kept) (next_number kept) row.work
   pub cases : register.cases ≡ with_opened (cases_of under kept) (opened_as row.work) name
+  pub called : register.called ≡ with_newly (called_standing under kept) (newly_called (setup_of under.court) (docketed_by under kept) (run_by under kept).numbers.moved row.work fields)
   pub number : register.number ≡ next_number kept + 1
   pub count : register.count ≡ length kept + 1

@@ -20,6 +20,7 @@ use Rattle.row_forms.specs.Words.{CourtNames, names_of}
 use Rattle.row_forms.specs.Line.Words.{fields_read, line_read}
 use Rattle.office_texts.specs.Named.Words.{named_line_of}
 use Rattle.desk_register.specs.declared.standing.Standing.{Standing}
+use Rattle.desk_register.specs.Called.{called_standing}
 use Rattle.desk_register.specs.Cases.{cases_of}
 use Rattle.desk_register.specs.declared.cause.LineCause.{LineCause}
 use Rattle.desk_register.specs.declared.cause.LineCause.TheVariants.{NotFound, Row as RowFault, TooManyCases}
@@ -27,8 +28,8 @@ use Rattle.desk_register.specs.declared.cause.Unfound.{Unfound}
 use Rattle.desk_register.specs.declared.subject.Named.{Named}
 use Rattle.desk_register.specs.CaseLines.{Reading, opens_too_many, reading_of}
 use Rattle.desk_register.specs.Entries.{most_clerks, most_rows, next_number}
-use Rattle.desk_register.specs.LineCauses.{fault_told, unfound_as}
-use Rattle.desk_register.specs.Subjects.{found_for, named_in, with_found}
+use Rattle.desk_register.specs.LineCauses.{fault_told, unfound_as, unfound_there}
+use Rattle.desk_register.specs.Subjects.{found_for, name_said, named_in, with_found}
 use Rattle.desk_register.specs.Run.{docketed_by, reply_by_places, reply_under, run_by}
 
 -- the row of a line that says one
@@ -94,14 +95,14 @@ with_name name entries = map (λ entry. name_line name ++ entry) entries
 abbrev pub cased_at : Standing → (kept : List (List ℕ)) → (line : List ℕ) → Reading
 cased_at under kept line = reading_of (names_of under.court) (cases_of under kept) line
 
--- what has that name in what entries docketed
-abbrev pub found_at : Standing → (kept : List (List ℕ)) → Named → Found
-found_at under kept named = found_for (setup_of under.court) (docketed_by under kept) (run_by under kept).numbers.moved named
+-- what has that name in what entries docketed, which a plain text says
+abbrev pub found_at : Standing → (kept : List (List ℕ)) → (text : List ℕ) → Named → Found
+found_at under kept text named = found_for (setup_of under.court) (docketed_by under kept) (run_by under kept).numbers (called_standing under kept) named (name_said text named)
 
 -- a plain text, with a number in place of what it names, where just one is so named
 abbrev pub found_text : Standing → (kept : List (List ℕ)) → (text : List ℕ) → Option Named → List ℕ
 found_text under kept text None = text
-found_text under kept text (Some named) = with_found text (found_at under kept named)
+found_text under kept text (Some named) = with_found named.at text (found_at under kept text named)
 
 abbrev pub with_subject : Standing → (kept : List (List ℕ)) → (cased : Reading) → Reading
 with_subject under kept cased = record { text = found_text under kept cased.text (named_in (names_of under.court) cased.text); name = cased.name }
@@ -117,12 +118,12 @@ pub record IsReadAt (under : Standing) (kept : List (List ℕ)) (bytes : List �
   pub fields_are : (row : Row) → read.0 ≡ line.Row row → fields ≡ fields_read (reading_at under kept bytes).text
 
 -- why the deadline or the motion isn't found that a plain text names, if it isn't
-abbrev pub unfound_of : Standing → (kept : List (List ℕ)) → Option Named → Option Unfound
-unfound_of under kept None = None
-unfound_of under kept (Some named) = unfound_as named.name (found_at under kept named)
+abbrev pub unfound_of : Standing → (kept : List (List ℕ)) → (text : List ℕ) → Option Named → Option Unfound
+unfound_of under kept text None = None
+unfound_of under kept text (Some named) = unfound_there named.at (unfound_as named.name (found_at under kept text named))
 
 abbrev pub unfound_at : Standing → (kept : List (List ℕ)) → (line : List ℕ) → Option Unfound
-unfound_at under kept line = unfound_of under kept (named_in (names_of under.court) (cased_at under kept line).text)
+unfound_at under kept line = let text = (cased_at under kept line).text in unfound_of under kept text (named_in (names_of under.court) text)
 
 -- after entries, a line opens a case too many
 abbrev pub too_many_at : Standing → (kept : List (List ℕ)) → (line : List ℕ) → Bool

@@ -9,9 +9,11 @@ pub use Rattle.desk_register.specs.Cases.{opened_in, with_opened}
 unfoldable pub use Rattle.desk_register.specs.Cases.{cases_after, cases_of}
 pub use Rattle.desk_register.specs.Shifts.{OthersAreToldTheirAnswers, RefusedAreToldTheirAnswers, changes_days, shifts, shifts_by, shifts_said, shifts_since}
 unfoldable pub use Rattle.desk_register.specs.Shifts.{told}
-pub use Rattle.desk_register.specs.CaseLines.{Reading, as_it_is, lacks_field}
+pub use Rattle.desk_register.specs.CaseLines.{Reading, as_it_is, lacks_field, with_suspender}
 unfoldable pub use Rattle.desk_register.specs.CaseLines.{opens_too_many, reading_of}
+pub use Rattle.desk_register.specs.Subjects.{before_number}
 unfoldable pub use Rattle.desk_register.specs.Subjects.{named_in}
+pub use Rattle.desk_register.specs.Called.{called_standing}
 pub use Rattle.desk_register.specs.LineCauses.{cause_as, fault_told, line_cause_text, unfound_words}
 unfoldable pub use Rattle.desk_register.specs.LineCauses.{too_many_words}
 pub use Rattle.desk_register.specs.History.{CanBe, IsHistory, MayFollow, SaysCourt, SaysNumbers, StandsAfter}

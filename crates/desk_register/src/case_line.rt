@@ -3,7 +3,7 @@ ghost use Rattle.std.specs.Prelude.{◌≡◌, ◌≤◌, ◌+◌, ◌++◌, ◌
 ghost use Rattle.std.specs.Fmt.{decimal};
 ghost use Rattle.csv.specs.Records.{field_at, fields_of, partial_of};
 ghost use Rattle.csv.specs.Writing.{default_writer, row_text};
-ghost use Rattle.desk_register.specs.CaseLines.{IsRead, case_in, finds_no_number, fresh_for, lacks_number, lacks_field, named, named_if, newly, opens_too_many, read_as, with_number};
+ghost use Rattle.desk_register.specs.CaseLines.{IsRead, case_in, finds_no_number, fresh_for, lacks_number, lacks_field, named, named_if, newly, opens_too_many, read_as, with_number, with_suspender};
 ghost use Rattle.case_numbers.specs.Words.{number_of};
 ghost use Rattle.row_forms.specs.Words.{names_of};
 ghost use Rattle.desk_register.specs.Cases.{opened_as, with_opened};
@@ -219,11 +219,35 @@ pub fn with_field(
 ) -> Result<StringRecord, AllocError>
     ensures { IfOk result (λ row. fields_of row ≡ with_number place (fields_of fields.now) number) }
 {
-    let place = usize::from(place);
     let digits = format!(in alloc; "{number}")?;
+    with_text(alloc, fields, place, &digits)
+}
+
+/// The fields with the number of the motion that suspends a deadline, in the fifth of them. `Err` says that memory ran out.
+pub fn with_suspender(
+    alloc: Global,
+    fields: &StringRecord,
+    motion: u32,
+) -> Result<StringRecord, AllocError>
+    ensures { IfOk result (λ row. fields_of row ≡ with_suspender (fields_of fields.now) motion) }
+{
+    let text = format!(in alloc; "suspended:{motion}")?;
+    with_text(alloc, fields, 4, &text)
+}
+
+// The fields with this text at a place, counted from 0.
+fn with_text(
+    alloc: Global,
+    fields: &StringRecord,
+    place: u8,
+    text: &str,
+) -> Result<StringRecord, AllocError>
+    ensures { IfOk result (λ row. fields_of row ≡ take place (fields_of fields.now) ++ text.now ∷ drop (place + 1) (fields_of fields.now)) }
+{
+    let place = usize::from(place);
     let mut row = StringRecord::new(alloc);
     push_fields(&mut row, fields, 0, place)?;
-    row.push_field(&digits)?;
+    row.push_field(text)?;
     push_fields(&mut row, fields, place + 1, fields.len())?;
     Ok(row)
 }

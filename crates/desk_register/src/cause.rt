@@ -1,9 +1,10 @@
 //! What is wrong with a line, and what is said of it.
 ghost use Rattle.std.specs.Prelude.{◌≡◌, ◌++◌, ◌∷◌, [], OnOk};
-ghost use Rattle.desk_register.specs.LineCauses.{by_number, cause_as, clerk_in, clerk_text, fault_front, fault_rest, fault_told, first_words, none_words, second_words, too_many_words, unfound_as, unfound_words};
+ghost use Rattle.desk_register.specs.LineCauses.{by_number, cause_as, cause_words, clerk_in, clerk_text, counted_word, fault_front, fault_rest, fault_told, first_called_words, first_words, none_called_words, none_made_words, none_words, second_called_words, second_words, too_many_words, two_called_words, unfound_as, unfound_there, unfound_words};
 
 use crate::register::MOST_CLERKS;
 use desk_numbers::{Found, SubjectName};
+use docket_rows::Counted;
 use row_forms::{RowCause, read_clerk};
 use rule_periods::RulePeriod;
 use std::alloc::{AllocError, Global};
@@ -11,13 +12,28 @@ use std::fmt;
 
 /// Why it isn't clear which deadline or motion a row names that doesn't name it by its number.
 #[derive(Clone, Copy, Debug, PartialEq, Eq)]
-pub enum Unfound {
+pub enum UnfoundCause {
     /// No deadline of the case under this rule is pending.
     NoDeadline(RulePeriod),
     /// Two or more are, and these are the numbers of the first two.
     TwoDeadlines(RulePeriod, u32, u32),
     /// The case has no motion.
     NoMotion,
+    /// The row before made no deadline, or no motion, in the case.
+    NoneMade(Counted),
+    /// No deadline, or no motion, of the case is called as the row says.
+    NoneCalled(Counted),
+    /// Two or more are, and these are the numbers of the first two.
+    TwoCalled(Counted, u32, u32),
+}
+
+/// That it isn't clear which deadline or motion a row names that doesn't name it by its number.
+#[derive(Clone, Copy, Debug, PartialEq, Eq)]
+pub struct Unfound {
+    /// The column of the row where its number would be, counted from 1.
+    pub column: u8,
+    /// Why.
+    pub why: UnfoundCause,
 }
 
 /// What is wrong with a line.
@@ -27,7 +43,7 @@ pub enum LineCause {
     Row(RowCause),
     /// 7: It opens a case by the number that the court gives it, and the folder holds 4,096 cases already.
     TooManyCases,
-    /// 4, in the fourth field: It isn't clear which deadline or motion it names.
+    /// 4, in the field where its number would be: It isn't clear which deadline or motion it names.
     NotFound(Unfound),
 }
 
@@ -42,7 +58,10 @@ impl fmt::Display for LineCause {
         match self {
             LineCause::Row(cause) => write!(f, "{cause}"),
             LineCause::TooManyCases => f.write_str("7 TooManyCases"),
-            LineCause::NotFound(_) => f.write_str("4 BadField 4"),
+            LineCause::NotFound(unfound) => {
+                let column = unfound.column;
+                write!(f, "4 BadField {column}")
+            }
         }
     }
 }
@@ -67,19 +86,32 @@ pub(crate) fn cause_as(too_many: bool, cause: RowCause) -> LineCause
 }
 
 // Why it isn't clear what has that name, if it isn't, where this is found.
-pub(crate) fn unfound_as(name: SubjectName, found: Found) -> Option<Unfound>
+pub(crate) fn unfound_as(name: SubjectName, found: Found) -> Option<UnfoundCause>
     ensures { result ≡ unfound_as name found }
 {
     match found {
         Found::One(_) => None,
         Found::None => match name {
-            SubjectName::Under(rule) => Some(Unfound::NoDeadline(rule)),
-            SubjectName::Newest => Some(Unfound::NoMotion),
+            SubjectName::Under(rule) => Some(UnfoundCause::NoDeadline(rule)),
+            SubjectName::Newest => Some(UnfoundCause::NoMotion),
+            SubjectName::Made(counted) => Some(UnfoundCause::NoneMade(counted)),
+            SubjectName::Called(counted) => Some(UnfoundCause::NoneCalled(counted)),
         },
         Found::Two(number, other) => match name {
-            SubjectName::Under(rule) => Some(Unfound::TwoDeadlines(rule, number, other)),
-            SubjectName::Newest => None,
+            SubjectName::Under(rule) => Some(UnfoundCause::TwoDeadlines(rule, number, other)),
+            SubjectName::Newest | SubjectName::Made(_) => None,
+            SubjectName::Called(counted) => Some(UnfoundCause::TwoCalled(counted, number, other)),
         },
+    }
+}
+
+// That it isn't clear what a row names in that column, if it isn't.
+pub(crate) fn unfound_there(column: u8, why: Option<UnfoundCause>) -> Option<Unfound>
+    ensures { result ≡ unfound_there column why }
+{
+    match why {
+        Some(why) => Some(Unfound { column, why }),
+        None => None,
     }
 }
 
@@ -155,23 +187,105 @@ fn push_by_number(text: &mut Vec<u8>) -> Result<(), AllocError>
     text.extend_from_slice(b": name one by its number")
 }
 
-/// Adds why it isn't clear which deadline or motion a row names, and what to do.
-pub fn push_unfound(alloc: Global, text: &mut Vec<u8>, why: Unfound) -> Result<(), AllocError>
-    ensures { OnOk result (text.new.items ≡ text.old.items ++ unfound_words why) }
+// Whether a thing is a deadline or a motion, in a word.
+fn counted_word(counted: Counted) -> &'static str
+    ensures { result.now ≡ counted_word counted }
+{
+    match counted {
+        Counted::Deadline => "deadline",
+        Counted::Motion => "motion",
+    }
+}
+
+// Adds that nothing is called so, and what to do.
+fn push_none_called(alloc: Global, text: &mut Vec<u8>, counted: Counted) -> Result<(), AllocError>
+    ensures { OnOk result (text.new.items ≡ text.old.items ++ none_called_words counted) }
+{
+    let word = counted_word(counted);
+    let words = format!(in alloc;
+        "no {word} of the case is called so: name one by its number or its label"
+    )?;
+    text.extend_from_slice(words.as_bytes())
+}
+
+// Adds that the row before made nothing of the kind.
+fn push_none_made(alloc: Global, text: &mut Vec<u8>, counted: Counted) -> Result<(), AllocError>
+    ensures { OnOk result (text.new.items ≡ text.old.items ++ none_made_words counted) }
+{
+    let word = counted_word(counted);
+    let words = format!(in alloc; "the row before made no {word} in the case")?;
+    text.extend_from_slice(words.as_bytes())
+}
+
+// Adds that two are called so.
+fn push_two_called(
+    alloc: Global,
+    text: &mut Vec<u8>,
+    counted: Counted,
+    number: u32,
+    other: u32,
+) -> Result<(), AllocError>
+    ensures { OnOk result (text.new.items ≡ text.old.items ++ two_called_words counted number other) }
+{
+    push_first_called(alloc, text, counted, number)?;
+    push_second_called(alloc, text, other)
+}
+
+// Adds the first of two that are called so.
+fn push_first_called(
+    alloc: Global,
+    text: &mut Vec<u8>,
+    counted: Counted,
+    number: u32,
+) -> Result<(), AllocError>
+    ensures { OnOk result (text.new.items ≡ text.old.items ++ first_called_words counted number) }
+{
+    let word = counted_word(counted);
+    let words = format!(in alloc; "{word}s {number}")?;
+    text.extend_from_slice(words.as_bytes())
+}
+
+// Adds the second.
+fn push_second_called(alloc: Global, text: &mut Vec<u8>, number: u32) -> Result<(), AllocError>
+    ensures { OnOk result (text.new.items ≡ text.old.items ++ second_called_words number) }
+{
+    let words = format!(in alloc; " and {number} of the case are called so")?;
+    text.extend_from_slice(words.as_bytes())
+}
+
+// Adds why it isn't clear which is meant, and what to do.
+fn push_why(alloc: Global, text: &mut Vec<u8>, why: UnfoundCause) -> Result<(), AllocError>
+    ensures { OnOk result (text.new.items ≡ text.old.items ++ cause_words why) }
 {
     match why {
-        Unfound::NoDeadline(rule) => {
+        UnfoundCause::NoDeadline(rule) => {
             push_none(alloc, text, rule.code())?;
             push_by_number(text)
         }
-        Unfound::TwoDeadlines(rule, number, other) => {
+        UnfoundCause::TwoDeadlines(rule, number, other) => {
             push_first(alloc, text, number)?;
             push_second(alloc, text, other)?;
             text.extend_from_slice(rule.code().as_bytes())?;
             push_by_number(text)
         }
-        Unfound::NoMotion => text.extend_from_slice(b"the case has no motion"),
+        UnfoundCause::NoMotion => text.extend_from_slice(b"the case has no motion"),
+        UnfoundCause::NoneMade(counted) => {
+            push_none_made(alloc, text, counted)?;
+            push_by_number(text)
+        }
+        UnfoundCause::NoneCalled(counted) => push_none_called(alloc, text, counted),
+        UnfoundCause::TwoCalled(counted, number, other) => {
+            push_two_called(alloc, text, counted, number, other)?;
+            push_by_number(text)
+        }
     }
+}
+
+/// Adds why it isn't clear which deadline or motion a row names, and what to do.
+pub fn push_unfound(alloc: Global, text: &mut Vec<u8>, unfound: Unfound) -> Result<(), AllocError>
+    ensures { OnOk result (text.new.items ≡ text.old.items ++ unfound_words unfound) }
+{
+    push_why(alloc, text, unfound.why)
 }
 
 // Adds what follows: for some faults why, and the end of the line.

@@ -2,6 +2,7 @@
 //! and which rows can be struck or restored.
 #![tactic(auto)]
 
+mod called;
 mod case_line;
 mod cause;
 mod differences;
@@ -14,13 +15,14 @@ mod next_line;
 mod outcome;
 mod questions;
 mod register;
+mod same;
 mod shifts;
 mod standing;
 mod striking;
 mod subject;
 
-pub use case_line::with_field;
-pub use cause::{LineCause, Unfound, push_unfound, too_many_words};
+pub use case_line::{with_field, with_suspender};
+pub use cause::{LineCause, Unfound, UnfoundCause, push_unfound, too_many_words};
 pub use differences::{Difference, decide_entry};
 pub use entry::{court_entry, is_row, later_file, standing_file};
 pub use fault::StrikeFault;
@@ -35,3 +37,4 @@ pub use questions::Questions;
 pub use register::{DocketRegister, MOST_CLERKS, MOST_ENTRIES, MOST_ROWS, RowTypes};
 pub use standing::Standing;
 pub use striking::entry_at;
+pub use subject::before_number;

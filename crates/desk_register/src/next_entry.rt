@@ -31,6 +31,7 @@ impl DocketRegister {
         ensures fields { IfOk result (λ said. (row : RowOf) → said ≡ says.Row row → fields_of self.new.fields ≡ fields_read line.now) }
         ensures cases { self.new.cases ≡ self.old.cases }
         ensures docket { self.new.docket ≡ self.old.docket }
+        ensures called { self.new.called ≡ self.old.called }
         ensures numbers { self.new.numbers ≡ self.old.numbers }
         ensures count { self.new.count ≡ self.old.count }
         ensures number { self.new.number ≡ self.old.number }
@@ -49,6 +50,7 @@ impl DocketRegister {
     fn pass_row(&mut self, under: &Standing) -> Result<(), AllocError>
         requires { self.old.count < most_entries }
         ensures docket { self.new.docket ≡ self.old.docket }
+        ensures called { self.new.called ≡ self.old.called }
         ensures numbers { OnOk result (self.new.numbers ≡ passed under.now.corrections.kept self.old.numbers self.old.number) }
         ensures cases { self.new.cases ≡ self.old.cases }
         ensures count { OnOk result (self.new.count ≡ self.old.count + 1) }
@@ -69,6 +71,7 @@ impl DocketRegister {
     ) -> Result<(), AllocError>
         requires { self.old.count < most_entries }
         ensures docket { self.new.docket ≡ self.old.docket }
+        ensures called { self.new.called ≡ self.old.called }
         ensures numbers { OnOk result (self.new.numbers ≡ passed under.now.corrections.kept self.old.numbers self.old.number) }
         ensures cases { OnOk result (self.new.cases ≡ with_opened self.old.cases (opened_in (line_read most_clerks (names_of under.now.court) (after_name entry.now))) (name_before entry.now)) }
         ensures count { OnOk result (self.new.count ≡ self.old.count + 1) }

@@ -13,6 +13,7 @@ ghost use Rattle.desk_register.specs.LineCauses.{cause_or};
 ghost use Rattle.desk_register.specs.Rows.{IsReadAt, answer_to, asks, has_room, outcome_by, special_at};
 ghost use Rattle.desk_register.specs.Run.{corrections_then, docketed_by, docketed_with, numbers_with, reply_by_places, run_by, unsaid_by};
 
+use crate::called::add_newly;
 use crate::case_line::{note_case, opens_too_many};
 use crate::cause::{LineCause, push_cause};
 use crate::entry::{answer_of, entry_of};
@@ -22,7 +23,7 @@ use crate::standing::Standing;
 use case_numbers::{CaseName, Cases};
 use court_clock::Day;
 use csv::StringRecord;
-use desk_numbers::{Corrections, RowNumbers, Said, given_by};
+use desk_numbers::{CalledTexts, Corrections, RowNumbers, Said, given_by};
 use desk_session::{Outcome, Register};
 use docket_core::Docket;
 use docket_rows::{Closing, Command, Counted, Ending, Fact, Query, Ruling};
@@ -78,6 +79,8 @@ pub struct DocketRegister {
     pub(crate) cases: Cases,
     // The numbers of what rows started and entered.
     pub(crate) numbers: RowNumbers,
+    // What rows call cases, deadlines and motions.
+    pub(crate) called: CalledTexts,
     // The fields of the row that was read last.
     pub(crate) fields: StringRecord,
     ghost numbered: { number ≤ count },
@@ -97,6 +100,7 @@ impl DocketRegister {
             number: 1,
             cases: Cases::new(alloc),
             numbers: RowNumbers::new(alloc),
+            called: CalledTexts::new(alloc),
             fields: StringRecord::new(alloc),
         })
     }
@@ -112,6 +116,7 @@ impl DocketRegister {
         ensures docket { self.new.docket ≡ self.old.docket }
         ensures numbers { self.new.numbers ≡ self.old.numbers }
         ensures cases { self.new.cases ≡ self.old.cases }
+        ensures called { self.new.called ≡ self.old.called }
         ensures count { self.new.count ≡ self.old.count }
         ensures number { self.new.number ≡ self.old.number }
     {
@@ -119,7 +124,8 @@ impl DocketRegister {
             alloc,
             under,
             &self.docket,
-            self.numbers.moved(),
+            &self.numbers,
+            &self.called,
             &self.cases,
             line,
             &mut self.fields,
@@ -139,8 +145,8 @@ impl DocketRegister {
         if opens_too_many(alloc, &under.court, &self.cases, line)? {
             return Ok(LineCause::TooManyCases);
         }
-        let moved = self.numbers.moved();
-        match unfound_in(alloc, under, &self.docket, moved, &self.cases, line)? {
+        let (docket, called) = (&self.docket, &self.called);
+        match unfound_in(alloc, under, docket, &self.numbers, called, &self.cases, line)? {
             Some(why) => Ok(LineCause::NotFound(why)),
             None => Ok(LineCause::Row(cause)),
         }
@@ -159,6 +165,7 @@ impl DocketRegister {
         ensures count { self.new.count ≡ self.old.count }
         ensures number { self.new.number ≡ self.old.number }
         ensures cases { self.new.cases ≡ self.old.cases }
+        ensures called { self.new.called ≡ self.old.called }
         ensures fields { self.new.fields ≡ self.old.fields }
     {
         let placed = self.numbers.moved().place(asked);
@@ -220,6 +227,7 @@ impl DocketRegister {
         ensures count { self.new.count ≡ self.old.count }
         ensures number { self.new.number ≡ self.old.number }
         ensures cases { self.new.cases ≡ self.old.cases }
+        ensures called { self.new.called ≡ self.old.called }
         ensures fields { self.new.fields ≡ self.old.fields }
     {
         let reply = self.replied(alloc, under, &row.work)?;
@@ -243,9 +251,11 @@ impl DocketRegister {
         ensures done { (kept : List (List ℕ)) → StandsAt under.now self.old kept → IfOk result (IsDone under.now kept (fields_of self.old.fields) row.now name self.new) }
         ensures count { OnOk result (self.new.count ≡ self.old.count + 1) }
     {
+        let newly = self.newly(alloc, row)?;
         let (answer, outcome) = self.answered(alloc, under, row)?;
         let entry = entry_of(alloc, &name, &self.fields, &answer)?;
         note_case(alloc, &mut self.cases, &row.work, name)?;
+        add_newly(alloc, &mut self.called, newly)?;
         self.count += 1;
         self.number += 1;
         Ok(Done {
@@ -266,8 +276,9 @@ impl DocketRegister {
     ) -> Result<(Line, Option<CaseName>), AllocError>
         ensures { (kept : List (List ℕ)) → StandsAt under.now self.now kept → IfOk result (IsReadAt under.now kept line.now (fields_of fields.new)) }
     {
-        let moved = self.numbers.moved();
-        read_next(alloc, under, &self.docket, moved, &self.cases, line, fields)
+        let (docket, numbers) = (&self.docket, &self.numbers);
+        let (called, cases) = (&self.called, &self.cases);
+        read_next(alloc, under, docket, numbers, called, cases, line, fields)
     }
 
     /// How many entries there are, the court's file and corrections among them.

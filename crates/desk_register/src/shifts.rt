@@ -1,5 +1,5 @@
 //! What moves when days change: the ends of deadlines, and the last days for affidavits of hearings.
-ghost use Rattle.std.specs.Prelude.{◌≡◌, ◌+◌, ◌<◌, ◌≤◌, ◌++◌, ℕ, List, IfOk, OnOk, string_bytes};
+ghost use Rattle.std.specs.Prelude.{◌≡◌, ◌+◌, ◌<◌, ◌≤◌, ◌++◌, ℕ, List, Some, IfOk, OnOk, string_bytes};
 ghost use Rattle.std.specs.List.{flat_map};
 ghost use Rattle.csv.specs.Records.{fields_of};
 ghost use Rattle.docket_rows.specs.declared.view.View.TheVariants.{Sheet as SheetView};
@@ -9,9 +9,10 @@ ghost use Rattle.office_texts.specs.Run.Words.{Holds};
 ghost use Rattle.office_texts.specs.Words.{AddsText, hearing_text, shown_text};
 ghost use Rattle.desk_register.specs.Entries.{most_entries};
 ghost use Rattle.desk_register.specs.Rows.{answer_to};
-ghost use Rattle.desk_register.specs.Shifts.{changes_days, days_before, deadline_shift, motion_shift, sheet_shifts, shifts, shifts_by, shifts_from, shifts_since};
+ghost use Rattle.desk_register.specs.Shifts.{changes_days, days_before, deadline_shift, hearing_shift, motion_shift, sheet_shifts, shifts, shifts_by, shifts_from, shifts_since};
 
 use crate::register::{DocketRegister, Done};
+use crate::same::{is_same_day, is_same_end};
 use crate::standing::Standing;
 use case_numbers::{CaseName, Cases};
 use court_days::{Court, Days};
@@ -71,7 +72,11 @@ fn push_deadline(
 ) -> Result<(), AllocError>
     ensures { OnOk result (AddsText text.old text.new (deadline_shift court.now before.now cases.now.named case deadline.now)) }
 {
-    let was = end_text(alloc, court, shown(before, court.clock(), &deadline.row))?;
+    let had = shown(before, court.clock(), &deadline.row);
+    if is_same_end(&had, &deadline.shown) {
+        return Ok(());
+    }
+    let was = end_text(alloc, court, had)?;
     let is = end_text(alloc, court, deadline.shown)?;
     push_shift(
         text,
@@ -121,7 +126,37 @@ fn hearing_by(days: &Days, hearing: Hearing) -> SheetHearing
     }
 }
 
-// Adds the line of a motion of a sheet, unless its hearing is shown as by the days before.
+// Adds the line of a hearing, unless it is shown as by the days before.
+fn push_hearing_shift(
+    alloc: Global,
+    text: &mut String,
+    court: &Court,
+    cases: &Cases,
+    before: &Days,
+    case: u32,
+    number: u32,
+    hearing: &SheetHearing,
+) -> Result<(), AllocError>
+    ensures { OnOk result (AddsText text.old text.new (hearing_shift court.now before.now cases.now.named case number (Some hearing.now))) }
+{
+    let had = hearing_by(before, hearing.hearing);
+    if is_same_day(&had.affidavits, &hearing.affidavits) {
+        return Ok(());
+    }
+    let was = hearing_shown(alloc, court, &had)?;
+    let is = hearing_shown(alloc, court, hearing)?;
+    push_shift(
+        text,
+        cases,
+        case,
+        Counted::Motion,
+        number,
+        was.as_str(),
+        is.as_str(),
+    )
+}
+
+// Adds the line of a motion of a sheet, if it has a hearing.
 fn push_motion(
     alloc: Global,
     text: &mut String,
@@ -133,20 +168,19 @@ fn push_motion(
 ) -> Result<(), AllocError>
     ensures { OnOk result (AddsText text.old text.new (motion_shift court.now before.now cases.now.named case motion.now)) }
 {
-    let Some(hearing) = motion.hearing else {
-        return Ok(());
-    };
-    let was = hearing_shown(alloc, court, &hearing_by(before, hearing.hearing))?;
-    let is = hearing_shown(alloc, court, &hearing)?;
-    push_shift(
-        text,
-        cases,
-        case,
-        Counted::Motion,
-        motion.number,
-        was.as_str(),
-        is.as_str(),
-    )
+    match &motion.hearing {
+        Some(hearing) => push_hearing_shift(
+            alloc,
+            text,
+            court,
+            cases,
+            before,
+            case,
+            motion.number,
+            hearing,
+        ),
+        None => Ok(()),
+    }
 }
 
 // Adds the lines of the motions of a sheet.

@@ -42,7 +42,7 @@ module _ (leaves : List (List ℕ) → List ℕ → List (List ℕ)) (answers : 
   unfolding left_by
   one_left kept line = append-nil (leaves kept line)
 
-  one_told : (kept : List (List ℕ)) (line : List ℕ) → told_to leaves answers kept (line ∷ []) ≡ answers kept line
+  pub one_told : (kept : List (List ℕ)) (line : List ℕ) → told_to leaves answers kept (line ∷ []) ≡ answers kept line
   unfolding told_to
   one_told kept line = append-nil (answers kept line)
 

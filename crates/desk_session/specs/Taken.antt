@@ -1,4 +1,4 @@
--- What lines leave in a journal, and what they are answered: a line leaves one entry or none, by the entries before it.
+-- What lines leave in a journal, and what they are answered: a line leaves entries or none, by the entries before it.
 use Rattle.std.specs.Prelude.{◌≡◌, ℕ, List, [], ◌∷◌, ◌++◌}
 
 -- what lines leave, after the entries `kept`

@@ -24,8 +24,8 @@ pub use clock::second_of;
 pub use fault::SessionFault;
 pub use gather::MAX_LINE;
 pub use lines::{
-    SplitLine, after_mark, is_finished, mark_of, number_after, numbered_lines_are_lines,
-    split_line, unmarked,
+    BETWEEN_ROWS, SplitLine, after_mark, is_finished, mark_of, number_after,
+    numbered_lines_are_lines, split_line, unmarked,
 };
 pub use outcome::{Outcome, Tally};
 pub use reading::read_lines;

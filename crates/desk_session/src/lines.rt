@@ -2,6 +2,9 @@
 ghost use Rattle.std.specs.Prelude.{◌≡◌, ◌<◌, ◌-◌, ◌^◌, ◌↔◌, [], IsTrue, MatchOption, option_map};
 ghost use Rattle.desk_session.specs.Lines.{HasNoEnd, IsFirstLine, NumberedLinesAreLines, after_mark, ends_line, mark_of, number_after, unfinished_of, unmarked};
 
+/// The byte between the rows of a line that are to be kept together: ASCII's record separator.
+pub const BETWEEN_ROWS: u8 = 30;
+
 /// An input, split after its first line.
 #[derive(Clone, Copy)]
 pub struct SplitLine<'a> {

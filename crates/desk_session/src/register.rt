@@ -15,7 +15,7 @@ pub trait Register {
     // It is as these entries leave it.
     ghost stands: { Self.Setup → Self → (kept : List (List ℕ)) → Type 0 };
 
-    // What a line leaves after these entries: an entry, or none.
+    // What a line leaves after these entries: entries, or none.
     ghost leaves: { Self.Setup → (kept : List (List ℕ)) → (line : List ℕ) → List (List ℕ) };
 
     // What a line is answered after these entries.
@@ -24,7 +24,7 @@ pub trait Register {
     // What comes of a line after these entries.
     ghost outcome: { Self.Setup → (kept : List (List ℕ)) → (line : List ℕ) → OutcomeOf };
 
-    /// Takes a line, without its end: adds the entry that it leaves, if any, to the batch, and its answer to the text, and says
+    /// Takes a line, without its end: adds the entries that it leaves, if any, to the batch, and its answer to the text, and says
     /// what comes of it. `Err` says that memory ran out.
     fn take(
         &mut self,

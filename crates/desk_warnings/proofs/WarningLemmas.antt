@@ -1,6 +1,7 @@
 -- What a clerk is warned of rests on what the parts hold alone.
 use Rattle.std.proofs.Common.{◌≡◌, ◌∙◌, ◌++◌, ℕ, ℤ, List, [], Option, refl, ap, append_assoc}
 use Rattle.case_numbers.specs.declared.names.NamedCase.{NamedCase}
+use Rattle.case_numbers.specs.Words.{NameView}
 use Rattle.rule6.specs.declared.service.ServiceKind.{ServiceKind}
 use Rattle.rule6.specs.declared.timeliness.Filing.{Filing}
 use Rattle.rule_periods.specs.declared.period.Period.{Period}
@@ -14,6 +15,7 @@ use Rattle.row_forms.specs.declared.row.Work.{Work}
 use Rattle.reason_refusals.proofs.CommandsLemmas.CallerLemmas.{parts_same}
 use Rattle.court_days.specs.Words.{CourtView}
 use Rattle.desk_numbers.specs.declared.moved.Moved.{Moved}
+use Rattle.desk_warnings.specs.declared.register.HeldBack.{HeldBack}
 use Rattle.desk_warnings.specs.Warnings.{if_made, warnings_on}
 
 -- a command of another kind that isn't refused draws none
@@ -36,8 +38,8 @@ none_made court moved named parts today (command.Holiday day list) start act req
 none_made court moved named parts today (command.Fact case fact) start act request outage = refl
 
 -- parts that hold the same draw the same warnings
-pub warned_on : (court : CourtView) (moved : List Moved) (named : List NamedCase) (p q : Parts) → ((part : PartId) → part_value p part ≡ part_value q part) → (today : Option ℤ) (work : Work) → warnings_on court moved named p today work ≡ warnings_on court moved named q today work
-warned_on court moved named p q same today work = ap (λ (parts : Parts). warnings_on court moved named parts today work) (parts_same p q same)
+pub warned_on : (court : CourtView) (moved : List Moved) (named : List NamedCase) (p q : Parts) → ((part : PartId) → part_value p part ≡ part_value q part) → (held : HeldBack) (name : Option NameView) (work : Work) → warnings_on court moved named p held name work ≡ warnings_on court moved named q held name work
+warned_on court moved named p q same held name work = ap (λ (parts : Parts). warnings_on court moved named parts held name work) (parts_same p q same)
 
 -- a text after four parts more
 pub four_parts : (t0 t1 t2 t3 t4 a b c d : List ℕ) → t1 ≡ t0 ++ a → t2 ≡ t1 ++ b → t3 ≡ t2 ++ c → t4 ≡ t3 ++ d → t4 ≡ t0 ++ (((a ++ b) ++ c) ++ d)

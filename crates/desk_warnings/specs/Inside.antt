@@ -1,2 +1,3 @@
 -- What only proofs rest on, and no reader has to believe.
+pub mod Rows
 pub mod Start

@@ -1,5 +1,12 @@
+pub mod Sheet
+pub mod Again
+pub mod Appeal
+pub mod Dated
+pub mod Long
+pub mod Office
 pub mod Instead
 pub mod Warnings
+pub mod Rows
 pub mod Careful
 pub mod Laws
 pub mod Words

@@ -5,31 +5,37 @@ ghost use Rattle.rule_periods.specs.Words.{is_grant_length, shown_of, with_grant
 ghost use Rattle.docket_rows.specs.Words.{deadline_in, extend_refusal, setup_of};
 ghost use Rattle.reason_notes.specs.Warnings.Words.{extension_notes};
 ghost use Rattle.docket_core.specs.Words.{parts_held};
+ghost use Rattle.desk_warnings.specs.Sheet.{sheet_deadlines};
 ghost use Rattle.desk_warnings.specs.Warnings.{on_act, on_request};
 
+use crate::appeal::push_moves;
 use court_clock::Clock;
 use court_days::{Court, Days};
+use desk_numbers::MovedNumbers;
 use docket_core::Docket;
-use reason_notes::{push_early_act, push_extension_notes};
+use reason_notes::{push_extension_notes, push_notes_of_act};
 use rule_periods::{DeadlineRow, Request, may_extend, runs_from, shown_with};
 use rule6::Filing;
-use std::alloc::AllocError;
+use std::alloc::{AllocError, Global};
 
 /// Adds what a clerk is warned of an act of a deadline that the docket has.
 pub(crate) fn push_act(
+    alloc: Global,
     text: &mut String,
+    moved: &MovedNumbers,
     docket: &Docket,
     case: u32,
     deadline: u32,
     filing: &Filing,
 ) -> Result<(), AllocError>
-    ensures { OnOk result (string_bytes text.new ≡ string_bytes text.old ++ on_act (deadline_in (parts_held docket.now) case deadline) filing.now) }
+    ensures { OnOk result (string_bytes text.new ≡ string_bytes text.old ++ on_act moved.now case (sheet_deadlines docket.now.setup (parts_held docket.now) case) (deadline_in (parts_held docket.now) case deadline) filing.now) }
 {
     let Some(row) = docket.deadline(case, deadline) else {
         return Ok(());
     };
     let row = row.row();
-    push_early_act(text, row.period(), runs_from(row), Some(*filing))
+    push_notes_of_act(text, row.period(), runs_from(row), Some(*filing))?;
+    push_moves(alloc, text, moved, docket, case, row, filing)
 }
 
 /// Adds what a clerk is warned of an extension that isn't refused.

@@ -1,20 +1,18 @@
-//! The register that may hold back rows that draw a warning.
-ghost use Rattle.std.specs.Prelude.{◌≡◌, ◌≢◌, ◌++◌, [], ℕ, List, true, false, IfOk, OnOk, string_bytes};
+//! The register that takes lines whole, and may hold back those with a row that draws a warning.
+ghost use Rattle.std.specs.Prelude.{◌≡◌, ◌≢◌, ◌++◌, [], ℕ, List, true, false, IfOk, OnOk};
 ghost use Rattle.desk_journal.specs.Words.{batch_of};
-ghost use Rattle.desk_session.specs.Words.{TakesLine};
-ghost use Rattle.row_forms.specs.Words.{names_of};
-ghost use Rattle.row_forms.specs.Line.Words.{line_read};
-ghost use Rattle.desk_register.specs.Words.{IsReadyAt, StandsAt, most_clerks, reading_at, within};
-ghost use Rattle.desk_warnings.specs.declared.register.HeldBack.TheVariants.{Warned};
-ghost use Rattle.desk_warnings.specs.Careful.{are_marked, careful_answers, careful_leaves, careful_outcome, held_first, held_last, held_text, warnings_at, warnings_said};
+ghost use Rattle.desk_session.specs.Words.{TakesLine, TakesLines};
+ghost use Rattle.desk_register.specs.Words.{IsReadyAt, leaves, told};
+ghost use Rattle.desk_warnings.specs.Inside.Rows.{row_texts};
+ghost use Rattle.desk_warnings.specs.Careful.{are_marked, careful_answers, careful_leaves, careful_outcome, held_came, held_first, held_for, held_last, held_text, whole_answers, whole_leaves, whole_outcome};
+ghost use Rattle.desk_warnings.specs.Rows.{came_of_rows};
 
-use crate::warnings::warnings_on;
+use crate::rows::{either_came, line_rows};
 use court_clock::Day;
-use csv::StringRecord;
 use desk_register::{DocketRegister, Standing};
-use desk_session::{Outcome, Register, after_mark};
+use desk_session::{Outcome, Register, after_mark, unmarked};
 use docket_rows::{Closing, Command, Counted, Ending, Fact, Query, Ruling};
-use row_forms::{Line, Row, RowCause, Work};
+use row_forms::{Row, RowCause, Work};
 use rule_periods::{Grant, Request};
 use std::alloc::{AllocError, Global};
 
@@ -23,8 +21,8 @@ use std::alloc::{AllocError, Global};
 pub enum HeldBack {
     /// Nothing.
     Nothing,
-    /// A row that draws a warning, unless its line begins with a '!'. The day counts as today for the warning of an event that
-    /// lies far from it, if there is one.
+    /// A line with a row that draws a warning, unless it begins with a '!'. The day counts as today for warnings of what lies far
+    /// from it, or after it, if there is one.
     Warned(Option<Day>),
 }
 
@@ -49,15 +47,15 @@ pub struct CarefulStanding {
     pub held_back: HeldBack,
 }
 
-/// A court's docket as entries come to it, which may hold back rows that draw a warning.
+/// A court's docket as entries come to it, which takes the rows of a line together, and may hold back lines that draw a warning.
 #[derive(Drop)]
 pub struct CarefulRegister {
     /// The docket.
     pub register: DocketRegister,
 }
 
-// The types inside a row, which a function that takes one out of a line has to name.
-type RowTypes = Option<
+/// The types inside a row, which a function that takes one out of a line has to name.
+pub(crate) type RowTypes = Option<
     (
         Row,
         Work,
@@ -70,65 +68,6 @@ type RowTypes = Option<
         (Fact, Ending, Closing, Ruling, Option<u8>, Counted),
     ),
 >;
-
-impl CarefulRegister {
-    // What a line says as the one that comes next.
-    fn said(&self, alloc: Global, standing: &Standing, line: &[u8]) -> Result<Line, AllocError>
-        ensures { (kept : List (List ℕ)) → StandsAt standing.now self.now.register kept → IfOk result (λ said. said ≡ line_read most_clerks (names_of standing.now.court) (reading_at standing.now kept line.now).text) }
-    {
-        let _types: RowTypes = None;
-        let mut fields = StringRecord::new(alloc);
-        let (said, _) = self.register.read(alloc, standing, line, &mut fields)?;
-        Ok(said)
-    }
-
-    // What a clerk is warned of a line that says this.
-    fn warned_said(
-        &self,
-        alloc: Global,
-        standing: &Standing,
-        today: Option<Day>,
-        said: &Line,
-    ) -> Result<String, AllocError>
-        ensures { (kept : List (List ℕ)) → StandsAt standing.now self.now.register kept → IfOk result (λ text. string_bytes text ≡ warnings_said standing.now today kept (within kept said.now)) }
-    {
-        let _types: RowTypes = None;
-        match said {
-            Line::Row(row) => {
-                if self.register.has_room() {
-                    warnings_on(
-                        alloc,
-                        &standing.court,
-                        self.register.numbers().moved(),
-                        self.register.cases(),
-                        self.register.docket(),
-                        today,
-                        &row.work,
-                    )
-                } else {
-                    Ok(String::new(alloc))
-                }
-            }
-            Line::Blank | Line::Fault(_) => Ok(String::new(alloc)),
-        }
-    }
-
-    // What a clerk is warned of a line.
-    #[tactic(auto, unfolding(crate::specs::Careful::warnings_at))]
-    fn warnings_at(
-        &self,
-        alloc: Global,
-        standing: &Standing,
-        today: Option<Day>,
-        line: &[u8],
-    ) -> Result<String, AllocError>
-        ensures { (kept : List (List ℕ)) → StandsAt standing.now self.now.register kept → IfOk result (λ text. string_bytes text ≡ warnings_at standing.now today kept line.now) }
-    {
-        let _types: RowTypes = None;
-        let said = self.said(alloc, standing, line)?;
-        self.warned_said(alloc, standing, today, &said)
-    }
-}
 
 // Whether there are no warnings.
 fn are_none(warnings: &str) -> bool
@@ -147,52 +86,104 @@ fn push_first(alloc: Global, text: &mut Vec<u8>, number: u32) -> Result<(), Allo
     text.extend_from_slice(line.as_bytes())
 }
 
-// Adds the line that tells how to go on.
-#[tactic(auto, unfolding(crate::specs::Careful::held_last))]
-fn push_last(text: &mut Vec<u8>) -> Result<(), AllocError>
-    ensures { OnOk result (text.new.items ≡ text.old.items ++ held_last) }
+// Adds the line that tells how to go on, or that the rows of a line stay together.
+#[tactic(auto, unfolding(crate::specs::Careful::held_mark, crate::specs::Careful::held_whole))]
+fn push_last(text: &mut Vec<u8>, held_back: &HeldBack) -> Result<(), AllocError>
+    ensures { OnOk result (text.new.items ≡ text.old.items ++ held_last held_back.now) }
 {
-    text.extend_from_slice(b"enter the row with '!' before it to keep it all the same\n")
+    match held_back {
+        HeldBack::Nothing => text.extend_from_slice(
+            b"the rows of a line are kept together, so none of them is kept\n",
+        ),
+        HeldBack::Warned(_) => text.extend_from_slice(
+            b"enter the row with '!' before it to keep it all the same\n",
+        ),
+    }
 }
 
 // Adds the answer to a line that is held back.
 fn push_held(
     alloc: Global,
     text: &mut Vec<u8>,
+    held_back: &HeldBack,
     number: u32,
-    warnings: &str,
+    against: &str,
 ) -> Result<(), AllocError>
-    ensures { OnOk result (text.new.items ≡ text.old.items ++ held_text number warnings.now) }
+    ensures { OnOk result (text.new.items ≡ text.old.items ++ held_text held_back.now number against.now) }
 {
     push_first(alloc, text, number)?;
-    text.extend_from_slice(warnings.as_bytes())?;
-    push_last(text)
+    text.extend_from_slice(against.as_bytes())?;
+    push_last(text, held_back)
+}
+
+// What is held back of a line: nothing of one that begins with a '!'.
+fn held_for(held_back: &HeldBack, line: &[u8]) -> HeldBack
+    ensures { result ≡ held_for held_back.now line.now }
+{
+    match held_back {
+        HeldBack::Nothing => HeldBack::Nothing,
+        HeldBack::Warned(_) => match after_mark(line) {
+            Some(_) => HeldBack::Nothing,
+            None => *held_back,
+        },
+    }
+}
+
+// What comes of a line that isn't taken.
+fn held_came(held_back: &HeldBack) -> Outcome
+    ensures { result ≡ held_came held_back.now }
+{
+    match held_back {
+        HeldBack::Nothing => Outcome::Fault,
+        HeldBack::Warned(_) => Outcome::Held,
+    }
 }
 
 impl CarefulRegister {
-    // Takes a line, unless it draws a warning and isn't marked.
-    fn take_unwarned(
+    // Takes rows one after another.
+    fn take_rows(
         &mut self,
         standing: &Standing,
-        today: Option<Day>,
+        alloc: Global,
+        rows: &[&[u8]],
+        batch: &mut Vec<Vec<u8>>,
+        text: &mut Vec<u8>,
+    ) -> Result<Outcome, AllocError>
+        ensures taken { (kept : List (List ℕ)) → IsReadyAt standing.now self.old.register kept → OnOk result
+            (TakesLines (leaves standing.now) (told standing.now) (IsReadyAt standing.now self.new.register) kept (row_texts rows.now) (batch_of batch.old.items) (batch_of batch.new.items) text.old.items text.new.items) }
+        ensures came { (kept : List (List ℕ)) → IsReadyAt standing.now self.old.register kept → IfOk result (λ came. came ≡ came_of_rows standing.now kept (row_texts rows.now)) }
+    {
+        let mut came = Outcome::Blank;
+        for row in rows {
+            let outcome = self.register.take(standing, alloc, row, batch, text)?;
+            came = either_came(came, outcome);
+        }
+        Ok(came)
+    }
+
+    // Takes all rows of a line without its mark, unless something speaks against one of them.
+    fn take_whole(
+        &mut self,
+        standing: &Standing,
+        held_back: &HeldBack,
         alloc: Global,
         line: &[u8],
         batch: &mut Vec<Vec<u8>>,
         text: &mut Vec<u8>,
     ) -> Result<Outcome, AllocError>
         ensures taken { (kept : List (List ℕ)) → IsReadyAt standing.now self.old.register kept → OnOk result
-            (TakesLine (careful_leaves standing.now (Warned today)) (careful_answers standing.now (Warned today)) (IsReadyAt standing.now self.new.register) kept line.now (batch_of batch.old.items) (batch_of batch.new.items) text.old.items text.new.items) }
-        ensures came { (kept : List (List ℕ)) → IsReadyAt standing.now self.old.register kept → IfOk result (λ came. came ≡ careful_outcome standing.now (Warned today) kept line.now) }
+            (TakesLine (whole_leaves standing.now held_back.now) (whole_answers standing.now held_back.now) (IsReadyAt standing.now self.new.register) kept line.now (batch_of batch.old.items) (batch_of batch.new.items) text.old.items text.new.items) }
+        ensures came { (kept : List (List ℕ)) → IsReadyAt standing.now self.old.register kept → IfOk result (λ came. came ≡ whole_outcome standing.now held_back.now kept line.now) }
     {
-        if let Some(rest) = after_mark(line) {
-            return self.register.take(standing, alloc, rest, batch, text);
+        let found = line_rows(alloc, line)?;
+        let rows = found.as_slice();
+        let against = self.against_rows(alloc, standing, held_back, rows)?;
+        if are_none(against.as_str()) {
+            return self.take_rows(standing, alloc, rows, batch, text);
         }
-        let warnings = self.warnings_at(alloc, standing, today, line)?;
-        if are_none(warnings.as_str()) {
-            return self.register.take(standing, alloc, line, batch, text);
-        }
-        push_held(alloc, text, self.register.next_number(), warnings.as_str())?;
-        Ok(Outcome::Held)
+        let number = self.register.next_number();
+        push_held(alloc, text, held_back, number, against.as_str())?;
+        Ok(held_came(held_back))
     }
 }
 
@@ -219,11 +210,8 @@ impl Register for CarefulRegister {
             standing,
             held_back,
         } = setup;
-        match held_back {
-            HeldBack::Nothing => self.register.take(standing, alloc, line, batch, text),
-            HeldBack::Warned(today) => {
-                self.take_unwarned(standing, *today, alloc, line, batch, text)
-            }
-        }
+        let rest = unmarked(held_back.are_marked(), line);
+        let held = held_for(held_back, line);
+        self.take_whole(standing, &held, alloc, rest, batch, text)
     }
 }

@@ -1,3 +1,4 @@
 mod ClerkLemmas
+mod ReportLemmas
 mod SessionLemmas
 pub mod TimeLemmas

@@ -1,3 +1,5 @@
+pub mod Beside
+pub mod CasePage
 pub mod Endings
 pub mod Folder
 pub mod JournalFile

@@ -1,5 +1,5 @@
 -- How lines are read, and what is told of their faults.
-use Rattle.std.specs.Prelude.{ℕ, Bool, false, List, if◌then◌else◌}
+use Rattle.std.specs.Prelude.{ℕ, Bool, false, if◌then◌else◌}
 use Rattle.program_words.specs.declared.task.Lines.{Lines}
 use Rattle.program_words.specs.declared.task.Lines.TheVariants.{AsWritten, Plain}
 use Rattle.desk_program.specs.declared.faults.desk.DeskFault.TheVariants.{Together}

@@ -1,5 +1,5 @@
 -- What is written of a folder, by the entries of its journal.
-use Rattle.std.specs.Prelude.{◌≡◌, ℕ, List, ⊤, Option, Some, None, Result, Ok, Err, String, drop}
+use Rattle.std.specs.Prelude.{ℕ, List, ⊤, Option, Some, None, Result, Ok, Err, String, drop}
 use Rattle.std.specs.declared.alloc.Global.{Global}
 use Rattle.desk_register.specs.declared.standing.Standing.{Standing}
 use Rattle.desk_entries.specs.Words.{StandsAfter, called_standing, cases_of, changes_by, corrections_in, rows_refused, rows_standing, rows_struck, run_by, standing_file}

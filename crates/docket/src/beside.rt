@@ -1,23 +1,25 @@
 //! What the program does beside another one that may enter rows.
-ghost use Rattle.std.specs.Prelude.{◌≡◌, ◌≤◌, ℕ, List, false, length, IfOk, IfSome, OnOk};
+ghost use Rattle.std.specs.Prelude.{◌≡◌, ◌≤◌, ℕ, List, None, false, length, option_map, IfErr, IfOk, IfSome, OnOk};
 ghost use Rattle.desk_session.specs.declared.outcome.Tally.{Tally};
 ghost use Rattle.desk_entries.specs.Words.{IsDocketed, most_entries};
 ghost use Rattle.desk_journal.specs.Words.{batch_of};
-ghost use Rattle.desk_program.specs.Words.{AnswersQuestions, IsTried, KeepsDocket, held_at, leaves_at, outcome_at, standing_at};
+ghost use Rattle.desk_program.specs.Words.{AnswersQuestions, IsTried, KeepsDocket, earlier_in, earlier_line, held_at, leaves_at, outcome_at, standing_at};
 ghost use Rattle.desk_session.specs.Words.{lines_of, tally_of};
+ghost use Rattle.docket.specs.Beside.{IsTimesFault};
 ghost use Rattle.docket.specs.Reports.{WritesCases, WritesRows};
 ghost use Rattle.docket.specs.Sessions.{WithTally};
 ghost use Rattle.program_streams.specs.Words.{has_failed, watched};
 
 use crate::clerk::lines_of;
 use crate::fault::{Fault, taken};
-use crate::folder::{copied_beside, entries_beside, put};
+use crate::folder::{copied_beside, entries_beside, put, stamped_beside};
 use crate::input::{reading_of, rows_of};
 use crate::progress::told_while;
 use desk_entries::Docketed;
+use desk_journal::Stamp;
 use desk_program::{
-    Desk, DeskFault, OutputFault, ask as answer, checked_rows, write_cases, write_count,
-    write_rows, write_struck,
+    Desk, DeskFault, OutputFault, ask as answer, checked_rows, earlier_entry, write_cases,
+    write_count, write_rows, write_struck,
 };
 use desk_warnings::HeldBack;
 use program_streams::Watched;
@@ -64,7 +66,8 @@ pub fn try_rows<H: Threads + Wait + Sync, W: Write, E: Write>(
 {
     let mut desk = copied_beside(rt, threads, folder)?;
     desk.hold_back(held_back);
-    match rows_of(rt, errors, desk.court(), lines, held_back.are_marked()) {
+    let marked = held_back.are_marked();
+    match rows_of(rt, errors, desk.court(), lines, marked, false) {
         Ok(Some(rows)) => tried(rt.alloc(), rows.as_slice(), writer, desk),
         Ok(None) => match lines_of(rt, lines) {
             Ok(typed) => tried(rt.alloc(), typed, writer, desk),
@@ -128,7 +131,7 @@ pub fn ask<H: Threads + Wait + Sync, W: Write, E: Write>(
 {
     let (docketed, entries) = docketed_beside(rt, threads, folder, as_of)?;
     drop(entries);
-    match rows_of(rt, errors, &docketed.standing.court, lines, false) {
+    match rows_of(rt, errors, &docketed.standing.court, lines, false, false) {
         Ok(Some(rows)) => answered(rt.alloc(), rows.as_slice(), writer, docketed),
         Ok(None) => match lines_of(rt, lines) {
             Ok(typed) => answered(rt.alloc(), typed, writer, docketed),
@@ -157,7 +160,7 @@ pub fn plain<H: Threads + Wait + Sync, W: Write, E: Write>(
 {
     let (docketed, entries) = docketed_beside(rt, threads, folder, None)?;
     drop(entries);
-    let reading = reading_of(rt, errors, &docketed.standing.court, style, false);
+    let reading = reading_of(rt, errors, &docketed.standing.court, style, false, false);
     drop(docketed);
     let reading = reading?;
     let written = put(writer, &reading.rows);
@@ -207,7 +210,19 @@ pub fn struck<W: Write>(
     Ok(write_struck(rt.alloc(), &entries, writer)?)
 }
 
-/// Writes how many rows the folder has, all of which are decided again as they were entered.
+// Looks whether an entry of a journal is of an earlier time than the one before it.
+fn check_times(alloc: Global, entries: &[Vec<u8>], stamps: &[Stamp]) -> Result<(), Fault>
+    ensures onward { OnOk result (earlier_in (batch_of entries.now) stamps.now ≡ None) }
+    ensures back { IfErr result (IsTimesFault (option_map earlier_line (earlier_in (batch_of entries.now) stamps.now))) }
+{
+    match earlier_entry(alloc, entries, stamps) {
+        Ok(None) => Ok(()),
+        Ok(Some(line)) => Err(Fault::Unusable(line)),
+        Err(_) => Err(Fault::Desk(DeskFault::OutOfMemory)),
+    }
+}
+
+/// Writes how many rows the folder has, all of which are decided again as they were entered. Times that go back are a fault.
 pub fn check<H: Threads + Wait + Sync, W: Write>(
     rt: &HostRuntime,
     threads: &H,
@@ -216,7 +231,9 @@ pub fn check<H: Threads + Wait + Sync, W: Write>(
 ) -> Result<(), Fault>
     requires { has_failed writer.old ≡ false }
 {
-    let entries = entries_beside(rt, folder, None)?;
+    let (entries, stamps) = stamped_beside(rt, folder)?;
+    check_times(rt.alloc(), &entries, &stamps)?;
+    drop(stamps);
     let count = told_while(threads, rt.stderr(), "reading", folder, || {
         checked_rows(rt.alloc(), &entries)
     })?;

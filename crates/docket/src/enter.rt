@@ -179,6 +179,14 @@ fn plain_entered<H: Threads + Wait + Sync, W: Write, E: Write>(
     }
 }
 
+// Whether each line is kept by itself: then its rows are kept together, where otherwise all rows of the input are.
+fn is_each(keeping: &Keeping) -> bool {
+    match keeping {
+        Keeping::Each => true,
+        Keeping::Together(_) => false,
+    }
+}
+
 // Keeps the rows of standard input, as they are to be.
 fn entered<H: Threads + Wait + Sync, W: Write, E: Write>(
     rt: &HostRuntime,
@@ -192,7 +200,15 @@ fn entered<H: Threads + Wait + Sync, W: Write, E: Write>(
     requires { has_failed writer.old ≡ false }
 {
     let marked = asked.held_back.are_marked();
-    match rows_of(rt, errors, session.left.court(), asked.lines, marked) {
+    let joined = is_each(&asked.keeping);
+    match rows_of(
+        rt,
+        errors,
+        session.left.court(),
+        asked.lines,
+        marked,
+        joined,
+    ) {
         Ok(Some(rows)) => kept_at_once(rt, threads, writer, errors, folder, asked, session, &rows),
         Ok(None) => plain_entered(rt, threads, writer, errors, folder, asked, session),
         Err(fault) => {
@@ -241,6 +257,9 @@ fn begun<H: Threads + Wait + Sync>(
     let (left, after) = first_left(rt, threads, folder, asked)?;
     let session = session_of(rt.alloc(), left, account);
     let mark = begin_session(rt, folder, &lock, &session.account, after);
+    if mark.is_err() {
+        remove_spare(rt, folder);
+    }
     drop(lock);
     match mark {
         Ok(mark) => Ok((session, mark)),

@@ -91,10 +91,11 @@ fn faultless<E: Write>(
     court: &Court,
     style: Style,
     marked: bool,
+    joined: bool,
     input: &[u8],
 ) -> Result<Reading, Fault>
-    ensures rows { IfOk result (λ reading. reading.rows.items ≡ rows_of 64 (names_of court.now) style.order marked None (numbered_lines (strip_bom input.now))) }
-    ensures placed { IfOk result (λ reading. reading.placed.items ≡ placed_from 64 (names_of court.now) style.order marked None [] (strip_bom input.now)) }
+    ensures rows { IfOk result (λ reading. reading.rows.items ≡ rows_of 64 (names_of court.now) court.now.periods.triggers style.order marked None (numbered_lines (strip_bom input.now))) }
+    ensures placed { IfOk result (λ reading. reading.placed.items ≡ placed_from 64 (names_of court.now) court.now.periods.triggers style.order marked joined None [] (strip_bom input.now)) }
     ensures faultless { IfOk result (λ reading. reading.faulty.items ≡ []) }
     ensures finished { OnOk result (unfinished_of (strip_bom input.now) ≡ []) }
 {
@@ -102,7 +103,8 @@ fn faultless<E: Write>(
     if !is_finished(input) {
         return Err(Fault::Desk(DeskFault::Unkept(SessionFault::Unfinished)));
     }
-    let reading = read_input(alloc, MOST_CLERKS, court, style.order, marked, input)?;
+    let order = style.order;
+    let reading = read_input(alloc, MOST_CLERKS, court, order, marked, joined, input)?;
     if reading.faulty.is_empty() {
         return Ok(reading);
     }
@@ -110,16 +112,18 @@ fn faultless<E: Write>(
 }
 
 /// What standard input is read as for that court. Where lines may be marked, one that begins with a '!' is read without it, and
-/// its plain row begins with it. If lines have faults, standard error says which.
+/// its plain rows begin with it. The rows of a line are one line in its place where they are to be kept together, and otherwise a line
+/// each. If lines have faults, standard error says which.
 pub fn reading_of<E: Write>(
     rt: &HostRuntime,
     errors: &mut Watched<E>,
     court: &Court,
     style: Style,
     marked: bool,
+    joined: bool,
 ) -> Result<Reading, Fault> {
     let input = whole(rt.alloc(), ShortLines::new(rt.stdin()))?;
-    faultless(rt.alloc(), errors, court, style, marked, &input)
+    faultless(rt.alloc(), errors, court, style, marked, joined, &input)
 }
 
 /// The plain rows that the lines of standard input are, each on the line that says it, if people write them; and none where
@@ -130,11 +134,12 @@ pub fn rows_of<E: Write>(
     court: &Court,
     lines: Lines,
     marked: bool,
+    joined: bool,
 ) -> Result<Option<Vec<u8>>, Fault> {
     match lines {
         Lines::Plain(_) => Ok(None),
         Lines::AsWritten(style) => {
-            let reading = reading_of(rt, errors, court, style, marked)?;
+            let reading = reading_of(rt, errors, court, style, marked, joined)?;
             Ok(Some(reading.placed))
         }
     }

@@ -52,8 +52,8 @@ fn named_case(alloc: Global, entries: &[Vec<u8>], name: &CaseName) -> Result<u32
     }
 }
 
-// The number of the case that is asked for.
-fn case_in(alloc: Global, entries: &[Vec<u8>], called: &CaseCalled) -> Result<u32, Fault>
+/// The number of the case that is asked for.
+pub fn case_in(alloc: Global, entries: &[Vec<u8>], called: &CaseCalled) -> Result<u32, Fault>
     requires few { length entries.now ≤ most_entries }
     ensures { IfOk result (IsCase (batch_of entries.now) called.now) }
 {

@@ -5,6 +5,7 @@
 mod alone;
 mod answered;
 mod beside;
+mod case_page;
 mod clerk;
 mod court;
 mod court_update;

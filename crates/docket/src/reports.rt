@@ -20,7 +20,7 @@ use program_runs::{Finding, Report, run_report};
 use program_streams::Watched;
 use program_words::Source;
 use report_memo::{Asked as MemoAsked, day_made, memo_of};
-use report_program::{Asked as ReportAsked, Past, report_of};
+use report_program::{Asked as ReportAsked, Past, report_of_docket, report_of_rows};
 use std::alloc::{AllocError, Global};
 use std::io::{IsTerminal, Read, Write};
 use std::sync::Wait;
@@ -93,7 +93,36 @@ fn past_of<'a>(
     ))
 }
 
-// What a report finds of a docket with these entries.
+// What a report finds of the rows of a docket with these entries.
+fn report_by_rows(
+    alloc: Global,
+    docketed: &Docketed,
+    entries: &[Vec<u8>],
+    asked: &ReportAsked,
+) -> Result<Finding<Vec<u8>>, AllocError>
+    requires some { 0 < length entries.now }
+    requires few { length entries.now ≤ most_entries }
+    requires docketed { IsDocketed docketed.now (batch_of entries.now) }
+    ensures { IfOk result (IsFinding (λ text. text.items) (IsReport asked.now (batch_of entries.now)) (IsNoReport asked.now (batch_of entries.now))) }
+{
+    let reported = standing_rows(alloc, &docketed.standing, entries)?;
+    let past = past_of(alloc, docketed, entries, &reported.differences)?;
+    let register = &docketed.register;
+    report_of_rows(
+        alloc,
+        asked,
+        standing_file(entries),
+        &docketed.standing.court,
+        register.cases(),
+        register.numbers().moved(),
+        &reported.called,
+        &past,
+        &reported.rows,
+        register.docket(),
+    )
+}
+
+// What a report finds of a docket with these entries. The rows are decided again only for what rests on them.
 fn report_on(
     alloc: Global,
     docketed: &Docketed,
@@ -102,28 +131,28 @@ fn report_on(
 ) -> Result<Finding<Vec<u8>>, AllocError>
     requires some { 0 < length entries.now }
     requires few { length entries.now ≤ most_entries }
-    ensures { IsDocketed docketed.now (batch_of entries.now) → IfOk result (IsFinding (λ text. text.items) (IsReport asked.now (batch_of entries.now)) (IsNoReport asked.now (batch_of entries.now))) }
+    requires docketed { IsDocketed docketed.now (batch_of entries.now) }
+    ensures { IfOk result (IsFinding (λ text. text.items) (IsReport asked.now (batch_of entries.now)) (IsNoReport asked.now (batch_of entries.now))) }
 {
-    let reported = standing_rows(alloc, &docketed.standing, entries)?;
-    let past = past_of(alloc, docketed, entries, &reported.differences)?;
     let register = &docketed.register;
-    let moved = register.numbers().moved();
-    let court = &docketed.standing.court;
-    report_of(
+    let found = report_of_docket(
         alloc,
         asked,
         standing_file(entries),
-        court,
+        &docketed.standing.court,
         register.cases(),
-        moved,
-        &reported.called,
-        &past,
-        &reported.rows,
-    )
+        register.numbers().moved(),
+        register.called(),
+        register.docket(),
+    )?;
+    match found {
+        Some(found) => Ok(found),
+        None => report_by_rows(alloc, docketed, entries, asked),
+    }
 }
 
-// What a report finds after entries.
-fn report_found(
+/// What a report finds after entries.
+pub fn report_found(
     alloc: Global,
     entries: &[Vec<u8>],
     asked: &ReportAsked,

@@ -4,6 +4,7 @@ ghost use Rattle.program_streams.specs.Words.{has_failed};
 
 use crate::alone::{change, correct, init};
 use crate::beside::{ask, cases, check, plain, rows, struck, try_rows};
+use crate::case_page::case_page;
 use crate::court::{check_file, write_file};
 use crate::court_update::update;
 use crate::enter::enter;
@@ -76,6 +77,7 @@ pub fn done<H: Threads + Wait + Sync, W: Write, E: Write>(
         Task::Log(folder, asked) => log(rt, threads, writer, folder.as_str(), asked)?,
         Task::Report(source, asked) => report(rt, threads, writer, source, asked)?,
         Task::Memo(source, asked) => memo(rt, threads, writer, source, asked)?,
+        Task::Case(folder, asked) => case_page(rt, threads, writer, folder.as_str(), asked)?,
         Task::CourtCheck(file, asked, clock_time) => {
             return check_file(rt, writer, file.as_str(), *asked, *clock_time);
         }

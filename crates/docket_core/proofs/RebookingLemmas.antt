@@ -20,7 +20,7 @@ pub can_rebook : (setup : CourtSetup) (parts : Parts) (command : Command) → re
 can_rebook setup parts (Book s) made = can_book setup parts s made
 can_rebook setup parts (MoveHearing s) made = can_move setup parts s made
 can_rebook setup parts (Fact case (Ended deadline why dated)) made = tt
-can_rebook setup parts (Fact case (Resumed deadline dated)) made = tt
+can_rebook setup parts (Fact case (Resumed deadline day dated)) made = tt
 can_rebook setup parts (Fact case (Closed why dated)) made = tt
 can_rebook setup parts (Fact case (Reopened dated)) made = tt
 can_rebook setup parts (Fact case (Ruled motion how dated)) made = tt

@@ -2,14 +2,14 @@
 
 ghost use Rattle.std.specs.Prelude.{◌≡◌, true, Some, None, option_copied, nat_lt, IfOk, IfErr, if◌then◌else◌};
 ghost use Rattle.docket_rows.specs.declared.part.PartId.{PartId};
-ghost use Rattle.docket_rows.specs.Words.{AreSound, Rows, answered, setup_of, deadline_in, has_case, opening_rows, part_after, part_value, refusal, seen_by, step, view_of};
+ghost use Rattle.docket_rows.specs.Words.{AreSound, Rows, answered, setup_of, deadline_in, facts_in, has_case, opening_rows, part_after, part_value, refusal, seen_by, step, view_of};
 ghost use Rattle.docket_decisions.specs.Words.{takes_memory};
 ghost use Rattle.docket_core.specs.Memory.{view_takes_memory};
 
 use crate::holdings::Holdings;
 use court_days::{Court, Days};
-use docket_decisions::{Sight, deadline_in};
-use docket_rows::{Answer, Command, Query, Refusal, View};
+use docket_decisions::{Sight, deadline_in, facts_in};
+use docket_rows::{Answer, Command, Fact, Query, Refusal, View};
 use hearing_slots::Calendar;
 use rule_periods::DocketRow;
 use std::alloc::{AllocError, Global};
@@ -105,5 +105,12 @@ impl Docket {
         ensures { option_copied result ≡ deadline_in (parts_held self.now) case number }
     {
         deadline_in(&self.holdings, case, number)
+    }
+
+    /// The facts that are recorded of the case, from the first on. A case that isn't open has none. It takes no memory.
+    pub fn facts(&self, case: u32) -> &[Fact]
+        ensures { result.now ≡ facts_in (parts_held self.now) case }
+    {
+        facts_in(&self.holdings, case)
     }
 }

@@ -22,7 +22,12 @@ pub(crate) fn title_refusal<S: Sight>(sight: &S, case: u32) -> Option<Refusal>
 }
 
 /// Why the case has no deadline, or no motion, of that number, if it has none.
-fn not_counted<S: Sight>(sight: &S, case: u32, counted: Counted, number: u32) -> Option<Refusal>
+pub(crate) fn not_counted<S: Sight>(
+    sight: &S,
+    case: u32,
+    counted: Counted,
+    number: u32,
+) -> Option<Refusal>
     ensures { result ≡ not_counted (S.parts sight.now) case counted number }
 {
     match counted {

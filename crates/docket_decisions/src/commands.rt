@@ -79,7 +79,7 @@ pub fn refusal<S: Sight>(
         Command::Cancel { case, motion } => Ok(cancel_refusal(sight, *case, *motion)),
         Command::Holiday { day, list } => holiday_refusal(alloc, rules, sight, *day, *list),
         Command::Inaccessible { day, from, to } => Ok(outage_refusal(sight, *day, *from, *to)),
-        Command::Fact { case, fact } => Ok(fact_refusal(rules, sight, *case, fact)),
+        Command::Fact { case, fact } => Ok(fact_refusal(alloc, rules, sight, *case, fact)),
     }
 }
 
@@ -120,7 +120,7 @@ pub fn answer_if_made<S: Sight>(
         Command::Cancel { .. } => Answer::Cancelled,
         Command::Holiday { .. } => Answer::HolidayEntered,
         Command::Inaccessible { .. } => Answer::OutageEntered,
-        Command::Fact { case, fact } => answer_to_fact(rules, sight, *case, fact),
+        Command::Fact { case, fact } => answer_to_fact(alloc, rules, sight, *case, fact),
     }
 }
 

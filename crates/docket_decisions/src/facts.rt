@@ -2,26 +2,23 @@
 
 ghost use Rattle.std.specs.Prelude.{◌≡◌, ◌<◌, ◌≤◌, ◌+◌, true, int_lt, is_ok, length, option_map, if◌then◌else◌};
 ghost use Rattle.std.specs.Option.{option_map_or};
-ghost use Rattle.rule6.specs.declared.timeliness.Shown.TheVariants.{Beyond};
 ghost use Rattle.docket_rows.specs.declared.command.Command.TheVariants as command;
 ghost use Rattle.docket_rows.specs.declared.hearing.Hearing.{Hearing};
-ghost use Rattle.docket_rows.specs.Words.{add_fact, answer_if_made, are_judges, assign_refusal, changed_by_fact, close_refusal, deadline_in, end_refusal, ending_in, facts_in, first_ahead, has_one, hearing_ahead, hearing_set, is_kept, is_named_twice, most_facts, motions_in, numbered_motions, refusal, reopen_refusal, resume_refusal, rule_refusal, shown_now, without_ahead};
+ghost use Rattle.docket_rows.specs.Words.{add_fact, answer_if_made, are_judges, assign_refusal, changed_by_fact, close_refusal, end_refusal, ended_in, facts_in, first_ahead, has_one, hearing_ahead, hearing_set, is_kept, is_named_twice, most_facts, motions_in, no_suspender, numbered_motions, refusal, reopen_refusal, rule_refusal, without_ahead};
 
-use crate::called::{label_refusal, title_refusal};
+use crate::called::{label_refusal, not_counted, title_refusal};
+use crate::resumed::{resume_refusal, run_if_anew, shown_if_resumed};
 use crate::rules::DocketRules;
-use crate::seen::{
-    deadline_in, has_case, hearing_in, if_ahead, is_beyond, is_closed, motion_in, shown_now,
-};
+use crate::seen::{deadline_in, has_case, hearing_in, if_ahead, is_closed, motion_in};
 use crate::sight::Sight;
 use court_clock::Day;
 use docket_rows::{
-    Answer, CaseRecord, Ending, Fact, Hearing, MOST_FACTS, MotionRecord, Refusal, ending_in,
+    Answer, CaseRecord, Counted, Ending, Fact, Hearing, MOST_FACTS, MotionRecord, Refusal, ended_in,
 };
-use rule6::Shown;
-use std::alloc::AllocError;
+use std::alloc::{AllocError, Global};
 
 /// How many facts are recorded of the case.
-fn facts_count<S: Sight>(sight: &S, case: u32) -> usize
+pub(crate) fn facts_count<S: Sight>(sight: &S, case: u32) -> usize
     ensures { result ≡ length (facts_in (S.parts sight.now) case) }
 {
     match sight.case(case) {
@@ -30,13 +27,13 @@ fn facts_count<S: Sight>(sight: &S, case: u32) -> usize
     }
 }
 
-/// Why the deadline of that number is due no more, if it isn't.
-#[tactic(auto, unfolding(docket_rows::specs::Words::closing_in, docket_rows::specs::Words::ending_in))]
-fn ending_of<S: Sight>(sight: &S, case: u32, deadline: u32) -> Option<Ending>
-    ensures { result ≡ ending_in (facts_in (S.parts sight.now) case) deadline }
+/// Why the deadline of that number was ended, if it was and wasn't resumed.
+#[tactic(auto, unfolding(docket_rows::specs::Words::ended_in))]
+pub(crate) fn ending_of<S: Sight>(sight: &S, case: u32, deadline: u32) -> Option<Ending>
+    ensures { result ≡ ended_in (facts_in (S.parts sight.now) case) deadline }
 {
     match sight.case(case) {
-        Some(record) => ending_in(record.facts(), deadline),
+        Some(record) => ended_in(record.facts(), deadline),
         None => None,
     }
 }
@@ -79,6 +76,7 @@ fn ahead_in<S: Sight>(sight: &S, case: u32, day: Day) -> Option<u32>
 
 /// Why the fact can't be recorded, if it can't.
 pub(crate) fn fact_refusal<S: Sight>(
+    alloc: Global,
     rules: &DocketRules,
     sight: &S,
     case: u32,
@@ -89,10 +87,14 @@ pub(crate) fn fact_refusal<S: Sight>(
     match *fact {
         Fact::Ended {
             deadline,
+            why,
             dated,
-            ..
-        } => end_refusal(sight, case, deadline, dated),
-        Fact::Resumed { deadline, dated } => resume_refusal(rules, sight, case, deadline, dated),
+        } => end_refusal(sight, case, deadline, why, dated),
+        Fact::Resumed {
+            deadline,
+            from,
+            dated,
+        } => resume_refusal(alloc, rules, sight, case, deadline, from, dated),
         Fact::Closed { dated, .. } => close_refusal(sight, case, dated),
         Fact::Reopened { dated } => reopen_refusal(sight, case, dated),
         Fact::Ruled { motion, dated, .. } => rule_refusal(sight, case, motion, dated),
@@ -106,10 +108,26 @@ pub(crate) fn fact_refusal<S: Sight>(
     }
 }
 
+/// Why the case has no motion of that number to suspend a deadline, if it has none.
+fn no_suspender<S: Sight>(sight: &S, case: u32, why: Ending) -> Option<Refusal>
+    ensures { result ≡ no_suspender (S.parts sight.now) case why }
+{
+    match why.suspended_by() {
+        Some(motion) => not_counted(sight, case, Counted::Motion, motion),
+        None => None,
+    }
+}
+
 /// Why the deadline can't be ended, if it can't.
 #[tactic(auto, unfolding(docket_rows::specs::Words::end_refusal))]
-fn end_refusal<S: Sight>(sight: &S, case: u32, deadline: u32, dated: Day) -> Option<Refusal>
-    ensures { result ≡ end_refusal (S.parts sight.now) case deadline dated }
+fn end_refusal<S: Sight>(
+    sight: &S,
+    case: u32,
+    deadline: u32,
+    why: Ending,
+    dated: Day,
+) -> Option<Refusal>
+    ensures { result ≡ end_refusal (S.parts sight.now) case deadline why dated }
 {
     if !has_case(sight, case) {
         return Some(Refusal::NoSuchCase);
@@ -120,6 +138,9 @@ fn end_refusal<S: Sight>(sight: &S, case: u32, deadline: u32, dated: Day) -> Opt
     let Some(row) = deadline_in(sight, case, deadline) else {
         return Some(Refusal::NoSuchDeadline);
     };
+    if let Some(refusal) = no_suspender(sight, case, why) {
+        return Some(refusal);
+    }
     if !sight.days().covered(dated) {
         return Some(Refusal::BadDay);
     }
@@ -128,44 +149,6 @@ fn end_refusal<S: Sight>(sight: &S, case: u32, deadline: u32, dated: Day) -> Opt
     }
     if ending_of(sight, case, deadline).is_some() {
         return Some(Refusal::AlreadyEnded);
-    }
-    if facts_count(sight, case) >= MOST_FACTS {
-        return Some(Refusal::Full);
-    }
-    None
-}
-
-/// Why the deadline can't be resumed, if it can't.
-#[tactic(auto, unfolding(docket_rows::specs::Words::resume_refusal))]
-fn resume_refusal<S: Sight>(
-    rules: &DocketRules,
-    sight: &S,
-    case: u32,
-    deadline: u32,
-    dated: Day,
-) -> Option<Refusal>
-    ensures { result ≡ resume_refusal rules.now (S.parts sight.now) case deadline dated }
-{
-    if !has_case(sight, case) {
-        return Some(Refusal::NoSuchCase);
-    }
-    if is_closed(sight, case) {
-        return Some(Refusal::CaseIsClosed);
-    }
-    let Some(row) = deadline_in(sight, case, deadline) else {
-        return Some(Refusal::NoSuchDeadline);
-    };
-    if !sight.days().covered(dated) {
-        return Some(Refusal::BadDay);
-    }
-    if row.row().filed().is_some() {
-        return Some(Refusal::AlreadyMet);
-    }
-    if ending_of(sight, case, deadline).is_none() {
-        return Some(Refusal::NotEnded);
-    }
-    if is_beyond(shown_now(rules, sight, row.row())) {
-        return Some(Refusal::Beyond);
     }
     if facts_count(sight, case) >= MOST_FACTS {
         return Some(Refusal::Full);
@@ -297,6 +280,7 @@ fn assign_refusal<S: Sight>(
 
 /// What a fact is answered that isn't refused.
 pub(crate) fn answer_to_fact<S: Sight>(
+    alloc: Global,
     rules: &DocketRules,
     sight: &S,
     case: u32,
@@ -306,8 +290,8 @@ pub(crate) fn answer_to_fact<S: Sight>(
 {
     match *fact {
         Fact::Ended { .. } => Answer::Ended,
-        Fact::Resumed { deadline, .. } => {
-            Answer::Resumed(shown_if_resumed(rules, sight, case, deadline))
+        Fact::Resumed { deadline, from, .. } => {
+            Answer::Resumed(shown_if_resumed(alloc, rules, sight, case, deadline, from))
         }
         Fact::Closed { .. } => Answer::Closed,
         Fact::Reopened { .. } => Answer::Reopened,
@@ -330,16 +314,6 @@ fn day_taken_off<S: Sight>(sight: &S, case: u32, motion: u32, dated: Day) -> Opt
     }
 }
 
-/// When the time of the deadline ends, once it is resumed: by the docket as it is now.
-fn shown_if_resumed<S: Sight>(rules: &DocketRules, sight: &S, case: u32, deadline: u32) -> Shown
-    ensures { result ≡ option_map_or (λ row. shown_now rules.now (S.parts sight.now) row) (deadline_in (S.parts sight.now) case deadline) Beyond }
-{
-    match deadline_in(sight, case, deadline) {
-        Some(row) => shown_now(rules, sight, row.row()),
-        None => Shown::Beyond,
-    }
-}
-
 /// The hearing that is set for a motion of the case.
 fn hearing_set(case: &CaseRecord, motion: u32) -> Option<Hearing>
     ensures { result ≡ hearing_set motion case.now }
@@ -359,13 +333,14 @@ fn take_out_ahead(case: &mut CaseRecord, motion: u32, day: Day)
     }
 }
 
-/// Changes what a fact changes of its case beside the list of facts: a ruling takes a later hearing of its motion out. It takes no
-/// memory.
+/// Changes what a fact changes of its case beside the list of facts: a deadline that is resumed may run anew, and a ruling takes a later
+/// hearing of its motion out. It takes no memory.
 fn change_by_fact(case: &mut CaseRecord, fact: &Fact)
     ensures { case.new ≡ changed_by_fact fact.now case.old }
 {
     match *fact {
-        Fact::Ended { .. } | Fact::Resumed { .. } => {}
+        Fact::Ended { .. } => {}
+        Fact::Resumed { deadline, from, .. } => run_if_anew(case, deadline, from),
         Fact::Closed { .. } | Fact::Reopened { .. } => {}
         Fact::Ruled { motion, dated, .. } => take_out_ahead(case, motion, dated),
         Fact::Assigned { .. } => {}

@@ -13,6 +13,7 @@ mod motions;
 mod next;
 mod outages;
 mod reads;
+mod resumed;
 mod rules;
 mod seen;
 mod sight;
@@ -23,6 +24,8 @@ pub use deadlines::{shown_at_start, start_refusal};
 pub use hearings::{hearing_asked, is_court_day, lacks_last_service, later, missed_service, sits};
 pub use reads::Seen;
 pub use rules::DocketRules;
-pub use seen::{deadline_in, has_case, hearing_in, if_ahead, is_beyond, motion_in, shown_now};
+pub use seen::{
+    deadline_in, facts_in, has_case, hearing_in, if_ahead, is_beyond, motion_in, shown_now,
+};
 pub use sight::Sight;
 pub use values::{calendar_of, case_of, days_of};

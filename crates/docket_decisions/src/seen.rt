@@ -2,12 +2,12 @@
 
 ghost use Rattle.std.specs.Prelude.{◌≡◌, length, option_copied, option_map};
 ghost use Rattle.rule_periods.specs.Words.{is_beyond};
-ghost use Rattle.docket_rows.specs.Words.{is_case_number, has_case, deadlines_in, deadline_in, motions_in, motion_in, hearing_in, if_ahead, is_closed, shown_now};
+ghost use Rattle.docket_rows.specs.Words.{is_case_number, has_case, deadlines_in, deadline_in, facts_in, motions_in, motion_in, hearing_in, if_ahead, is_closed, shown_now};
 
 use crate::rules::DocketRules;
 use crate::sight::Sight;
 use court_clock::Day;
-use docket_rows::{Hearing, LAST_CASE, MotionRecord, closing_in};
+use docket_rows::{Fact, Hearing, LAST_CASE, MotionRecord, closing_in};
 use rule_periods::{DeadlineRow, DocketRow, shown};
 use rule6::Shown;
 
@@ -59,6 +59,16 @@ pub fn deadline_in<S: Sight>(sight: &S, case: u32, number: u32) -> Option<&Docke
     match sight.case(case) {
         Some(record) => record.deadline(number),
         None => None,
+    }
+}
+
+/// The facts that are recorded of the case, from the first on. A case that isn't open has none.
+pub fn facts_in<S: Sight>(sight: &S, case: u32) -> &[Fact]
+    ensures { result.now ≡ facts_in (S.parts sight.now) case }
+{
+    match sight.case(case) {
+        Some(record) => record.facts(),
+        None => &[],
     }
 }
 

@@ -10,7 +10,7 @@ use Rattle.rule6.specs.declared.timeliness.Shown.TheVariants as shown
 use Rattle.rule6.specs.Words.{is_in_time}
 use Rattle.rule6.proofs.CallerLemmas.{and_then_alike, in_time_alike}
 use Rattle.rule_periods.specs.declared.grant.Request.{Request}
-use Rattle.rule_periods.specs.Words.{DeadlineRowView, extension_refusal, is_beyond, is_order, kept_filing, with_grant}
+use Rattle.rule_periods.specs.Words.{DeadlineRowView, anew_if, extension_refusal, is_beyond, is_order, kept_filing, with_grant}
 use Rattle.rule_periods.proofs.CallerLemmas.{extension_alike, shown_alike}
 use Rattle.docket_rows.specs.declared.answer.Answer.{Answer}
 use Rattle.docket_rows.specs.declared.answer.Answer.TheVariants as answer
@@ -51,9 +51,13 @@ module _ (a b : CourtSetup) (same : IsSameSetup a b) where
   granted_alike parts request None = refl
   granted_alike parts request (Some row) = end_alike parts (with_grant row request.grant)
 
-  resumed_alike : (parts : Parts) (row : Option DeadlineRowView) → option_map_or (λ row. shown_now a parts row) row shown.Beyond ≡ option_map_or (λ row. shown_now b parts row) row shown.Beyond
-  resumed_alike parts None = refl
-  resumed_alike parts (Some row) = end_alike parts row
+  resumed_alike : (parts : Parts) (from : Option ℤ) (row : Option DeadlineRowView) → option_map_or (λ row. shown_now a parts (anew_if row from)) row shown.Beyond ≡ option_map_or (λ row. shown_now b parts (anew_if row from)) row shown.Beyond
+  resumed_alike parts from None = refl
+  resumed_alike parts from (Some row) = end_alike parts (anew_if row from)
+
+  anew_alike : (parts : Parts) (from : Option ℤ) (row : Option DeadlineRowView) → has_one (λ row. is_beyond (shown_now a parts (anew_if row from))) row ≡ has_one (λ row. is_beyond (shown_now b parts (anew_if row from))) row
+  anew_alike parts from None = refl
+  anew_alike parts from (Some row) = ap is_beyond (end_alike parts (anew_if row from))
 
   -- refusals
   start_alike : (parts : Parts) (case : ℕ) (period : _) (event : _) (second : Option ℤ) (service : _) → start_deadline_refusal a parts case period event second service ≡ start_deadline_refusal b parts case period event second service
@@ -69,9 +73,9 @@ module _ (a b : CourtSetup) (same : IsSameSetup a b) where
   extend_alike parts case deadline request =
       rw (and_then_alike (λ row. option_map refusal_of (extension_refusal parts.days a.clock row request)) (λ row. option_map refusal_of (extension_refusal parts.days b.clock row request)) (deadline_in parts case deadline) (λ row. ap (option_map refusal_of) (extension_alike a.clock b.clock same.clock parts.days row request))) refl
 
-  resume_alike : (parts : Parts) (case deadline : ℕ) (dated : ℤ) → resume_refusal a parts case deadline dated ≡ resume_refusal b parts case deadline dated
+  resume_alike : (parts : Parts) (case deadline : ℕ) (from : Option ℤ) (dated : ℤ) → resume_refusal a parts case deadline from dated ≡ resume_refusal b parts case deadline from dated
   unfolding resume_refusal
-  resume_alike parts case deadline dated = rw (beyond_alike parts (deadline_in parts case deadline)) refl
+  resume_alike parts case deadline from dated = rw (anew_alike parts from (deadline_in parts case deadline)) refl
 
   assign_alike : (parts : Parts) (case judge : ℕ) (referred : Option ℕ) (dated : ℤ) → assign_refusal a parts case judge referred dated ≡ assign_refusal b parts case judge referred dated
   unfolding assign_refusal
@@ -100,7 +104,7 @@ module _ (a b : CourtSetup) (same : IsSameSetup a b) where
   refusal_alike parts (Book s) = book_alike parts s
   refusal_alike parts (MoveHearing s) = move_alike parts s
   refusal_alike parts (Holiday day list) = holiday_alike parts day list
-  refusal_alike parts (Fact case (Resumed deadline dated)) = resume_alike parts case deadline dated
+  refusal_alike parts (Fact case (Resumed deadline day dated)) = resume_alike parts case deadline day dated
   refusal_alike parts (Fact case (Ended deadline why dated)) = refl
   refusal_alike parts (Fact case (Closed why dated)) = refl
   refusal_alike parts (Fact case (Reopened dated)) = refl
@@ -115,7 +119,7 @@ module _ (a b : CourtSetup) (same : IsSameSetup a b) where
   made_alike parts (Start case period event second service) = ap (answer.Started (next_deadline parts case)) (end_alike parts (started period event second service))
   made_alike parts (FileAct case deadline filing) = ap answer.Filed (timely_alike parts filing (deadline_in parts case deadline))
   made_alike parts (Extend case deadline request) = ap (ended_answer (is_order request.grant)) (granted_alike parts request (deadline_in parts case deadline))
-  made_alike parts (Fact case (Resumed deadline dated)) = ap answer.Resumed (resumed_alike parts (deadline_in parts case deadline))
+  made_alike parts (Fact case (Resumed deadline day dated)) = ap answer.Resumed (resumed_alike parts day (deadline_in parts case deadline))
   made_alike parts (Fact case (Ended deadline why dated)) = refl
   made_alike parts (Fact case (Closed why dated)) = refl
   made_alike parts (Fact case (Reopened dated)) = refl

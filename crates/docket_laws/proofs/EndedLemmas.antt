@@ -1,16 +1,17 @@
--- Without facts nothing is closed, ended, ruled on or assigned, a closed case ends its deadlines, and what something is called changes
--- nothing.
-use Rattle.std.proofs.Common.{◌≡◌, ℕ, true, false, not, is_some, List, [], ◌∷◌, find, Option, Some, None, option_map, refl, sym, ap, subst, append-nil}
+-- Without facts nothing is closed, ended, ruled on or assigned, a closed case ends the deadlines without an act, and what something is
+-- called changes nothing.
+use Rattle.std.proofs.Common.{◌≡◌, ℕ, Bool, true, false, ◌&&◌, not, is_some, List, [], ◌∷◌, find, Option, Some, None, option_map, refl, sym, ap, subst, append-nil, if◌then◌else◌}
 use Rattle.std.specs.List.{list_all}
 use Rattle.std.specs.Option.{option_map_or}
 use Rattle.std.proofs.lemmas.Bool.{and_parts, false≢true}
 use Rattle.docket_rows.specs.declared.command.Command.{Command}
 use Rattle.docket_rows.specs.declared.command.Command.TheVariants.{OpenCase, Start, FileAct, Extend, Motion, Book, MoveHearing, Cancel, Holiday, Inaccessible, Fact}
+use Rattle.docket_rows.specs.declared.fact.Ending.{Ending}
 use Rattle.docket_rows.specs.declared.fact.Ending.TheVariants.{CaseClosed}
 use Rattle.docket_rows.specs.declared.fact.Fact.{Fact as FactOf}
 use Rattle.docket_rows.specs.declared.fact.Fact.TheVariants.{Ended, Resumed, Closed, Reopened, Ruled, Assigned, Titled, Labelled}
 use Rattle.docket_rows.specs.declared.refusal.Refusal.{Refusal}
-use Rattle.docket_rows.specs.Words.{CourtSetup, Rows, CaseRecordView, DocketedCase, DocketedDeadline, DocketedFact, assigned_in, case_shown, closing_in, ending_in, facts_of, is_case, is_closed, is_kept, opening_rows, parts_of, refusal, rows_after, rows_from, ruling_in, step}
+use Rattle.docket_rows.specs.Words.{CourtSetup, Rows, CaseRecordView, DocketedCase, DocketedDeadline, DocketedFact, assigned_in, case_shown, closing_in, ended_in, ending_in, facts_of, is_case, is_closed, is_kept, opening_rows, parts_of, refusal, rows_after, rows_from, ruling_in, step}
 use Rattle.docket_laws.specs.Facts.{records_fact}
 use Rattle.docket_laws.specs.Lawful.{deadline_on_sheet, docket_after}
 use Rattle.docket_laws.proofs.LawfulLemmas.ListLemmas.{found_stands}
@@ -58,9 +59,9 @@ pub all_open : (rows : Rows) (case : ℕ) → rows.facts ≡ [] → is_closed (p
 unfolding parts_of
 all_open rows case none = found_open rows (find (is_case case) rows.cases) none
 
-pub all_due : (rows : Rows) (case number : ℕ) → rows.facts ≡ [] → ending_in (facts_of rows case) number ≡ None
-unfolding ending_in closing_in
-all_due rows case number none = rw none refl
+pub all_due : (rows : Rows) (case number : ℕ) (acted : Bool) → rows.facts ≡ [] → ending_in (facts_of rows case) number acted ≡ None
+unfolding ending_in ended_in closing_in
+all_due rows case number acted none = rw none refl
 
 pub all_unruled : (rows : Rows) (case number : ℕ) → rows.facts ≡ [] → ruling_in (facts_of rows case) number ≡ None
 unfolding ruling_in
@@ -82,14 +83,28 @@ closed_by_facts : (rows : Rows) (case : ℕ) → is_closed (parts_of rows) case 
 unfolding parts_of
 closed_by_facts rows case closed = found_closed rows case (find (is_case case) rows.cases) refl closed
 
-pub closed_ends : (setup : CourtSetup) (rows : Rows) (d : DocketedDeadline) → is_closed (parts_of rows) d.case ≡ true → (deadline_on_sheet setup rows d).ended ≡ Some CaseClosed
+-- what comes of an ending, where the case is closed and no act is recorded, and where one is
+without_act : (closed acted : Bool) (why : Option Ending) → closed ≡ true → acted ≡ false → (if closed && not acted then Some CaseClosed else why) ≡ Some CaseClosed
+without_act closed acted why shut still = rw (shut, still) refl
+
+with_act : (closed acted : Bool) (why : Option Ending) → acted ≡ true → (if closed && not acted then Some CaseClosed else why) ≡ why
+with_act true acted why done = rw done refl
+with_act false acted why done = refl
+
+pub closed_ends : (setup : CourtSetup) (rows : Rows) (d : DocketedDeadline) → is_closed (parts_of rows) d.case ≡ true → d.row.filed ≡ None → (deadline_on_sheet setup rows d).ended ≡ Some CaseClosed
 unfolding ending_in
-closed_ends setup rows d closed = rw (closed_by_facts rows d.case closed) refl
+closed_ends setup rows d closed pending =
+    without_act (is_some (closing_in (facts_of rows d.case))) (is_some d.row.filed) (ended_in (facts_of rows d.case) d.number) (closed_by_facts rows d.case closed) (rw pending refl)
+
+pub acted_stays : (setup : CourtSetup) (rows : Rows) (d : DocketedDeadline) → is_some d.row.filed ≡ true → (deadline_on_sheet setup rows d).ended ≡ ended_in (facts_of rows d.case) d.number
+unfolding ending_in
+acted_stays setup rows d acted =
+    with_act (is_some (closing_in (facts_of rows d.case))) (is_some d.row.filed) (ended_in (facts_of rows d.case) d.number) acted
 
 -- a fact that isn't kept leaves the rows as they are
 unkept_leaves : (rows : Rows) (case : ℕ) (fact : FactOf) → is_kept fact ≡ false → rows_after rows (Fact case fact) ≡ rows
 unkept_leaves rows case (Ended deadline why dated) unkept = absurd (false≢true (sym unkept))
-unkept_leaves rows case (Resumed deadline dated) unkept = absurd (false≢true (sym unkept))
+unkept_leaves rows case (Resumed deadline day dated) unkept = absurd (false≢true (sym unkept))
 unkept_leaves rows case (Closed why dated) unkept = absurd (false≢true (sym unkept))
 unkept_leaves rows case (Reopened dated) unkept = absurd (false≢true (sym unkept))
 unkept_leaves rows case (Ruled motion how dated) unkept = absurd (false≢true (sym unkept))

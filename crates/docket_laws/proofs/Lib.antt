@@ -11,6 +11,7 @@ pub mod PartsFacts
 pub mod PartsHearings
 pub mod PartsLists
 pub mod PartsMotions
+pub mod PartsResumed
 pub mod PartsRulings
 pub mod PartsSame
 pub mod PartsSeen

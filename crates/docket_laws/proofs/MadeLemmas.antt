@@ -10,7 +10,7 @@ use Rattle.rule_periods.specs.declared.period.Period.{Period}
 use Rattle.rule_periods.specs.declared.grant.Grant.{Grant}
 use Rattle.rule_periods.specs.declared.grant.Grant.TheVariants as grant
 use Rattle.rule_periods.specs.declared.grant.Request.{Request}
-use Rattle.rule_periods.specs.Words.{EventView, DeadlineRowView, when, first_of, suits, has_length, start_refusal, start_checks, extension_refusal, extension_checks, request_refusal, reset_checks, reset_refusal, is_grant_length, is_order, grant_fits, is_in_hours}
+use Rattle.rule_periods.specs.Words.{EventView, DeadlineRowView, when, first_of, suits, has_length, start_refusal, start_checks, extension_refusal, extension_checks, request_refusal, reset_refusal, is_grant_length, is_order, grant_fits, is_in_hours}
 use Rattle.hearing_slots.specs.declared.booking.Booking.{Booking}
 use Rattle.hearing_slots.specs.declared.need.Need.{Need}
 use Rattle.hearing_slots.specs.Words.{first_conflict, conflicts, IsFree, IsConflict, shares_slot}
@@ -93,11 +93,11 @@ can_enter parts case served need h =
 pub can_record : (setup : CourtSetup) (parts : Parts) (case : ℕ) (fact : Fact) → refusal setup parts (command.Fact case fact) ≡ None → is_kept fact ≡ true → length (facts_in parts case) < most_facts
 unfolding end_refusal resume_refusal close_refusal reopen_refusal rule_refusal assign_refusal
 can_record setup parts case (Ended deadline why dated) h kept =
-    let n = none_of (end_checks parts case deadline dated) h in
-    let full = when-None _ _ n.1.1.1.1.1.1.0 in
+    let n = none_of (end_checks parts case deadline why dated) h in
+    let full = when-None _ _ n.1.1.1.1.1.1.1.0 in
     grind (arith, nat_tests)
-can_record setup parts case (Resumed deadline dated) h kept =
-    let n = none_of (resume_checks setup parts case deadline dated) h in
+can_record setup parts case (Resumed deadline day dated) h kept =
+    let n = none_of (resume_checks setup parts case deadline day dated) h in
     let full = when-None _ _ n.1.1.1.1.1.1.1.0 in
     grind (arith, nat_tests)
 can_record setup parts case (Closed why dated) h kept =
@@ -144,24 +144,29 @@ order_ranged (grant.Until day) h = cc h
 order_ranged (grant.Reset day) h = refl
 order_ranged (grant.ResetAt at) h = refl
 
-reset_made : (c : DaysView) (clock : ClockView) (row : DeadlineRowView) (request : Request) → is_order request.grant ≡ true → reset_refusal c clock row request ≡ None → CanExtend row request
-unfolding reset_refusal
-reset_made c clock row request order h =
-    let n = none_of (reset_checks c clock row request) h in
-    record { ranged = order_ranged request.grant order; fits = when-not-None _ _ n.1.1.0 }
+-- and it is of any period's kind
+order_fits : (hours : Bool) (g : Grant) → is_order g ≡ true → grant_fits hours g ≡ true
+order_fits hours (grant.ByDays n) h = cc h
+order_fits hours (grant.ByHours n) h = cc h
+order_fits hours (grant.Until day) h = cc h
+order_fits hours (grant.Reset day) h = refl
+order_fits hours (grant.ResetAt at) h = refl
+
+reset_made : (row : DeadlineRowView) (request : Request) → is_order request.grant ≡ true → CanExtend row request
+reset_made row request order = record { ranged = order_ranged request.grant order; fits = order_fits (is_in_hours row.period) request.grant order }
 
 request_made : (c : DaysView) (clock : ClockView) (row : DeadlineRowView) (request : Request) → request_refusal c clock row request ≡ None → CanExtend row request
 unfolding request_refusal
 request_made c clock row request h =
     let n = none_of (extension_checks c clock row request) h in
-    record { ranged = when-not-None _ _ n.1.1.1.1.0; fits = when-not-None _ _ n.1.1.1.0 }
+    record { ranged = when-not-None _ _ n.1.1.1.1.1.0; fits = when-not-None _ _ n.1.1.1.0 }
 
 pub extension_made : (c : DaysView) (clock : ClockView) (row : DeadlineRowView) (request : Request) → extension_refusal c clock row request ≡ None → CanExtend row request
 unfolding extension_refusal
 extension_made c clock row request h = by (is_order request.grant) refl h
   where
     by : (order : Bool) → is_order request.grant ≡ order → cond order (reset_refusal c clock row request) (request_refusal c clock row request) ≡ None → CanExtend row request
-    by true order none = reset_made c clock row request order none
+    by true order none = reset_made row request order
     by false order none = request_made c clock row request none
 
 pub can_extend : (setup : CourtSetup) (parts : Parts) (case deadline : ℕ) (request : Request) (row : DeadlineRowView) → extend_refusal setup parts case deadline request ≡ None → deadline_in parts case deadline ≡ Some row → CanExtend row request

@@ -7,7 +7,7 @@ use Rattle.hearing_slots.specs.declared.need.Need.{Need}
 use Rattle.hearing_slots.proofs.CallerLemmas.{filter_all, find-None}
 use Rattle.docket_rows.specs.declared.command.Command.{Command}
 use Rattle.docket_rows.specs.declared.command.Command.TheVariants.{OpenCase, Start, FileAct, Extend, Motion, Book, MoveHearing, Cancel, Holiday, Inaccessible, Fact}
-use Rattle.docket_rows.specs.declared.fact.Fact.TheVariants.{Ruled}
+use Rattle.docket_rows.specs.declared.fact.Fact.TheVariants.{Resumed, Ruled}
 use Rattle.docket_rows.specs.declared.fact.Ruling.{Ruling}
 use Rattle.docket_rows.specs.declared.hearing.Setting.{Setting}
 use Rattle.docket_rows.specs.declared.part.PartId.{PartId}
@@ -21,6 +21,7 @@ use Rattle.docket_laws.proofs.PartsDeadlines.{case_after_start, case_after_act, 
 use Rattle.docket_laws.proofs.PartsFacts.{case_with_fact}
 use Rattle.docket_laws.proofs.PartsHearings.{case_after_cancel, case_after_move}
 use Rattle.docket_laws.proofs.PartsMotions.{case_after_motion, calendar_after_motion}
+use Rattle.docket_laws.proofs.PartsResumed.{case_after_resuming}
 use Rattle.docket_laws.proofs.PartsRulings.{case_after_ruling, calendar_ruled}
 use Rattle.docket_laws.proofs.PartsSeen.{hearing_seen}
 
@@ -134,6 +135,10 @@ parts_after setup rows (Inaccessible day from to) sound h (Judge judge) = refl
 parts_after setup rows (Inaccessible day from to) sound h (Room room) = refl
 parts_after setup rows (Inaccessible day from to) sound h (Case n) = refl
 parts_after setup rows (Fact case (Ruled motion how dated)) sound h part = after_ruling setup rows sound case motion how dated part
+parts_after setup rows (Fact case (Resumed deadline day dated)) sound h Court = refl
+parts_after setup rows (Fact case (Resumed deadline day dated)) sound h (Judge judge) = refl
+parts_after setup rows (Fact case (Resumed deadline day dated)) sound h (Room room) = refl
+parts_after setup rows (Fact case (Resumed deadline day dated)) sound h (Case n) = case_value _ _ _ (case_after_resuming rows case deadline day dated n)
 parts_after setup rows (Fact case fact) sound h Court = refl
 parts_after setup rows (Fact case fact) sound h (Judge judge) = refl
 parts_after setup rows (Fact case fact) sound h (Room room) = refl

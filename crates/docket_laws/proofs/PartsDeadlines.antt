@@ -55,7 +55,7 @@ module _ (case number : ℕ) (change : DeadlineRowView → DeadlineRowView) wher
   leaves d other = rw other refl
 
   -- a change of a deadline of a case
-  case_after_change : (rows : Rows) (n : ℕ) → (parts_of (with_changed case number change rows)).case n ≡ option_or (if n == case then option_map (change_deadline number change) ((parts_of rows).case n) else None) ((parts_of rows).case n)
+  pub case_after_change : (rows : Rows) (n : ℕ) → (parts_of (with_changed case number change rows)).case n ≡ option_or (if n == case then option_map (change_deadline number change) ((parts_of rows).case n) else None) ((parts_of rows).case n)
   unfolding parts_of
   case_after_change rows =
       let after = with_changed case number change rows in

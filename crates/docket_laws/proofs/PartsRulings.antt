@@ -42,7 +42,7 @@ two_changes : (f g : CaseRecordView → CaseRecordView) (old mid : Option CaseRe
 two_changes f g None mid is = ap (λ o. option_or (option_map g o) o) is
 two_changes f g (Some c) mid is = ap (λ o. option_or (option_map g o) o) is
 
-changed_twice : (old mid new : ℕ → Option CaseRecordView) (case : ℕ) (f g : CaseRecordView → CaseRecordView) → ((n : ℕ) → mid n ≡ option_or (if n == case then option_map f (old n) else None) (old n)) → ((n : ℕ) → new n ≡ option_or (if n == case then option_map g (mid n) else None) (mid n)) → (n : ℕ) → new n ≡ option_or (if n == case then option_map (λ c. g (f c)) (old n) else None) (old n)
+pub changed_twice : (old mid new : ℕ → Option CaseRecordView) (case : ℕ) (f g : CaseRecordView → CaseRecordView) → ((n : ℕ) → mid n ≡ option_or (if n == case then option_map f (old n) else None) (old n)) → ((n : ℕ) → new n ≡ option_or (if n == case then option_map g (mid n) else None) (mid n)) → (n : ℕ) → new n ≡ option_or (if n == case then option_map (λ c. g (f c)) (old n) else None) (old n)
 changed_twice old mid new case f g first second n = by (n == case) (first n) (second n) where
   by : (here : Bool) → mid n ≡ option_or (if here then option_map f (old n) else None) (old n) → new n ≡ option_or (if here then option_map g (mid n) else None) (mid n) → new n ≡ option_or (if here then option_map (λ c. g (f c)) (old n) else None) (old n)
   by true one two = two ∙ two_changes f g (old n) (mid n) one

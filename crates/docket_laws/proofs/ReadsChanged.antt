@@ -73,7 +73,7 @@ module _ (setup : CourtSetup) (p q : Parts) where
   made_rests (FileAct case deadline filing) n agree = rw (days_agree setup p q case [] n agree, case_agrees setup p q case (Court ∷ []) n agree) refl
   made_rests (Extend case deadline request) n agree = rw (days_agree setup p q case [] n agree, case_agrees setup p q case (Court ∷ []) n agree) refl
   made_rests (Motion case served need) n agree = rw (case_agrees setup p q case [] n agree) refl
-  made_rests (Fact case (Resumed deadline dated)) n agree = rw (days_agree setup p q case [] n agree, case_agrees setup p q case (Court ∷ []) n agree) refl
+  made_rests (Fact case (Resumed deadline day dated)) n agree = rw (days_agree setup p q case [] n agree, case_agrees setup p q case (Court ∷ []) n agree) refl
   made_rests (Fact case (Ended deadline why dated)) n agree = refl
   made_rests (Fact case (Closed why dated)) n agree = refl
   made_rests (Fact case (Reopened dated)) n agree = refl

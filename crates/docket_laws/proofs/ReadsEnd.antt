@@ -86,7 +86,7 @@ module _ (setup : CourtSetup) where
       longer (Holiday day list) h = h
       longer (Inaccessible day from to) h = h
       longer (Fact case (Ended deadline why dated)) h = h
-      longer (Fact case (Resumed deadline dated)) h = h
+      longer (Fact case (Resumed deadline day dated)) h = h
       longer (Fact case (Closed why dated)) h = h
       longer (Fact case (Reopened dated)) h = h
       longer (Fact case (Ruled motion how dated)) h =
@@ -175,7 +175,7 @@ module _ (setup : CourtSetup) where
   few_wanted parts (Holiday day list) = inr (omega (arith, length-map-range_with_len Judge 0 setup.judges))
   few_wanted parts (Inaccessible day from to) = inl (omega arith)
   few_wanted parts (Fact case (Ended deadline why dated)) = inl (omega (arith, few_about case 1 (Court ∷ []) (omega arith)))
-  few_wanted parts (Fact case (Resumed deadline dated)) = inl (omega (arith, few_about case 1 (Court ∷ []) (omega arith)))
+  few_wanted parts (Fact case (Resumed deadline day dated)) = inl (omega (arith, few_about case 1 (Court ∷ []) (omega arith)))
   few_wanted parts (Fact case (Closed why dated)) = inl (omega (arith, few_about case 1 (Court ∷ []) (omega arith)))
   few_wanted parts (Fact case (Reopened dated)) = inl (omega (arith, few_about case 1 (Court ∷ []) (omega arith)))
   few_wanted parts (Fact case (Ruled motion how dated)) =

@@ -29,9 +29,9 @@ numbered setup parts (Cancel case motion) h =
 numbered setup parts (Holiday day list) h = tt
 numbered setup parts (Inaccessible day from to) h = tt
 numbered setup parts (Fact case (Ended deadline why dated)) h =
-    (and_parts _ _ (when-not-None _ _ (none_of (end_checks parts case deadline dated) h).0)).0
-numbered setup parts (Fact case (Resumed deadline dated)) h =
-    (and_parts _ _ (when-not-None _ _ (none_of (resume_checks setup parts case deadline dated) h).0)).0
+    (and_parts _ _ (when-not-None _ _ (none_of (end_checks parts case deadline why dated) h).0)).0
+numbered setup parts (Fact case (Resumed deadline day dated)) h =
+    (and_parts _ _ (when-not-None _ _ (none_of (resume_checks setup parts case deadline day dated) h).0)).0
 numbered setup parts (Fact case (Closed why dated)) h =
     (and_parts _ _ (when-not-None _ _ (none_of (close_checks parts case dated) h).0)).0
 numbered setup parts (Fact case (Reopened dated)) h =

@@ -22,6 +22,7 @@ use Rattle.docket_rows.specs.declared.command.Command.{Command}
 use Rattle.docket_rows.specs.declared.command.Command.TheVariants.{OpenCase, Start, FileAct, Extend, Motion, Book, MoveHearing, Cancel, Holiday, Inaccessible, Fact}
 use Rattle.docket_rows.specs.declared.command.Counted.{Counted}
 use Rattle.docket_rows.specs.declared.command.Counted.TheVariants as counted
+use Rattle.docket_rows.specs.declared.fact.Ending.{Ending}
 use Rattle.docket_rows.specs.declared.fact.Fact.TheVariants.{Ended, Resumed, Closed, Reopened, Ruled, Assigned, Titled, Labelled}
 use Rattle.docket_rows.specs.declared.hearing.Hearing.{Hearing}
 use Rattle.docket_rows.specs.declared.hearing.Setting.{Setting}
@@ -146,16 +147,16 @@ module _ (setup : CourtSetup) (p q : Parts) where
     | inr fails ↦ rw fails refl
   ]
 
-  end_rests : (case deadline : ℕ) (dated : ℤ) → AgreeOn (about_case case (Court ∷ [])) → end_refusal p case deadline dated ≡ end_refusal q case deadline dated
+  end_rests : (case deadline : ℕ) (why : Ending) (dated : ℤ) → AgreeOn (about_case case (Court ∷ [])) → end_refusal p case deadline why dated ≡ end_refusal q case deadline why dated
   unfolding end_refusal
-  end_rests case deadline dated agree = elim (cases_Bool (is_case_number case)) [
+  end_rests case deadline why dated agree = elim (cases_Bool (is_case_number case)) [
     | inl numbered ↦ rw (days_agree case [] numbered agree, case_agrees case (Court ∷ []) numbered agree) refl
     | inr fails ↦ rw fails refl
   ]
 
-  resume_rests : (case deadline : ℕ) (dated : ℤ) → AgreeOn (about_case case (Court ∷ [])) → resume_refusal setup p case deadline dated ≡ resume_refusal setup q case deadline dated
+  resume_rests : (case deadline : ℕ) (since : Option ℤ) (dated : ℤ) → AgreeOn (about_case case (Court ∷ [])) → resume_refusal setup p case deadline since dated ≡ resume_refusal setup q case deadline since dated
   unfolding resume_refusal
-  resume_rests case deadline dated agree = elim (cases_Bool (is_case_number case)) [
+  resume_rests case deadline since dated agree = elim (cases_Bool (is_case_number case)) [
     | inl numbered ↦ rw (days_agree case [] numbered agree, case_agrees case (Court ∷ []) numbered agree) refl
     | inr fails ↦ rw fails refl
   ]
@@ -275,8 +276,8 @@ module _ (setup : CourtSetup) (p q : Parts) where
   refusal_rests (Cancel case motion) from to agree = cancel_rests case motion (calendars_now setup q case motion) agree
   refusal_rests (Holiday day list) from to agree = holiday_rests day list agree
   refusal_rests (Inaccessible day begins ends) from to agree = outage_rests day begins ends agree
-  refusal_rests (Fact case (Ended deadline why dated)) from to agree = end_rests case deadline dated agree
-  refusal_rests (Fact case (Resumed deadline dated)) from to agree = resume_rests case deadline dated agree
+  refusal_rests (Fact case (Ended deadline why dated)) from to agree = end_rests case deadline why dated agree
+  refusal_rests (Fact case (Resumed deadline day dated)) from to agree = resume_rests case deadline day dated agree
   refusal_rests (Fact case (Closed why dated)) from to agree = close_rests case dated agree
   refusal_rests (Fact case (Reopened dated)) from to agree = reopen_rests case dated agree
   refusal_rests (Fact case (Ruled motion how dated)) from to agree = rule_rests case motion dated (calendars_now setup q case motion) agree

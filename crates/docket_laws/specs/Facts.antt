@@ -1,6 +1,6 @@
--- What facts of cases come to: without them nothing is closed, ended, ruled on or assigned, a closed case ends its deadlines, a ruling
--- leaves no later hearing, and what something is called changes nothing.
-use Rattle.std.specs.Prelude.{◌≡◌, ℕ, ℤ, Bool, true, false, not, List, [], Some, None}
+-- What facts of cases come to: without them nothing is closed, ended, ruled on or assigned, a closed case ends the deadlines without an
+-- act, a ruling leaves no later hearing, and what something is called changes nothing.
+use Rattle.std.specs.Prelude.{◌≡◌, ℕ, ℤ, Bool, true, false, not, is_some, List, [], Some, None}
 use Rattle.std.specs.List.{list_all}
 use Rattle.docket_rows.specs.declared.command.Command.{Command}
 use Rattle.docket_rows.specs.declared.command.Command.TheVariants.{Fact}
@@ -8,7 +8,7 @@ use Rattle.docket_rows.specs.declared.fact.Ending.TheVariants.{CaseClosed}
 use Rattle.docket_rows.specs.declared.fact.Fact.{Fact as FactOf}
 use Rattle.docket_rows.specs.declared.fact.Fact.TheVariants.{Ruled}
 use Rattle.docket_rows.specs.declared.fact.Ruling.{Ruling}
-use Rattle.docket_rows.specs.Words.{CourtSetup, Rows, DocketedDeadline, assigned_in, ending_in, facts_of, hearing_of, if_ahead, is_closed, is_kept, parts_of, refusal, ruling_in, step}
+use Rattle.docket_rows.specs.Words.{CourtSetup, Rows, DocketedDeadline, assigned_in, ended_in, ending_in, facts_of, hearing_of, if_ahead, is_closed, is_kept, parts_of, refusal, ruling_in, step}
 use Rattle.docket_laws.specs.Lawful.{deadline_on_sheet, docket_after}
 
 -- the command records a fact of a case
@@ -21,13 +21,15 @@ records_fact other = false
 pub record WithoutFactsNothingIsEnded : Type 0 where
   pub none_recorded : (setup : CourtSetup) (commands : List Command) → list_all (λ command. not (records_fact command)) commands ≡ true → (docket_after setup commands).facts ≡ []
   pub none_closed : (rows : Rows) (case : ℕ) → rows.facts ≡ [] → is_closed (parts_of rows) case ≡ false
-  pub none_ended : (rows : Rows) (case number : ℕ) → rows.facts ≡ [] → ending_in (facts_of rows case) number ≡ None
+  pub none_ended : (rows : Rows) (case number : ℕ) (acted : Bool) → rows.facts ≡ [] → ending_in (facts_of rows case) number acted ≡ None
   pub none_ruled : (rows : Rows) (case number : ℕ) → rows.facts ≡ [] → ruling_in (facts_of rows case) number ≡ None
   pub none_assigned : (rows : Rows) (case : ℕ) → rows.facts ≡ [] → assigned_in (facts_of rows case) ≡ None
 
--- each deadline on the sheet of a closed case is ended
-abbrev pub ClosedCasesEndTheirDeadlines : Type 0
-ClosedCasesEndTheirDeadlines = (setup : CourtSetup) (rows : Rows) (d : DocketedDeadline) → is_closed (parts_of rows) d.case ≡ true → (deadline_on_sheet setup rows d).ended ≡ Some CaseClosed
+-- On the sheet of a closed case each deadline of which no act is recorded is ended. One with an act shows what it shows while its case is
+-- open.
+pub record ClosedCasesEndTheirDeadlines : Type 0 where
+  pub pending_ends : (setup : CourtSetup) (rows : Rows) (d : DocketedDeadline) → is_closed (parts_of rows) d.case ≡ true → d.row.filed ≡ None → (deadline_on_sheet setup rows d).ended ≡ Some CaseClosed
+  pub acted_stays : (setup : CourtSetup) (rows : Rows) (d : DocketedDeadline) → is_some d.row.filed ≡ true → (deadline_on_sheet setup rows d).ended ≡ ended_in (facts_of rows d.case) d.number
 
 -- A ruling that isn't refused leaves its motion no hearing after its day. A hearing of that day or before stays, and so do those of other
 -- motions, whether the ruling is refused or not.

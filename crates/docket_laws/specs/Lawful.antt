@@ -1,5 +1,5 @@
 -- What the laws of dockets say.
-use Rattle.std.specs.Prelude.{◌≡◌, ℕ, true, List, All, AllPairs, IsSomeAnd, filter, find, map}
+use Rattle.std.specs.Prelude.{◌≡◌, ℕ, true, is_some, List, All, AllPairs, IsSomeAnd, filter, find, map}
 use Rattle.court_clock.specs.declared.direction.Direction.TheVariants.{After}
 use Rattle.court_days.specs.Words.{is_permitted}
 use Rattle.rule_periods.specs.Words.{shown_of}
@@ -29,14 +29,14 @@ abbrev pub AllHaveNotice : Rows → Type 0
 AllHaveNotice rows = All (λ (h : DocketedHearing). IsSomeAnd (find (is_motion h.case h.motion) rows.motions) (λ m. IsNoticed rows.days h.hearing.day m.need m.served h.hearing.notice)) rows.hearings
 
 -- a docketed deadline with the end of its time, and whether it was met, by the days as they are docketed now, and why it is due
--- no more, if it was ended and not resumed
+-- no more, if it isn't
 abbrev pub deadline_on_sheet : CourtSetup → Rows → DocketedDeadline → SheetDeadline
 deadline_on_sheet setup rows d = record {
   number = d.number;
   row = d.row;
   shown = shown_of rows.days setup.clock d.row;
   state = state_of setup.clock (shown_of rows.days setup.clock d.row) d.row.filed;
-  ended = ending_in (facts_of rows d.case) d.number;
+  ended = ending_in (facts_of rows d.case) d.number (is_some d.row.filed);
 }
 
 -- a sheet has just the deadlines of its case, in their order

@@ -8,7 +8,7 @@ pub fn without_facts_nothing_is_ended()
     ensures { WithoutFactsNothingIsEnded }
 {}
 
-/// Each deadline on the sheet of a closed case is ended.
+/// Each deadline on the sheet of a closed case is ended, if no act is recorded of it. One that was met or missed stays as it is shown.
 pub fn closed_cases_end_their_deadlines()
     ensures { ClosedCasesEndTheirDeadlines }
 {}

@@ -27,7 +27,7 @@ calendars_now setup parts case motion =
 -- the calendars that a fact of a case may change: a ruling those that have its motion's hearing
 abbrev pub calendars_taken : CourtSetup → Parts → (case : ℕ) → FactOf → List PartId
 calendars_taken setup parts case (Ended deadline why dated) = []
-calendars_taken setup parts case (Resumed deadline dated) = []
+calendars_taken setup parts case (Resumed deadline day dated) = []
 calendars_taken setup parts case (Closed why dated) = []
 calendars_taken setup parts case (Reopened dated) = []
 calendars_taken setup parts case (Ruled motion how dated) = calendars_now setup parts case motion

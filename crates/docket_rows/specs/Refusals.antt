@@ -10,7 +10,7 @@ use Rattle.rule6.specs.declared.service.ServiceKind.{ServiceKind}
 use Rattle.rule6.specs.declared.timeliness.Filing.{Filing}
 use Rattle.rule_periods.specs.declared.period.Period.{Period}
 use Rattle.rule_periods.specs.declared.grant.Request.{Request}
-use Rattle.rule_periods.specs.Words.{EventView, when, first_of, start_refusal, extension_refusal, is_beyond}
+use Rattle.rule_periods.specs.Words.{EventView, anew_if, when, first_of, start_refusal, extension_refusal, is_beyond, is_covered_if_given}
 use Rattle.hearing_slots.specs.declared.booking.Booking.{Booking}
 use Rattle.hearing_slots.specs.declared.need.Need.{Need}
 use Rattle.hearing_slots.specs.Words.{is_on}
@@ -18,6 +18,7 @@ use Rattle.docket_rows.specs.declared.command.Command.{Command}
 use Rattle.docket_rows.specs.declared.command.Command.TheVariants.{OpenCase, Start, FileAct, Extend, Motion, Book, MoveHearing, Cancel, Holiday, Inaccessible, Fact}
 use Rattle.docket_rows.specs.declared.command.Counted.{Counted}
 use Rattle.docket_rows.specs.declared.command.Counted.TheVariants as counted
+use Rattle.docket_rows.specs.declared.fact.Ending.{Ending}
 use Rattle.docket_rows.specs.declared.fact.Fact.TheVariants.{Ended, Resumed, Closed, Reopened, Ruled, Assigned, Titled, Labelled}
 use Rattle.docket_rows.specs.declared.hearing.Setting.{Setting}
 use Rattle.docket_rows.specs.declared.query.Query.{Query}
@@ -25,7 +26,7 @@ use Rattle.docket_rows.specs.declared.query.Query.TheVariants.{Sheet, JudgeDay, 
 use Rattle.docket_rows.specs.declared.refusal.Refusal.{Refusal}
 use Rattle.docket_rows.specs.declared.refusal.Refusal.TheVariants.{NoSuchCase, CaseIsOpen, NoSuchDeadline, NoSuchMotion, BadDay, BadLength, Beyond, AlreadyMet, AlreadySet, NotSet, NotACourtDay, OutsideHours, ShortNotice, JudgeBusy, RoomBusy, AlreadyHoliday, HearingThatDay, NoticeLost, Full, NoSuchJudge, NoSuchRoom, BadPanel, CaseIsClosed, NotClosed, HearingAhead, AlreadyEnded, NotEnded}
 use Rattle.docket_rows.specs.CourtSetup.{CourtSetup}
-use Rattle.docket_rows.specs.Facts.{ending_in}
+use Rattle.docket_rows.specs.Facts.{ended_in, suspended_by}
 use Rattle.docket_rows.specs.Hearings.{hearing_asked, has_judges, is_panel, fits_day, is_court_day, is_within_hours, is_need, lacks_last_service, missed_service, judge_clash, room_clash, all_booked, least, lacks_notice}
 use Rattle.docket_rows.specs.Limits.{most_deadlines, most_motions, most_facts, most_grants, most_dates, most_outages}
 use Rattle.docket_rows.specs.Parts.{Parts}
@@ -76,29 +77,35 @@ extend_checks setup parts case deadline request =
     ∷ when (has_one (λ row. nat_le most_grants (length row.grants)) row) Full
     ∷ [])
 
+-- the case has no motion of that number to suspend a deadline
+abbrev pub no_suspender : Parts → (case : ℕ) → Ending → Option Refusal
+no_suspender parts case why = option_and_then (λ motion. when (is_none (motion_in parts case motion)) NoSuchMotion) (suspended_by why)
+
 -- no act is recorded for the deadline, and it isn't ended
-abbrev pub end_checks : Parts → (case deadline : ℕ) → (dated : ℤ) → List (Option Refusal)
-end_checks parts case deadline dated =
+abbrev pub end_checks : Parts → (case deadline : ℕ) → Ending → (dated : ℤ) → List (Option Refusal)
+end_checks parts case deadline why dated =
     let row = deadline_in parts case deadline in
     (when (not (has_case parts case)) NoSuchCase
     ∷ when (is_closed parts case) CaseIsClosed
     ∷ when (is_none row) NoSuchDeadline
+    ∷ no_suspender parts case why
     ∷ when (not (is_covered parts.days dated)) BadDay
     ∷ when (has_one (λ row. is_some row.filed) row) AlreadyMet
-    ∷ when (is_some (ending_in (facts_in parts case) deadline)) AlreadyEnded
+    ∷ when (is_some (ended_in (facts_in parts case) deadline)) AlreadyEnded
     ∷ when (nat_le most_facts (length (facts_in parts case))) Full
     ∷ [])
 
-abbrev pub resume_checks : CourtSetup → Parts → (case deadline : ℕ) → (dated : ℤ) → List (Option Refusal)
-resume_checks setup parts case deadline dated =
+-- the deadline has its days as before, or runs anew from a day
+abbrev pub resume_checks : CourtSetup → Parts → (case deadline : ℕ) → (from : Option ℤ) → (dated : ℤ) → List (Option Refusal)
+resume_checks setup parts case deadline from dated =
     let row = deadline_in parts case deadline in
     (when (not (has_case parts case)) NoSuchCase
     ∷ when (is_closed parts case) CaseIsClosed
     ∷ when (is_none row) NoSuchDeadline
-    ∷ when (not (is_covered parts.days dated)) BadDay
+    ∷ when (not (is_covered parts.days dated && is_covered_if_given parts.days from)) BadDay
     ∷ when (has_one (λ row. is_some row.filed) row) AlreadyMet
-    ∷ when (is_none (ending_in (facts_in parts case) deadline)) NotEnded
-    ∷ when (has_one (λ row. is_beyond (shown_now setup parts row)) row) Beyond
+    ∷ when (is_none (ended_in (facts_in parts case) deadline)) NotEnded
+    ∷ when (has_one (λ row. is_beyond (shown_now setup parts (anew_if row from))) row) Beyond
     ∷ when (nat_le most_facts (length (facts_in parts case))) Full
     ∷ [])
 
@@ -263,11 +270,11 @@ file_act_refusal setup parts case deadline filing = first_of (file_act_checks se
 unfoldable pub extend_refusal : CourtSetup → Parts → (case deadline : ℕ) → Request → Option Refusal
 extend_refusal setup parts case deadline request = first_of (extend_checks setup parts case deadline request)
 
-unfoldable pub end_refusal : Parts → (case deadline : ℕ) → (dated : ℤ) → Option Refusal
-end_refusal parts case deadline dated = first_of (end_checks parts case deadline dated)
+unfoldable pub end_refusal : Parts → (case deadline : ℕ) → Ending → (dated : ℤ) → Option Refusal
+end_refusal parts case deadline why dated = first_of (end_checks parts case deadline why dated)
 
-unfoldable pub resume_refusal : CourtSetup → Parts → (case deadline : ℕ) → (dated : ℤ) → Option Refusal
-resume_refusal setup parts case deadline dated = first_of (resume_checks setup parts case deadline dated)
+unfoldable pub resume_refusal : CourtSetup → Parts → (case deadline : ℕ) → (from : Option ℤ) → (dated : ℤ) → Option Refusal
+resume_refusal setup parts case deadline from dated = first_of (resume_checks setup parts case deadline from dated)
 
 unfoldable pub close_refusal : Parts → (case : ℕ) → (dated : ℤ) → Option Refusal
 close_refusal parts case dated = first_of (close_checks parts case dated)
@@ -316,8 +323,8 @@ refusal setup parts (MoveHearing s) = move_refusal setup parts s
 refusal setup parts (Cancel case motion) = cancel_refusal parts case motion
 refusal setup parts (Holiday day list) = holiday_refusal setup parts day list
 refusal setup parts (Inaccessible day from to) = outage_refusal parts day from to
-refusal setup parts (Fact case (Ended deadline why dated)) = end_refusal parts case deadline dated
-refusal setup parts (Fact case (Resumed deadline dated)) = resume_refusal setup parts case deadline dated
+refusal setup parts (Fact case (Ended deadline why dated)) = end_refusal parts case deadline why dated
+refusal setup parts (Fact case (Resumed deadline day dated)) = resume_refusal setup parts case deadline day dated
 refusal setup parts (Fact case (Closed why dated)) = close_refusal parts case dated
 refusal setup parts (Fact case (Reopened dated)) = reopen_refusal parts case dated
 refusal setup parts (Fact case (Ruled motion how dated)) = rule_refusal parts case motion dated

@@ -5,7 +5,7 @@ use Rattle.court_days.specs.Words.{add_holiday, add_outage}
 use Rattle.rule6.specs.declared.timeliness.Shown.{Shown}
 use Rattle.rule6.specs.declared.timeliness.Shown.TheVariants as shown
 use Rattle.rule6.specs.Words.{is_in_time}
-use Rattle.rule_periods.specs.Words.{DeadlineRowView, is_order, kept_filing, with_grant, with_filing}
+use Rattle.rule_periods.specs.Words.{DeadlineRowView, anew_if, is_order, kept_filing, with_grant, with_filing}
 use Rattle.docket_rows.specs.declared.answer.Answer.{Answer}
 use Rattle.docket_rows.specs.declared.answer.Answer.TheVariants as answer
 use Rattle.docket_rows.specs.declared.command.Command.{Command}
@@ -49,10 +49,11 @@ abbrev pub hearings_until : (case motion : ℕ) → (day : ℤ) → Rows → Lis
 hearings_until case motion day rows =
     if is_some (if_ahead day (hearing_of rows case motion)) then (without_hearing case motion rows).hearings else rows.hearings
 
--- what a fact changes of the rows beside the list of facts: a ruling takes a later hearing of its motion out
+-- what a fact changes of the rows beside the list of facts: a deadline that is resumed may run anew, and a ruling takes a later hearing of
+-- its motion out
 abbrev pub rows_by_fact : (case : ℕ) → FactOf → Rows → Rows
 rows_by_fact case (Ended deadline why dated) rows = rows
-rows_by_fact case (Resumed deadline dated) rows = rows
+rows_by_fact case (Resumed deadline day dated) rows = with_changed case deadline (λ row. anew_if row day) rows
 rows_by_fact case (Closed why dated) rows = rows
 rows_by_fact case (Reopened dated) rows = rows
 rows_by_fact case (Ruled motion how dated) rows = record rows { hearings = hearings_until case motion dated rows }
@@ -98,8 +99,8 @@ answer_if_made setup parts (Cancel case motion) = answer.Cancelled
 answer_if_made setup parts (Holiday day list) = answer.HolidayEntered
 answer_if_made setup parts (Inaccessible day from to) = answer.OutageEntered
 answer_if_made setup parts (Fact case (Ended deadline why dated)) = answer.Ended
-answer_if_made setup parts (Fact case (Resumed deadline dated)) =
-    answer.Resumed (option_map_or (λ row. shown_now setup parts row) (deadline_in parts case deadline) shown.Beyond)
+answer_if_made setup parts (Fact case (Resumed deadline day dated)) =
+    answer.Resumed (option_map_or (λ row. shown_now setup parts (anew_if row day)) (deadline_in parts case deadline) shown.Beyond)
 answer_if_made setup parts (Fact case (Closed why dated)) = answer.Closed
 answer_if_made setup parts (Fact case (Reopened dated)) = answer.Reopened
 answer_if_made setup parts (Fact case (Ruled motion how dated)) =

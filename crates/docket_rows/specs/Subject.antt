@@ -40,7 +40,7 @@ naming command number = command
 -- what a fact of a case does to the hearing of a motion: a ruling takes one that is later than it off the calendar
 abbrev pub fact_order : (case : ℕ) → FactOf → Option HearingOrder
 fact_order case (Ended deadline why dated) = None
-fact_order case (Resumed deadline dated) = None
+fact_order case (Resumed deadline day dated) = None
 fact_order case (Closed why dated) = None
 fact_order case (Reopened dated) = None
 fact_order case (Ruled motion how dated) = Some (record { case = case; motion = motion; setting = None; later_than = Some dated })

@@ -1,5 +1,5 @@
 -- What a query shows of a docket.
-use Rattle.std.specs.Prelude.{ℕ, List, map, Option, Some, None, option_map, if◌then◌else◌}
+use Rattle.std.specs.Prelude.{ℕ, List, map, Option, Some, None, is_some, option_map, if◌then◌else◌}
 use Rattle.std.specs.Option.{option_map_or}
 use Rattle.court_clock.specs.Words.{ClockView}
 use Rattle.court_days.specs.Words.{DaysView}
@@ -43,7 +43,7 @@ sheet_deadline setup parts facts d = record {
   row = d.row;
   shown = shown_now setup parts d.row;
   state = state_of setup.clock (shown_now setup parts d.row) d.row.filed;
-  ended = ending_in facts d.number;
+  ended = ending_in facts d.number (is_some d.row.filed);
 }
 
 -- a hearing, and the last day to serve an opposing affidavit, 7 days before it (Fed. R. Civ. P. 6(c)(2))

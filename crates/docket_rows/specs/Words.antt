@@ -6,11 +6,11 @@ pub use Rattle.docket_rows.specs.Parts.{Parts, hearing_of, deadline_shown, motio
 unfoldable pub use Rattle.docket_rows.specs.Parts.{parts_of, parts_read}
 pub use Rattle.docket_rows.specs.Limits.{last_case, most_names, most_deadlines, most_motions, most_facts, most_grants, most_dates, most_outages}
 pub use Rattle.docket_rows.specs.Seen.{has_one, is_case_number, has_case, deadlines_in, deadline_in, motions_in, motion_in, hearing_in, facts_in, is_closed, is_heard_after, first_ahead, if_ahead, hearing_ahead, next_deadline, next_motion, started, shown_now}
-pub use Rattle.docket_rows.specs.Facts.{is_kept, keep_fact, add_fact, closed_then, ended_then, ended_in, ruled_then, is_assigned_after, assigned_then, ending_word, closing_word, ruling_word, fact_subject, fact_naming}
-unfoldable pub use Rattle.docket_rows.specs.Facts.{closing_in, ending_in, ruling_in, assigned_in}
+pub use Rattle.docket_rows.specs.Facts.{is_kept, keep_fact, add_fact, closed_then, ended_then, is_ruled_after, later_ruling, ruled_then, is_assigned_after, assigned_then, fact_dated, is_by, closed_by, ruled_by, assigned_then_by, ending_word, suspended_by, ending_naming, closing_word, ruling_word, fact_subject, fact_naming}
+unfoldable pub use Rattle.docket_rows.specs.Facts.{closing_in, ended_in, ending_in, ruling_in, assigned_in, closing_by, ruling_by, assigned_by}
 pub use Rattle.docket_rows.specs.Hearings.{hearing_asked, has_judges, is_distinct, is_panel, fits_day, is_court_day, is_within_hours, is_notice_length, is_need, last_service, lacks_last_service, missed_service, judge_clash, room_clash, all_booked, comes_first, lesser, least, lacks_notice}
 pub use Rattle.docket_rows.specs.Reasons.{refusal_number, refusal_name, refusal_of}
-pub use Rattle.docket_rows.specs.Refusals.{open_case_checks, start_deadline_checks, file_act_checks, extend_checks, end_checks, resume_checks, close_checks, reopen_checks, rule_checks, are_judges, is_named_twice, assign_checks, title_checks, not_counted, label_checks, motion_checks, hearing_checks, book_checks, move_checks, cancel_checks, hearing_that_day, notice_lost, holiday_checks, outage_checks, refusal, sheet_checks, judge_day_checks, compute_checks}
+pub use Rattle.docket_rows.specs.Refusals.{open_case_checks, start_deadline_checks, file_act_checks, extend_checks, no_suspender, end_checks, resume_checks, close_checks, reopen_checks, rule_checks, are_judges, is_named_twice, assign_checks, title_checks, not_counted, label_checks, motion_checks, hearing_checks, book_checks, move_checks, cancel_checks, hearing_that_day, notice_lost, holiday_checks, outage_checks, refusal, sheet_checks, judge_day_checks, compute_checks}
 unfoldable pub use Rattle.docket_rows.specs.Refusals.{open_case_refusal, start_deadline_refusal, file_act_refusal, extend_refusal, end_refusal, resume_refusal, close_refusal, reopen_refusal, rule_refusal, assign_refusal, title_refusal, label_refusal, motion_refusal, book_refusal, move_refusal, cancel_refusal, holiday_refusal, outage_refusal, query_refusal}
 pub use Rattle.docket_rows.specs.Step.{with_deadline, with_changed, with_hearing, without_hearing, fact_kept, with_fact, hearings_until, rows_by_fact, rows_after, ended_answer, answer_if_made}
 unfoldable pub use Rattle.docket_rows.specs.Step.{answered, step, rows_from}

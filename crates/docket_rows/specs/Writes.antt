@@ -3,7 +3,7 @@ use Rattle.std.specs.Prelude.{ℕ, ℤ, ◌+◌, ◌==◌, is_none, is_some, Lis
 use Rattle.std.specs.List.{filter_map}
 use Rattle.std.specs.Option.{option_and_then}
 use Rattle.court_days.specs.Words.{DaysView, add_holiday, add_outage}
-use Rattle.rule_periods.specs.Words.{DeadlineRowView, with_grant, with_filing}
+use Rattle.rule_periods.specs.Words.{DeadlineRowView, anew_if, with_grant, with_filing}
 use Rattle.hearing_slots.specs.declared.booking.Booking.{Booking}
 use Rattle.docket_rows.specs.declared.command.Command.{Command}
 use Rattle.docket_rows.specs.declared.command.Command.TheVariants.{OpenCase, Start, FileAct, Extend, Motion, Book, MoveHearing, Cancel, Holiday, Inaccessible, Fact}
@@ -49,10 +49,11 @@ hearing_set motion c =
 abbrev pub without_ahead : (motion : ℕ) → (day : ℤ) → CaseRecordView → CaseRecordView
 without_ahead motion day c = if is_some (if_ahead day (hearing_set motion c)) then set_hearing motion None c else c
 
--- what a fact changes of its case beside the list of facts: a ruling takes a later hearing of its motion out
+-- what a fact changes of its case beside the list of facts: a deadline that is resumed may run anew, and a ruling takes a later hearing of
+-- its motion out
 abbrev pub changed_by_fact : FactOf → CaseRecordView → CaseRecordView
 changed_by_fact (Ended deadline why dated) c = c
-changed_by_fact (Resumed deadline dated) c = c
+changed_by_fact (Resumed deadline day dated) c = change_deadline deadline (λ row. anew_if row day) c
 changed_by_fact (Closed why dated) c = c
 changed_by_fact (Reopened dated) c = c
 changed_by_fact (Ruled motion how dated) c = without_ahead motion dated c

@@ -1,7 +1,7 @@
 //! What is recorded of a case beside its deadlines, its motions and their hearings.
 
 ghost use Rattle.std.specs.Prelude.{◌≡◌};
-ghost use Rattle.docket_rows.specs.Facts.{assigned_in, assigned_then, closed_then, closing_in, closing_word, ended_in, ended_then, ending_in, ending_word, fact_naming, is_assigned_after, is_kept, ruled_then, ruling_in, ruling_word};
+ghost use Rattle.docket_rows.specs.Facts.{closed_then, closing_in, closing_word, ended_in, ended_then, ending_in, ending_naming, ending_word, fact_dated, fact_naming, is_kept, ruling_word, suspended_by};
 
 use crate::command::Counted;
 use court_clock::Day;
@@ -15,8 +15,10 @@ pub enum Ending {
     Vacated,
     /// The case is stayed.
     Stayed,
-    /// A motion suspends it (Fed. R. Civ. P. 12(a)(4)).
+    /// A motion suspends it (Fed. R. Civ. P. 12(a)(4)), of which the row doesn't say the number.
     Suspended,
+    /// The motion of that number in its case suspends it.
+    SuspendedBy(u32),
     /// The paper that it answers was withdrawn.
     Withdrawn,
     /// The case is closed.
@@ -98,10 +100,12 @@ pub enum Fact {
         /// The day of the order or the paper that says so.
         dated: Day,
     },
-    /// A deadline that was ended is due again, on its days as before.
+    /// A deadline that was ended is due again.
     Resumed {
         /// The number of the deadline in its case.
         deadline: u32,
+        /// The day from which it runs anew; without one it has its days as before.
+        from: Option<Day>,
         /// The day of the order or the paper that says so.
         dated: Day,
     },
@@ -155,9 +159,32 @@ impl Ending {
             Ending::Moot => "moot",
             Ending::Vacated => "vacated",
             Ending::Stayed => "stayed",
-            Ending::Suspended => "suspended",
+            Ending::Suspended | Ending::SuspendedBy(_) => "suspended",
             Ending::Withdrawn => "withdrawn",
             Ending::CaseClosed => "case closed",
+        }
+    }
+
+    /// The number of the motion that suspends the deadline, where it is known.
+    pub fn suspended_by(self) -> Option<u32>
+        ensures { result ≡ suspended_by self }
+    {
+        match self {
+            Ending::SuspendedBy(motion) => Some(motion),
+            Ending::Moot | Ending::Vacated | Ending::Stayed | Ending::Suspended => None,
+            Ending::Withdrawn | Ending::CaseClosed => None,
+        }
+    }
+
+    /// The same with that number of the motion that suspends the deadline. One that no motion suspends, or one whose number isn't known,
+    /// stays as it is.
+    pub fn naming(self, number: u32) -> Ending
+        ensures { result ≡ ending_naming self number }
+    {
+        match self {
+            Ending::SuspendedBy(_) => Ending::SuspendedBy(number),
+            Ending::Moot | Ending::Vacated | Ending::Stayed | Ending::Suspended => self,
+            Ending::Withdrawn | Ending::CaseClosed => self,
         }
     }
 }
@@ -211,6 +238,21 @@ impl Fact {
         }
     }
 
+    /// The day of the order or the paper that says it. What something is called has none.
+    pub fn dated(&self) -> Option<Day>
+        ensures { result ≡ fact_dated self.now }
+    {
+        match *self {
+            Fact::Ended { dated, .. } => Some(dated),
+            Fact::Resumed { dated, .. } => Some(dated),
+            Fact::Closed { dated, .. } => Some(dated),
+            Fact::Reopened { dated } => Some(dated),
+            Fact::Ruled { dated, .. } => Some(dated),
+            Fact::Assigned { dated, .. } => Some(dated),
+            Fact::Titled | Fact::Labelled { .. } => None,
+        }
+    }
+
     // The same fact of the deadline or the motion of that number. One of neither stays as it is.
     pub(crate) fn naming(&self, number: u32) -> Fact
         ensures { result ≡ fact_naming self.now number }
@@ -221,8 +263,9 @@ impl Fact {
                 why,
                 dated,
             },
-            Fact::Resumed { dated, .. } => Fact::Resumed {
+            Fact::Resumed { from, dated, .. } => Fact::Resumed {
                 deadline: number,
+                from,
                 dated,
             },
             Fact::Closed { .. } | Fact::Reopened { .. } => *self,
@@ -251,7 +294,7 @@ pub fn closing_in(facts: &[Fact]) -> Option<Closure>
 }
 
 /// How the case was closed and not reopened, after one fact more.
-fn closed_then(before: Option<Closure>, fact: Fact) -> Option<Closure>
+pub(crate) fn closed_then(before: Option<Closure>, fact: Fact) -> Option<Closure>
     ensures { result ≡ closed_then before fact }
 {
     match fact {
@@ -260,25 +303,25 @@ fn closed_then(before: Option<Closure>, fact: Fact) -> Option<Closure>
         Fact::Ended { .. } | Fact::Resumed { .. } => before,
         Fact::Ruled { .. } => before,
         Fact::Assigned { .. } => before,
-        Fact::Titled => before,
-        Fact::Labelled { .. } => before,
+        Fact::Titled | Fact::Labelled { .. } => before,
     }
 }
 
-/// Why the deadline of that number is due no more, by the facts of its case: the case is closed, or the deadline was ended and not
-/// resumed. `None` where neither is so.
+/// Why the deadline of that number is due no more, by the facts of its case: the case is closed and no act is recorded of the deadline, or
+/// it was ended and not resumed. `None` where neither is so. `acted` says whether an act is recorded.
 #[tactic(auto, unfolding(crate::specs::Facts::ending_in))]
-pub fn ending_in(facts: &[Fact], number: u32) -> Option<Ending>
-    ensures { result ≡ ending_in facts.now number }
+pub fn ending_in(facts: &[Fact], number: u32, acted: bool) -> Option<Ending>
+    ensures { result ≡ ending_in facts.now number acted }
 {
-    if closing_in(facts).is_some() {
+    if closing_in(facts).is_some() && !acted {
         return Some(Ending::CaseClosed);
     }
     ended_in(facts, number)
 }
 
-/// Why the deadline of that number was ended and not resumed, by the facts of its case, from the first on.
-fn ended_in(facts: &[Fact], number: u32) -> Option<Ending>
+/// Why the deadline of that number was ended, by the facts of its case, from the first on. `None` where it wasn't, or was resumed.
+#[tactic(auto, unfolding(crate::specs::Facts::ended_in))]
+pub fn ended_in(facts: &[Fact], number: u32) -> Option<Ending>
     ensures { result ≡ ended_in facts.now number }
 {
     let mut ending = None;
@@ -304,95 +347,6 @@ fn ended_then(number: u32, before: Option<Ending>, fact: Fact) -> Option<Ending>
         Fact::Closed { .. } | Fact::Reopened { .. } => before,
         Fact::Ruled { .. } => before,
         Fact::Assigned { .. } => before,
-        Fact::Titled => before,
-        Fact::Labelled { .. } => before,
-    }
-}
-
-/// How the motion of that number was ruled on, by the facts of its case, from the first on: the last ruling counts. `None` where it
-/// wasn't. A motion of which the ruling is reserved is still pending.
-#[tactic(auto, unfolding(crate::specs::Facts::ruling_in))]
-pub fn ruling_in(facts: &[Fact], number: u32) -> Option<DatedRuling>
-    ensures { result ≡ ruling_in facts.now number }
-{
-    let mut ruled = None;
-    for fact in facts {
-        ruled = ruled_then(number, ruled, *fact);
-    }
-    ruled
-}
-
-/// How the motion of that number was ruled on last, after one fact more.
-fn ruled_then(number: u32, before: Option<DatedRuling>, fact: Fact) -> Option<DatedRuling>
-    ensures { result ≡ ruled_then number before fact }
-{
-    match fact {
-        Fact::Ruled {
-            motion,
-            ruling,
-            dated,
-        } => {
-            if motion == number {
-                Some(DatedRuling { ruling, dated })
-            } else {
-                before
-            }
-        }
-        Fact::Ended { .. } | Fact::Resumed { .. } => before,
-        Fact::Closed { .. } | Fact::Reopened { .. } => before,
-        Fact::Assigned { .. } => before,
-        Fact::Titled => before,
-        Fact::Labelled { .. } => before,
-    }
-}
-
-/// Who has a case of which these facts are recorded, from the first on. `None` where it wasn't assigned. An assignment of an earlier day
-/// takes no later one's place; of those of one day the last counts.
-#[tactic(auto, unfolding(crate::specs::Facts::assigned_in))]
-pub fn assigned_in(facts: &[Fact]) -> Option<Assignment>
-    ensures { result ≡ assigned_in facts.now }
-{
-    let mut assigned = None;
-    for fact in facts {
-        assigned = assigned_then(assigned, *fact);
-    }
-    assigned
-}
-
-/// Who has the case, after one fact more.
-fn assigned_then(before: Option<Assignment>, fact: Fact) -> Option<Assignment>
-    ensures { result ≡ assigned_then before fact }
-{
-    match fact {
-        Fact::Assigned {
-            judge,
-            referred,
-            dated,
-        } => {
-            if is_assigned_after(dated, &before) {
-                before
-            } else {
-                Some(Assignment {
-                    judge,
-                    referred,
-                    dated,
-                })
-            }
-        }
-        Fact::Ended { .. } | Fact::Resumed { .. } => before,
-        Fact::Closed { .. } | Fact::Reopened { .. } => before,
-        Fact::Ruled { .. } => before,
-        Fact::Titled => before,
-        Fact::Labelled { .. } => before,
-    }
-}
-
-/// Whether the assignment is of a day after this one.
-fn is_assigned_after(day: Day, assigned: &Option<Assignment>) -> bool
-    ensures { result ≡ is_assigned_after day assigned.now }
-{
-    match assigned {
-        Some(assignment) => day.number() < assignment.dated.number(),
-        None => false,
+        Fact::Titled | Fact::Labelled { .. } => before,
     }
 }

@@ -2,8 +2,10 @@
 #![tactic(auto)]
 
 mod answer;
+mod assigned;
 mod cases;
 mod command;
+mod dated;
 mod decision;
 mod fact;
 mod hearing;
@@ -13,16 +15,19 @@ mod part;
 mod query;
 mod rebooking;
 mod refusal;
+mod ruled;
 mod sheet;
 mod view;
 
 pub use answer::Answer;
+pub use assigned::assigned_in;
 pub use cases::{CaseRecord, SharedCase};
 pub use command::{Command, Counted, HearingOrder, Subject};
+pub use dated::{assigned_by, closing_by, ruling_by};
 pub use decision::{Decision, Writes};
 pub use fact::{
-    Assignment, Closing, Closure, DatedRuling, Ending, Fact, Ruling, assigned_in, closing_in,
-    ending_in, ruling_in,
+    Assignment, Closing, Closure, DatedRuling, Ending, Fact, Ruling, closing_in, ended_in,
+    ending_in,
 };
 pub use hearing::{Hearing, Setting};
 pub use limits::{
@@ -33,6 +38,7 @@ pub use part::{PartId, PartValue};
 pub use query::Query;
 pub use rebooking::{CalendarChange, Placement, Rebooking};
 pub use refusal::Refusal;
+pub use ruled::ruling_in;
 pub use sheet::{
     Sheet, SheetDeadline, SheetDeadlines, SheetHearing, SheetMotion, SheetMotions, State,
 };

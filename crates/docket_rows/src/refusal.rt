@@ -65,7 +65,8 @@ pub enum Refusal {
     NoSuchJudge,
     /// The court has no room of that number.
     NoSuchRoom,
-    /// An extension by days or to a date of a period in hours, or by hours of one in days.
+    /// An extension by days or to a date of a period in hours, or by hours of one in days; or either where an order set an end of the other
+    /// kind.
     WrongGrant,
     /// A judge is named twice in the panel, or the case is referred to the judge who has it.
     BadPanel,

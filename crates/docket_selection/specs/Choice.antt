@@ -1,9 +1,10 @@
 -- Which judge, which case and which days are chosen.
-use Rattle.std.specs.Prelude.{ℕ, ◌==◌, ℤ, int_le, Bool, true, false, ◌&&◌, ◌||◌, not, List, Option, Some, None, if◌then◌else◌}
+use Rattle.std.specs.Prelude.{ℕ, ◌==◌, ℤ, int_le, Bool, true, false, ◌&&◌, ◌||◌, not, is_none, List, Option, Some, None, if◌then◌else◌}
 use Rattle.std.specs.List.{list_any}
 use Rattle.std.specs.Option.{option_and_then, option_map_or}
 use Rattle.court_clock.specs.Words.{ClockView}
 use Rattle.docket_rows.specs.declared.fact.Assignment.{Assignment}
+use Rattle.docket_rows.specs.declared.fact.Closure.{Closure}
 use Rattle.docket_rows.specs.declared.sheet.SheetHearing.{SheetHearing}
 use Rattle.docket_rows.specs.declared.sheet.SheetMotion.{SheetMotion}
 use Rattle.docket_rows.specs.Words.{has_one, sits}
@@ -48,6 +49,10 @@ is_case_before judge None motions = sits_in_any judge motions
 abbrev pub is_before : Choice → Option Assignment → List SheetMotion → Bool
 is_before choice assigned motions =
     option_map_or (λ judge. if choice.elsewhere then not (is_case_before judge assigned motions) else is_case_before judge assigned motions) choice.judge true
+
+-- The deadlines of such a case. Those of one that is closed are chosen only where deadlines that were met or ended are too.
+abbrev pub are_deadlines_chosen : Choice → Option Closure → (before : Bool) → Bool
+are_deadlines_chosen choice closed before = (choice.met || is_none closed) && before
 
 -- the cases that have a hearing before that judge, or any case
 abbrev pub has_hearing : Choice → List SheetMotion → Bool

@@ -1,5 +1,5 @@
 -- What is due: the deadlines that end within the chosen days, as they are shown or by another reading, those with no timely act that
--- weren't ended or all, and the hearings within them.
+-- weren't ended and whose case isn't closed, or all, and the hearings within them.
 use Rattle.std.specs.Prelude.{◌≡◌, ℕ, ℤ, ◌<◌, ◌≤◌, ◌≤ℤ◌, Bool, false, ◌&&◌, ◌||◌, not, List, ◌++◌, length, filter, slice_index_or, option_map, Option, Some, None, if◌then◌else◌}
 use Rattle.std.specs.List.{filter_map, flat_map}
 use Rattle.std.specs.List.Sorted.{IsPermutation}
@@ -15,11 +15,11 @@ use Rattle.docket_selection.specs.declared.choice.Choice.{Choice}
 use Rattle.docket_selection.specs.declared.item.DueItem.{DueItem}
 use Rattle.docket_selection.specs.declared.item.Matter.{Matter}
 use Rattle.docket_selection.specs.declared.item.Matter.TheVariants.{Deadline, Hearing}
-use Rattle.docket_selection.specs.Choice.{is_before, is_case_chosen, is_day_chosen, is_end_chosen, is_panel_chosen}
+use Rattle.docket_selection.specs.Choice.{are_deadlines_chosen, is_before, is_case_chosen, is_day_chosen, is_end_chosen, is_panel_chosen}
 use Rattle.docket_selection.specs.Items.{deadline_item, hearing_item, is_ended, is_met, is_pending, time_of, with_other}
 use Rattle.docket_selection.specs.Sheets.{open_sheets}
 
--- A hearing is chosen by its panel, and a deadline by whether its case is before the chosen judge. Overdue is no hearing, and no deadline
+-- A hearing is chosen by its panel, and a deadline by its case: `before` says whether those of its case are chosen. Overdue is no hearing, and no deadline
 -- of which an act is recorded.
 abbrev pub is_matter_chosen : Choice → (before : Bool) → Matter → Bool
 is_matter_chosen choice before (Deadline d) = before && (not choice.overdue || is_pending d.state)
@@ -64,7 +64,7 @@ due_hearing case choice before m = due_only choice before (hearing_item case m)
 unfoldable pub due_in : DaysByReadingView → ClockView → Choice → Sheet → List DueItem
 due_in days clock choice sheet =
     let before = is_before choice sheet.assigned sheet.motions in
-    filter_map (due_deadline days clock sheet.case choice before) sheet.deadlines ++ filter_map (due_hearing sheet.case choice before) sheet.motions
+    filter_map (due_deadline days clock sheet.case choice (are_deadlines_chosen choice sheet.closed before)) sheet.deadlines ++ filter_map (due_hearing sheet.case choice before) sheet.motions
 
 -- what is due of all open cases, by their numbers
 abbrev pub all_due : CourtSetup → Rows → (doubtful : List ℤ) → Choice → List DueItem

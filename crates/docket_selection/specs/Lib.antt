@@ -5,6 +5,7 @@ pub mod Due
 pub mod Closed
 pub mod LeftOut
 pub mod Items
+pub mod Pending
 pub mod Sheets
 pub mod Words
 pub mod Explained

@@ -96,7 +96,7 @@ fn number_in_week(day: Day, place: u8) -> i32
 }
 
 /// The day of that number, if it is one.
-fn day_numbered(number: i32) -> Option<Day>
+pub fn day_numbered(number: i32) -> Option<Day>
     ensures { result ≡ day_numbered number }
 {
     let day = Day::new(number)?;

@@ -2,10 +2,10 @@
 
 ghost use Rattle.std.specs.Prelude.{◌≡◌};
 ghost use Rattle.docket_rows.specs.Words.{sits};
-ghost use Rattle.docket_selection.specs.Choice.{has_assigned, has_hearing, is_before, is_case_before, is_case_chosen, is_day_chosen, is_end_chosen, is_panel_chosen, sits_in, sits_in_any};
+ghost use Rattle.docket_selection.specs.Choice.{are_deadlines_chosen, has_assigned, has_hearing, is_before, is_case_before, is_case_chosen, is_day_chosen, is_end_chosen, is_panel_chosen, sits_in, sits_in_any};
 
 use court_clock::{Clock, Day};
-use docket_rows::{Assignment, SheetHearing, SheetMotion};
+use docket_rows::{Assignment, Closure, SheetHearing, SheetMotion};
 use hearing_slots::Panel;
 use reason_notes::end_day;
 use rule6::Shown;
@@ -25,7 +25,7 @@ pub struct Choice {
     pub from: Day,
     /// The last day.
     pub to: Day,
-    /// Whether deadlines with a timely act, and those that were ended, are chosen too.
+    /// Whether deadlines with a timely act, and those that were ended or are of a closed case, are chosen too.
     pub met: bool,
     /// Whether only what is overdue is chosen, where the days are past: deadlines of which no act is recorded, and no hearing.
     pub overdue: bool,
@@ -84,6 +84,13 @@ pub(crate) fn is_before(
     };
     let before = is_case_before(judge, assigned, motions);
     if choice.elsewhere { !before } else { before }
+}
+
+/// Whether the deadlines of a case are chosen that is closed so, if it is. `before` says whether it is before the chosen judge.
+pub(crate) fn are_deadlines_chosen(choice: &Choice, closed: &Option<Closure>, before: bool) -> bool
+    ensures { result ≡ are_deadlines_chosen choice.now closed.now before }
+{
+    (choice.met || closed.is_none()) && before
 }
 
 /// Whether a case that is assigned so and has these motions is before the judge.

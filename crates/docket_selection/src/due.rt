@@ -4,11 +4,12 @@ ghost use Rattle.std.specs.Prelude.{◌≡◌, ◌++◌, IfOk, OnOk};
 ghost use Rattle.std.specs.List.{filter_map, flat_map};
 ghost use Rattle.docket_rows.specs.Words.{Rows, setup_of};
 ghost use Rattle.docket_core.specs.Words.{StandsFor};
-ghost use Rattle.docket_selection.specs.Choice.{is_before};
+ghost use Rattle.docket_selection.specs.Choice.{are_deadlines_chosen, is_before};
 ghost use Rattle.docket_selection.specs.Due.{AreInOrder, IsDue, due_by_either, due_deadline, due_hearing, due_in, due_only, is_due, is_due_any_day, is_due_by_either, is_matter_chosen, is_other_chosen};
 
 use crate::choice::{
-    Choice, is_before, is_case_chosen, is_day_chosen, is_end_chosen, is_panel_chosen,
+    Choice, are_deadlines_chosen, is_before, is_case_chosen, is_day_chosen, is_end_chosen,
+    is_panel_chosen,
 };
 use crate::item::{
     DueItem, DueTypes, Matter, deadline_item, hearing_item, is_ended, is_met, is_pending, time_of,
@@ -23,8 +24,8 @@ use docket_rows::{Sheet, SheetDeadline, SheetMotion};
 use reason_notes::{DaysByReading, other_end};
 use std::alloc::{AllocError, Global};
 
-/// The deadlines that end within the chosen days, those with no timely act that weren't ended or all, and the hearings within them, by
-/// time. Each deadline has its end by another reading, where these days are doubtful. One whose other end alone is within the chosen
+/// The deadlines that end within the chosen days, those with no timely act that weren't ended and whose case isn't closed, or all, and the
+/// hearings within them, by time. Each deadline has its end by another reading, where these days are doubtful. One whose other end alone is within the chosen
 /// days is there too, in the place of the end that is shown. `Err` says that memory ran out.
 pub fn due_of(
     alloc: Global,
@@ -84,6 +85,7 @@ fn push_due_in(
 {
     let _types: DueTypes = None;
     let before = is_before(choice, &sheet.assigned, sheet.motions.as_slice());
+    let chosen = are_deadlines_chosen(choice, &sheet.closed, before);
     push_deadlines(
         alloc,
         list,
@@ -92,7 +94,7 @@ fn push_due_in(
         sheet.case,
         sheet.deadlines.as_slice(),
         choice,
-        before,
+        chosen,
     )?;
     push_hearings(list, sheet.case, sheet.motions.as_slice(), choice, before)
 }
@@ -175,7 +177,7 @@ fn due_only(choice: &Choice, before: bool, item: Option<DueItem>) -> Option<DueI
     }
 }
 
-/// Whether an item is chosen and due on its own day. `before` says whether its case is before the chosen judge.
+/// Whether an item is chosen and due on its own day. `before` says whether the deadlines of its case are chosen.
 pub fn is_due(choice: &Choice, before: bool, item: &DueItem) -> bool
     ensures { result ≡ is_due choice.now before item.now }
 {
@@ -211,7 +213,7 @@ fn is_other_chosen(clock: &Clock, choice: &Choice, matter: &Matter) -> bool
     }
 }
 
-/// Whether a hearing is before the chosen judge, or a deadline in a case that is. Where only what is overdue is chosen, no hearing is,
+/// Whether a hearing is before the chosen judge, or a deadline in a case whose deadlines are chosen. Where only what is overdue is chosen, no hearing is,
 /// and no deadline of which an act is recorded.
 pub(crate) fn is_matter_chosen(choice: &Choice, before: bool, matter: &Matter) -> bool
     ensures { result ≡ is_matter_chosen choice.now before matter.now }

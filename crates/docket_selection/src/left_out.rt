@@ -1,4 +1,4 @@
-//! The deadlines that would be due on the chosen days if they weren't ended.
+//! The deadlines that would be due on the chosen days, by the ends that are shown, if they weren't ended and their cases weren't closed.
 
 ghost use Rattle.std.specs.Prelude.{◌≡◌, ◌++◌, IfOk, OnOk};
 ghost use Rattle.std.specs.List.{filter_map, flat_map};
@@ -17,7 +17,8 @@ use docket_core::Docket;
 use docket_rows::{Sheet, SheetDeadline};
 use std::alloc::{AllocError, Global};
 
-/// The deadlines that would be due on the chosen days if they weren't ended, by case and number. `Err` says that memory ran out.
+/// The deadlines that would be due on the chosen days, by the ends that are shown, if they weren't ended and their cases weren't closed: by
+/// case and number. `Err` says that memory ran out.
 pub fn deadlines_left_out(
     alloc: Global,
     court: &Court,
@@ -68,6 +69,7 @@ fn push_left_out_in(
         sheet.deadlines.as_slice(),
         choice,
         before,
+        sheet.closed.is_some(),
     )
 }
 
@@ -79,36 +81,42 @@ fn push_deadlines(
     deadlines: &[SheetDeadline],
     choice: &Choice,
     before: bool,
+    closed: bool,
 ) -> Result<(), AllocError>
-    ensures { OnOk result (list.new.items ≡ list.old.items ++ filter_map (left_out_deadline clock.now case choice.now before) deadlines.now) }
+    ensures { OnOk result (list.new.items ≡ list.old.items ++ filter_map (left_out_deadline clock.now case choice.now before closed) deadlines.now) }
 {
     let _types: DueTypes = None;
     for deadline in deadlines {
-        let left = left_out_only(choice, before, deadline_item(clock, case, deadline));
+        let left = left_out_only(choice, before, closed, deadline_item(clock, case, deadline));
         push_if(list, left)?;
     }
     Ok(())
 }
 
 /// The item, if there is one and it is left out.
-fn left_out_only(choice: &Choice, before: bool, item: Option<DueItem>) -> Option<DueItem>
-    ensures { result ≡ left_out_only choice.now before item }
+fn left_out_only(
+    choice: &Choice,
+    before: bool,
+    closed: bool,
+    item: Option<DueItem>,
+) -> Option<DueItem>
+    ensures { result ≡ left_out_only choice.now before closed item }
 {
     let item = item?;
-    if is_left_out(choice, before, &item) {
+    if is_left_out(choice, before, closed, &item) {
         Some(item)
     } else {
         None
     }
 }
 
-/// Whether an item is chosen, and isn't due since it was ended.
-fn is_left_out(choice: &Choice, before: bool, item: &DueItem) -> bool
-    ensures { result ≡ is_left_out choice.now before item.now }
+/// Whether an item is chosen, and isn't due since it was ended or its case is closed.
+fn is_left_out(choice: &Choice, before: bool, closed: bool, item: &DueItem) -> bool
+    ensures { result ≡ is_left_out choice.now before closed item.now }
 {
     is_day_chosen(choice, item.day)
         && is_case_chosen(choice, item.case)
         && is_matter_chosen(choice, before, &item.matter)
         && !is_met(&item.matter)
-        && is_ended(&item.matter)
+        && (is_ended(&item.matter) || closed)
 }

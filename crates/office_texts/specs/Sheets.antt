@@ -19,7 +19,7 @@ use Rattle.docket_rows.specs.declared.sheet.SheetHearing.{SheetHearing}
 use Rattle.docket_rows.specs.declared.sheet.SheetMotion.{SheetMotion}
 use Rattle.docket_rows.specs.declared.sheet.State.{State}
 use Rattle.docket_rows.specs.declared.sheet.State.TheVariants.{Pending, Timely, Late, Undecided}
-use Rattle.docket_rows.specs.Words.{closing_word, ending_word, ruling_word}
+use Rattle.docket_rows.specs.Words.{closing_word, ending_word, ruling_word, suspended_by}
 use Rattle.office_texts.specs.Calendars.{name_of, span_text}
 use Rattle.office_texts.specs.Periods.{period_text}
 use Rattle.office_texts.specs.Shown.{shown_text}
@@ -39,9 +39,14 @@ abbrev pub act_done_text : Option Filing → List ℕ
 act_done_text None = []
 act_done_text (Some f) = codes " " ++ day_text f.day ++ codes " " ++ minute_text f.minute ++ codes " " ++ means_text f.means
 
+-- by which motion a deadline is suspended, where that is known
+abbrev pub suspended_text : (motion : Option ℕ) → List ℕ
+suspended_text None = []
+suspended_text (Some motion) = codes " by motion " ++ decimal motion
+
 -- why a deadline is due no more, where it was ended and not resumed
 abbrev pub ended_text : Ending → List ℕ
-ended_text why = codes "ended " ++ ending_word why
+ended_text why = codes "ended " ++ ending_word why ++ suspended_text (suspended_by why)
 
 abbrev pub and_ended_text : Option Ending → List ℕ
 and_ended_text None = []

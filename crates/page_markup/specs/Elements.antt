@@ -37,8 +37,14 @@ tag_name tag.WideCell = codes "td"
 tag_name tag.Details = codes "details"
 tag_name tag.Summary = codes "summary"
 tag_name tag.Reasons = codes "div"
+tag_name tag.Grid = codes "table"
+tag_name tag.DateCell = codes "td"
+tag_name tag.OutCell = codes "td"
+tag_name tag.Block = codes "div"
+tag_name tag.LoadHead = codes "th"
+tag_name (tag.Bar percent) = codes "div"
 
--- what a tag says of its element: its language, which cells a head is of, its class, or the case that it is or leads to
+-- what a tag says of its element: its language, which cells a head is of, its class, how wide it is, or the case that it is or leads to
 abbrev pub attributes : Tag → List ℕ
 attributes tag.Page = codes " lang=\"en\""
 attributes (tag.CaseSection case) = codes " id=\"case-" ++ decimal case ++ codes "\""
@@ -51,6 +57,12 @@ attributes tag.LateCell = codes " class=\"late\""
 attributes tag.Note = codes " class=\"note\""
 attributes tag.WideCell = codes " colspan=\"4\""
 attributes tag.Reasons = codes " class=\"reasons\""
+attributes tag.Grid = codes " class=\"grid\""
+attributes tag.DateCell = codes " class=\"date\""
+attributes tag.OutCell = codes " class=\"out\""
+attributes tag.Block = codes " class=\"block\""
+attributes tag.LoadHead = codes " class=\"load\" scope=\"row\""
+attributes (tag.Bar percent) = codes " class=\"bar\" style=\"width: " ++ decimal percent ++ codes "%\""
 attributes other = []
 
 -- a line ends after an element that isn't inside a line
@@ -67,6 +79,11 @@ end_of_line tag.Note = []
 end_of_line tag.WideCell = []
 end_of_line tag.Summary = []
 end_of_line tag.Reasons = []
+end_of_line tag.DateCell = []
+end_of_line tag.OutCell = []
+end_of_line tag.Block = []
+end_of_line tag.LoadHead = []
+end_of_line (tag.Bar percent) = []
 end_of_line other = 10 ∷ []
 
 -- `<td>`

@@ -1,6 +1,6 @@
 //! A page, to which elements and texts are added.
 
-ghost use Rattle.std.specs.Prelude.{◌≡◌, ◌++◌, ◌∷◌, [], OnOk, codes, ℕ, List};
+ghost use Rattle.std.specs.Prelude.{◌≡◌, ◌++◌, [], OnOk, ℕ, List};
 ghost use Rattle.std.specs.Fmt.{decimal};
 ghost use Rattle.page_markup.specs.Elements.{attributes, closing, opening, text_in};
 ghost use Rattle.page_markup.specs.Escaping.{escaped};
@@ -95,8 +95,11 @@ fn push_attributes(bytes: &mut Vec<u8>, tag: Tag) -> Result<(), AllocError>
 {
     match tag {
         Tag::Page => bytes.extend_from_slice(b" lang=\"en\""),
-        Tag::CaseSection(case) => push_numbered(bytes, b" id=\"case-", case),
-        Tag::CaseLink(case) => push_numbered(bytes, b" href=\"#case-", case),
+        Tag::CaseSection(case) => push_numbered(bytes, b" id=\"case-", case, b"\""),
+        Tag::CaseLink(case) => push_numbered(bytes, b" href=\"#case-", case, b"\""),
+        Tag::Bar(percent) => {
+            push_numbered(bytes, b" class=\"bar\" style=\"width: ", percent, b"%\"")
+        }
         Tag::ColumnHead => bytes.extend_from_slice(b" scope=\"col\""),
         Tag::DayHead => bytes.extend_from_slice(b" class=\"day\" scope=\"col\" colspan=\"3\""),
         Tag::WeekHead => bytes.extend_from_slice(b" class=\"day\" scope=\"col\" colspan=\"4\""),
@@ -105,15 +108,25 @@ fn push_attributes(bytes: &mut Vec<u8>, tag: Tag) -> Result<(), AllocError>
         Tag::Note => bytes.extend_from_slice(b" class=\"note\""),
         Tag::WideCell => bytes.extend_from_slice(b" colspan=\"4\""),
         Tag::Reasons => bytes.extend_from_slice(b" class=\"reasons\""),
+        Tag::Grid => bytes.extend_from_slice(b" class=\"grid\""),
+        Tag::DateCell => bytes.extend_from_slice(b" class=\"date\""),
+        Tag::OutCell => bytes.extend_from_slice(b" class=\"out\""),
+        Tag::Block => bytes.extend_from_slice(b" class=\"block\""),
+        Tag::LoadHead => bytes.extend_from_slice(b" class=\"load\" scope=\"row\""),
         _ => Ok(()),
     }
 }
 
-/// Adds an attribute that names a case.
-fn push_numbered(bytes: &mut Vec<u8>, front: &[u8], case: u32) -> Result<(), AllocError>
-    ensures { OnOk result (bytes.new.items ≡ bytes.old.items ++ (front.now ++ decimal case ++ 34 ∷ [])) }
+/// Adds an attribute that has a number.
+fn push_numbered(
+    bytes: &mut Vec<u8>,
+    front: &[u8],
+    number: u32,
+    back: &[u8],
+) -> Result<(), AllocError>
+    ensures { OnOk result (bytes.new.items ≡ bytes.old.items ++ (front.now ++ decimal number ++ back.now)) }
 {
     bytes.extend_from_slice(front)?;
-    bytes.extend_from_slice(itoa::Buffer::new().format(case).as_bytes())?;
-    bytes.extend_from_slice(b"\"")
+    bytes.extend_from_slice(itoa::Buffer::new().format(number).as_bytes())?;
+    bytes.extend_from_slice(back)
 }

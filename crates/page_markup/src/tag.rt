@@ -66,6 +66,18 @@ pub enum Tag {
     Summary,
     /// Lines in columns, as a text has them.
     Reasons,
+    /// A table whose columns are equally wide, and in which any text may be broken.
+    Grid,
+    /// The cell of a day of the month.
+    DateCell,
+    /// The cell of a day of the month before or after it.
+    OutCell,
+    /// What takes place on a day.
+    Block,
+    /// The head of a row that has the load of a week.
+    LoadHead,
+    /// A bar that is so many hundredths as wide as it may be.
+    Bar(u32),
 }
 
 /// The name of the element.
@@ -85,14 +97,14 @@ pub(crate) fn tag_name(tag: Tag) -> &'static str
         Tag::Paragraph => "p",
         Tag::Section | Tag::CaseSection(_) => "section",
         Tag::CaseLink(_) => "a",
-        Tag::Table => "table",
+        Tag::Table | Tag::Grid => "table",
         Tag::Caption => "caption",
         Tag::TableHead => "thead",
         Tag::TableBody => "tbody",
         Tag::Row => "tr",
-        Tag::ColumnHead | Tag::DayHead | Tag::WeekHead | Tag::RowHead => "th",
-        Tag::Cell | Tag::LateCell | Tag::WideCell => "td",
-        Tag::Line | Tag::Note | Tag::Reasons => "div",
+        Tag::ColumnHead | Tag::DayHead | Tag::WeekHead | Tag::RowHead | Tag::LoadHead => "th",
+        Tag::Cell | Tag::LateCell | Tag::WideCell | Tag::DateCell | Tag::OutCell => "td",
+        Tag::Line | Tag::Note | Tag::Reasons | Tag::Block | Tag::Bar(_) => "div",
         Tag::Details => "details",
         Tag::Summary => "summary",
     }
@@ -114,7 +126,12 @@ pub(crate) fn end_of_line(tag: Tag) -> &'static str
         | Tag::Note
         | Tag::WideCell
         | Tag::Summary
-        | Tag::Reasons => "",
+        | Tag::Reasons
+        | Tag::DateCell
+        | Tag::OutCell
+        | Tag::Block
+        | Tag::LoadHead
+        | Tag::Bar(_) => "",
         _ => "\n",
     }
 }

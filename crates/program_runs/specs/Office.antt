@@ -29,9 +29,9 @@ pub record Input : Type 0 where
   pub file : CourtFile
   pub rows : List RowOf
 
--- the names of the judges and rooms that a court's file has
+-- the names that rows may have in the court of a file
 abbrev pub names_in : CourtFile → CourtNames
-names_in file = record { judges = file.judges; rooms = file.rooms }
+names_in file = record { judges = file.judges; rooms = file.rooms; periods = file.periods.texts; coded = true; shorts = file.periods.shorts }
 
 -- what an input says, or its first fault, a court's before any row's
 unfoldable pub input_of : ℕ → List ℕ → Result Input OfficeFault

@@ -73,6 +73,10 @@ log_line =
 abbrev pub sheet_line : App
 sheet_line = with_rule (with_rule (with_source (new_app (codes "sheet"))) (text_rule (codes "as-of"))) (option_place_rule (codes "case"))
 
+-- a folder, and a case in it
+abbrev pub case_line : App
+case_line = with_rule (folder_line (codes "case")) (place_rule (codes "case"))
+
 -- ---- the subcommands of a court's file, which come after the word `court`
 
 abbrev pub check_line : App
@@ -126,7 +130,8 @@ with_kept line =
 
 -- the command line of `docket`: its subcommands, of which `court` has a command line of its own
 abbrev pub command_line : App
-command_line = with_subcommand (with_subcommand (with_memo (with_reports (with_kept (with_rows (bare_line (codes "docket")))))) sheet_line.top) (new_app (codes "court")).top
+command_line =
+    with_subcommand (with_subcommand (with_subcommand (with_memo (with_reports (with_kept (with_rows (bare_line (codes "docket")))))) sheet_line.top) case_line.top) (new_app (codes "court")).top
 
 -- the words after `court`
 abbrev pub court_line : App

@@ -1,5 +1,5 @@
 -- What a subcommand asks for with what it was given, and the faults of what it was given.
-use Rattle.std.specs.Prelude.{◌≡◌, ℤ, ◌&&◌, ◌||◌, Bool, true, false, not, List, [], ◌∷◌, Option, None, Some, String, codes, is_some, option_map, string_bytes, if◌then◌else◌}
+use Rattle.std.specs.Prelude.{◌≡◌, ℤ, ◌||◌, Bool, false, List, [], ◌∷◌, Option, None, Some, String, codes, is_some, option_map, string_bytes, if◌then◌else◌}
 use Rattle.std.specs.Option.{option_and_then}
 use Rattle.std.specs.Str.{bytes_eq}
 use Rattle.std.specs.declared.alloc.Global.{Global}
@@ -14,7 +14,8 @@ use Rattle.program_main.specs.Texts.Words.{day_said, faults_unless, is_case_take
 use Rattle.office_texts.specs.Names.Words.{case_called}
 use Rattle.office_texts.specs.declared.names.called.CaseCalled.{CaseCalled}
 use Rattle.report_program.specs.declared.asked.Asked.{Asked}
-use Rattle.report_program.specs.declared.asked.Task.TheVariants.{Sheet}
+use Rattle.report_program.specs.declared.asked.Task.{Task as Written}
+use Rattle.report_program.specs.declared.asked.Task.TheVariants as written
 use Rattle.report_program.specs.Words.{IsAskedBy as IsReportAsked, faults_given as report_faults}
 use Rattle.report_memo.specs.Words.{IsAskedBy as IsMemoAsked, faults_given as memo_faults}
 use Rattle.program_words.specs.AsOf.{as_of_faults, as_of_in, report_as_of_faults}
@@ -56,6 +57,7 @@ meant name =
     else if bytes_eq name (codes "log") then sub.Log
     else if bytes_eq name (codes "memo") then sub.Memo
     else if bytes_eq name (codes "sheet") then sub.Sheet
+    else if bytes_eq name (codes "case") then sub.Case
     else if bytes_eq name (codes "court") then sub.Court
     else sub.Report
 
@@ -221,9 +223,13 @@ has_other_days given = (is_some (first_of (codes "from") given) || is_some (firs
 abbrev pub days_alone_faults : List Row → Kinds
 days_alone_faults given = faults_together (is_some (first_of (codes "days") given)) (has_other_days given)
 
+-- what is pending is written as a page or as a table, not as both
+abbrev pub one_form_faults : List Row → Kinds
+one_form_faults given = faults_together (is_flag (first_of (codes "page") given)) (is_flag (first_of (codes "csv") given))
+
 -- the faults of options that don't go together
 abbrev pub apart_faults : List Row → Kinds
-apart_faults given = or_else (lines_alone_faults given) (days_alone_faults given)
+apart_faults given = or_else (or_else (lines_alone_faults given) (days_alone_faults given)) (one_form_faults given)
 
 -- The places of a sheet are those of a folder and a case; where an input is given, the first is that of the case.
 abbrev pub sheet_folder : (first second input : Option Text) → Option Text
@@ -247,20 +253,23 @@ IsSheetSource clock_time given = IsSourceOf (folder_given given) (first_of (code
 abbrev pub sheet_source_faults : List Row → Kinds
 sheet_source_faults given = or_else (report_as_of_faults given) (source_faults (folder_given given) (first_of (codes "input") given))
 
--- the sheet of that case, and no more
-abbrev pub sheet_asked : (clock_time : ℤ) → (case : Option CaseCalled) → Asked
-sheet_asked clock_time case = record {
-  task = Sheet;
+-- this of that case, and no more
+abbrev pub case_asked : Written → (clock_time : ℤ) → (case : Option CaseCalled) → Asked
+case_asked what clock_time case = record {
+  task = what;
   judge = None;
   case = case;
   from = None;
   to = None;
   of = None;
+  on = None;
   today = None;
   stamp = None;
   clock_time = clock_time;
   lines = false;
   overdue = false;
+  page = false;
+  csv = false;
 }
 
 -- ---- the subcommands
@@ -283,7 +292,9 @@ IsTask clock_time sub.Report name given (task.Report of asked) = IsSource clock_
 IsTask clock_time sub.Memo name given (task.Memo of asked) =
     IsSource clock_time given of × IsMemoAsked given asked × (asked.clock_time ≡ clock_time) × (asked.html ≡ has (codes "html") given)
 IsTask clock_time sub.Sheet name given (task.Report of asked) =
-    IsSheetSource clock_time given of × (asked ≡ sheet_asked clock_time (option_and_then case_called (case_given given)))
+    IsSheetSource clock_time given of × (asked ≡ case_asked written.Sheet clock_time (option_and_then case_called (case_given given)))
+IsTask clock_time sub.Case name given (task.Case folder asked) =
+    IsText (codes "folder") given folder × (asked ≡ case_asked written.Case clock_time (option_and_then case_called (first_of (codes "case") given)))
 IsTask clock_time sub.CourtCheck name given (task.CourtCheck file asked shown) =
     IsText (codes "file") given file × (asked.today ≡ option_and_then day_of_text (first_of (codes "today") given)) × (asked.capital ≡ has (codes "capital") given) × (asked.state ≡ None) × (shown ≡ clock_time)
 IsTask clock_time sub.CourtWrite name given (task.CourtWrite court writing) =
@@ -313,6 +324,7 @@ faults_given sub.Log given = or_else (faults_without (first_of (codes "folder") 
 faults_given sub.Report given = or_else (report_source_faults given) (or_else (apart_faults given) (report_faults given))
 faults_given sub.Memo given = or_else (report_source_faults given) (memo_faults given)
 faults_given sub.Sheet given = or_else (sheet_source_faults given) (faults_reading case_called (case_given given))
+faults_given sub.Case given = or_else (faults_without (first_of (codes "folder") given)) (faults_reading case_called (first_of (codes "case") given))
 faults_given sub.Court given = MissingRequiredArgument ∷ []
 faults_given sub.CourtCheck given = or_else (faults_without (first_of (codes "file") given)) (faults_unless (is_day_taken (first_of (codes "today") given)))
 faults_given sub.CourtWrite given = or_else (faults_reading district_named (first_of (codes "court") given)) (writing_faults given)

@@ -5,7 +5,9 @@ ghost use Rattle.clap.specs.Words.{app_of};
 ghost use Rattle.program_words.specs.CommandLine.{bare_line, command_line, with_kept, with_rows};
 
 use crate::court_commands::court;
-use crate::folder_commands::{cases, check, init, log, restore, rows, sheet, strike, struck};
+use crate::folder_commands::{
+    case_page, cases, check, init, log, restore, rows, sheet, strike, struck,
+};
 use crate::input_commands::{ask, enter, plain, trial};
 use clap::Command;
 use program_main::with_subcommand;
@@ -89,5 +91,6 @@ pub(crate) fn command<'a>(alloc: Global) -> Result<Command<'a>, AllocError>
     let reports = with_reports(alloc, kept)?;
     let memo = with_memo(alloc, reports)?;
     let sheet = with_subcommand(memo, sheet(alloc))?;
-    sheet.subcommand(court(alloc))
+    let case = with_subcommand(sheet, case_page(alloc))?;
+    case.subcommand(court(alloc))
 }

@@ -3,7 +3,7 @@
 ghost use Rattle.std.specs.Prelude.{◌≡◌, codes, IfOk};
 ghost use Rattle.clap.specs.Words.{app_of, with_rule};
 ghost use Rattle.program_main.specs.Texts.Words.{text_rule};
-ghost use Rattle.program_words.specs.CommandLine.{correction_line, folder_line, init_line, kept_line, log_line, sheet_line, with_correction, with_wait};
+ghost use Rattle.program_words.specs.CommandLine.{case_line, correction_line, folder_line, init_line, kept_line, log_line, sheet_line, with_correction, with_wait};
 
 use crate::options::{with_flag, with_option_place, with_place};
 use clap::Command;
@@ -85,9 +85,9 @@ Examples:
 const CHECK: &str = "Decide all rows again, and say how many there are";
 
 const CHECK_MORE: &str =
-    "It says which entry of the journal is damaged, and which row would be answered
-otherwise than it was. It changes nothing, and another program may enter rows
-meanwhile.
+    "It says which entry of the journal is damaged or of an earlier time than the one
+before it, and which row would be answered otherwise than it was. It changes
+nothing, and another program may enter rows meanwhile.
 
 Example:
   docket check cases";
@@ -144,6 +144,16 @@ Example:
   docket sheet cases 1:25-cv-01234";
 
 const SHEET_CASE: &str = "The case: its number, or the number that the court gives it";
+
+const CASE: &str = "One page of a case: who has it, deadlines, motions, and its last entries";
+
+const CASE_MORE: &str =
+    "It has what the case is called, its deadlines with labels and states, its motions
+with rulings and hearings, and the last ten entries about it, as 'docket log
+--case' lists them. Another program may enter rows meanwhile.
+
+Example:
+  docket case cases 1:25-cv-01234";
 
 /// A subcommand of that name, which takes a folder.
 pub(crate) fn of_folder<'a>(
@@ -276,4 +286,12 @@ pub(crate) fn sheet<'a>(alloc: Global) -> Result<Command<'a>, AllocError>
     let command = with_source(alloc, command)?;
     let command = with_as_of(alloc, command)?;
     with_option_place(alloc, command, "case", "CASE", SHEET_CASE)
+}
+
+/// The subcommand by which a page of a case is written.
+pub(crate) fn case_page<'a>(alloc: Global) -> Result<Command<'a>, AllocError>
+    ensures { IfOk result (λ command. app_of command ≡ case_line) }
+{
+    let command = of_folder(alloc, "case", CASE, CASE_MORE)?;
+    with_place(alloc, command, "case", "CASE", SHEET_CASE)
 }

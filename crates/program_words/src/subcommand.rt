@@ -30,12 +30,14 @@ pub(crate) enum Subcommand {
     Rows,
     /// `log`.
     Log,
-    /// `due`, `week`, `page`, `ics`, `json` or `sql`.
+    /// `due`, `week`, `page`, `ics`, `json`, `sql` or `pending`.
     Report,
     /// `memo`.
     Memo,
     /// `sheet`.
     Sheet,
+    /// `case`.
+    Case,
     /// `court`, with no word after it.
     Court,
     /// `court check`.
@@ -67,6 +69,7 @@ pub(crate) fn meant(name: &str) -> Subcommand
         "log" => Subcommand::Log,
         "memo" => Subcommand::Memo,
         "sheet" => Subcommand::Sheet,
+        "case" => Subcommand::Case,
         "court" => Subcommand::Court,
         _ => Subcommand::Report,
     }

@@ -38,10 +38,12 @@ pub enum Task {
     Rows(String, Option<AsOf>),
     /// `log`: who entered what, and when.
     Log(String, LogAsked),
-    /// `due`, `week`, `page`, `ics`, `json`, `sql` or `sheet`.
+    /// `due`, `week`, `page`, `ics`, `json`, `sql`, `pending` or `sheet`.
     Report(Source, ReportAsked),
     /// `memo`.
     Memo(Source, MemoAsked),
+    /// `case`: a folder, and the case of which a page is written.
+    Case(String, ReportAsked),
     /// `court check`: a court's file, what is known of its use, and the instant that the clock shows, by which it is today where no
     /// other day is said.
     CourtCheck(String, CheckAsked, Instant),

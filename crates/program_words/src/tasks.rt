@@ -5,7 +5,7 @@ ghost use Rattle.clap.specs.Words.{Text, first_of, found_of, rows_of};
 ghost use Rattle.program_main.specs.Options.Words.{IsAnswerFor};
 ghost use Rattle.program_words.specs.declared.subcommand.Subcommand.{Subcommand};
 ghost use Rattle.program_words.specs.Given.{faults_without};
-ghost use Rattle.program_words.specs.Task.{IsCorrecting, IsSheetSource, IsSource, IsSourceOf, IsTask, apart_faults, correcting_faults, days_alone_faults, faults_given, has_other_days, is_narrowed, lines_alone_faults, report_source_faults, sheet_asked, sheet_case, sheet_folder, sheet_source_faults, source_faults};
+ghost use Rattle.program_words.specs.Task.{IsCorrecting, IsSheetSource, IsSource, IsSourceOf, IsTask, apart_faults, case_asked, correcting_faults, days_alone_faults, faults_given, has_other_days, is_narrowed, lines_alone_faults, one_form_faults, report_source_faults, sheet_case, sheet_folder, sheet_source_faults, source_faults};
 
 use crate::as_of::report_as_of;
 use crate::given::{apart, both, has_flag, is_given, mistake, needed, text_in};
@@ -25,6 +25,9 @@ const ALL_ANSWERS: &str =
 // What is said where days that count from today are given beside others.
 const OTHER_DAYS: &str =
     "the argument '--days <N>' cannot be used with '--from <DAY>', '--to <DAY>' or '--overdue'";
+
+// What is said where what is pending is to be written in two ways.
+const TWO_FORMS: &str = "the argument '--page' cannot be used with '--csv'";
 
 /// The folder.
 pub(crate) fn folder_in(alloc: Global, given: &ArgMatches<'_>) -> Result<String, OptionsFault>
@@ -186,11 +189,24 @@ fn days_alone(alloc: Global, given: &ArgMatches<'_>) -> Result<(), OptionsFault>
     )
 }
 
+/// Whether what is pending is to be written in one way. BadWords where it is to be a page and a table.
+fn one_form(alloc: Global, given: &ArgMatches<'_>) -> Result<(), OptionsFault>
+    ensures { IsAnswerFor (one_form_faults (rows_of (found_of given.now))) result }
+{
+    apart(
+        alloc,
+        has_flag(given, "page"),
+        has_flag(given, "csv"),
+        TWO_FORMS,
+    )
+}
+
 /// Whether no two options are given that don't go together. BadWords where there are two.
-fn options_apart(alloc: Global, given: &ArgMatches<'_>) -> Result<((), ()), OptionsFault>
+fn options_apart(alloc: Global, given: &ArgMatches<'_>) -> Result<(((), ()), ()), OptionsFault>
     ensures { IsAnswerFor (apart_faults (rows_of (found_of given.now))) result }
 {
-    both(lines_alone(alloc, given), days_alone(alloc, given))
+    let two = both(lines_alone(alloc, given), days_alone(alloc, given));
+    both(two, one_form(alloc, given))
 }
 
 /// A report of that name, at the clock's time.
@@ -230,22 +246,25 @@ pub(crate) fn memo(
     Ok(Task::Memo(source, asked))
 }
 
-/// The sheet of that case, at the clock's time.
-fn sheet_asked(clock_time: Instant, case: CaseCalled) -> Asked
-    ensures { result ≡ sheet_asked clock_time (Some case) }
+/// This of that case, at the clock's time.
+fn case_asked(task: Written, clock_time: Instant, case: CaseCalled) -> Asked
+    ensures { result ≡ case_asked task clock_time (Some case) }
 {
     Asked {
-        task: Written::Sheet,
+        task,
         judge: None,
         case: Some(case),
         from: None,
         to: None,
         of: None,
+        on: None,
         today: None,
         stamp: None,
         clock_time,
         lines: false,
         overdue: false,
+        page: false,
+        csv: false,
     }
 }
 
@@ -307,5 +326,21 @@ pub(crate) fn sheet(
         sheet_source(alloc, clock_time, given),
         case_in(alloc, sheet_case(first, second, input)),
     )?;
-    Ok(Task::Report(source, sheet_asked(clock_time, case)))
+    Ok(Task::Report(source, case_asked(Written::Sheet, clock_time, case)))
+}
+
+/// The page of a case of a folder, at the clock's time.
+pub(crate) fn one_case(
+    alloc: Global,
+    clock_time: Instant,
+    given: &ArgMatches<'_>,
+) -> Result<Task, OptionsFault>
+    ensures task { (name : Text) → IfOk result (IsTask clock_time Subcommand.Case name (rows_of (found_of given.now))) }
+    ensures faults { IsAnswerFor (faults_given Subcommand.Case (rows_of (found_of given.now))) result }
+{
+    let (folder, case) = both(
+        folder_in(alloc, given),
+        case_in(alloc, text_in(given, "case")),
+    )?;
+    Ok(Task::Case(folder, case_asked(Written::Case, clock_time, case)))
 }

@@ -49,6 +49,7 @@ fn task_of(
         Subcommand::Report => tasks::report(alloc, clock_time, name, given),
         Subcommand::Memo => tasks::memo(alloc, clock_time, given),
         Subcommand::Sheet => tasks::sheet(alloc, clock_time, given),
+        Subcommand::Case => tasks::one_case(alloc, clock_time, given),
         Subcommand::Court => Err(missing(alloc, "the command after 'court'")),
         Subcommand::CourtCheck => court_tasks::check(alloc, clock_time, given),
         Subcommand::CourtWrite => court_tasks::write(alloc, given),

@@ -122,7 +122,7 @@ module _ (setup : CourtSetup) (small : IsSmall setup) where
   wanted_have parts (Holiday day list) = court_and (map Judge (range_with_len 0 setup.judges)) all_judges_have
   wanted_have parts (Inaccessible day from to) = court_and [] (All-nil HasCell)
   wanted_have parts (Fact case (Ended deadline why dated)) = about_has case (Court ∷ []) (court_and [] (All-nil HasCell))
-  wanted_have parts (Fact case (Resumed deadline dated)) = about_has case (Court ∷ []) (court_and [] (All-nil HasCell))
+  wanted_have parts (Fact case (Resumed deadline day dated)) = about_has case (Court ∷ []) (court_and [] (All-nil HasCell))
   wanted_have parts (Fact case (Closed why dated)) = about_has case (Court ∷ []) (court_and [] (All-nil HasCell))
   wanted_have parts (Fact case (Reopened dated)) = about_has case (Court ∷ []) (court_and [] (All-nil HasCell))
   wanted_have parts (Fact case (Ruled motion how dated)) =

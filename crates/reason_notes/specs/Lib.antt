@@ -1,3 +1,4 @@
+pub mod Appeal
 pub mod Margins
 pub mod Readings
 pub mod Warnings

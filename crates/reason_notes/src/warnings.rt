@@ -9,6 +9,7 @@ mod holidays;
 mod set;
 
 pub use deadline::{push_deadline_notes, push_start_notes};
-pub use end::push_early_act;
+pub(crate) use end::moves_appeal;
+pub use end::push_notes_of_act;
 pub use extension::push_extension_notes;
 pub use hearing::push_hearing_notes;

@@ -22,13 +22,8 @@ is_ordered None = false
 
 -- why a time isn't extended, or isn't reset by an order to a later end (Fed. R. Civ. P. 6(b)(2))
 abbrev pub never_words : (order : Bool) → List ℕ
-never_words true = codes "this time isn't reset to a later end"
+never_words true = codes "this time must not be reset to a later end"
 never_words false = codes "this time must not be extended"
-
--- that a period keeps its unit
-abbrev pub kept_unit_words : (order : Bool) → List ℕ
-kept_unit_words true = codes "a day is reset to a day, an hour to an hour"
-kept_unit_words false = codes "hours are extended by hours, days by days"
 
 -- `row` is the deadline that the command is about, and `motion` the motion that the refusal names, or whose hearing the
 -- command asks for; `called` is what that motion is called.
@@ -39,7 +34,7 @@ refusal_lines c clock command row called motion NoGoodCause = note_line None (co
 refusal_lines c clock command row called motion LateWithoutMotion = late_lines c clock (codes "a motion is needed") row (request_asked command)
 refusal_lines c clock command row called motion LateWithoutNeglect = late_lines c clock (codes "neglect must be excused") row (request_asked command)
 refusal_lines c clock command row called motion NotLonger = not_longer_lines c clock row (request_asked command)
-refusal_lines c clock command row called motion WrongGrant = note_line None (kept_unit_words (is_ordered (request_asked command))) (codes "ours")
+refusal_lines c clock command row called motion WrongGrant = note_line None (codes "extend hours by hours and days by days, or `reset`") (codes "ours")
 refusal_lines c clock command row called motion NotACourtDay = closed_lines c (setting_asked command)
 refusal_lines c clock command row called motion OutsideHours = note_line None (hours_text clock) (codes "ours")
 refusal_lines c clock command row called motion (ShortNotice latest) = short_lines (setting_asked command) latest motion

@@ -3,7 +3,7 @@
 ghost use Rattle.std.specs.Prelude.{◌≡◌, ◌++◌, OnOk, None, codes, option_copied, string_bytes};
 ghost use Rattle.reason_texts.specs.Words.{note_line};
 ghost use Rattle.reason_refusals.specs.Hearings.{hours_text, lost_line, taken_line};
-ghost use Rattle.reason_refusals.specs.Lines.{is_ordered, kept_unit_words, never_words, refusal_lines};
+ghost use Rattle.reason_refusals.specs.Lines.{is_ordered, never_words, refusal_lines};
 
 use crate::asked::{request_asked, setting_asked};
 use crate::deadlines::{push_late, push_not_longer};
@@ -77,7 +77,7 @@ pub fn push_refusal(
         Refusal::WrongGrant => push_note(
             text,
             None,
-            kept_unit_words(is_ordered(request_asked(command))),
+            "extend hours by hours and days by days, or `reset`",
             "ours",
         ),
         Refusal::NotACourtDay => push_closed(alloc, text, days, setting_asked(command)),
@@ -113,20 +113,9 @@ fn never_words(order: bool) -> &'static str
     ensures { result.now ≡ never_words order }
 {
     if order {
-        "this time isn't reset to a later end"
+        "this time must not be reset to a later end"
     } else {
         "this time must not be extended"
-    }
-}
-
-/// That a period keeps its unit.
-fn kept_unit_words(order: bool) -> &'static str
-    ensures { result.now ≡ kept_unit_words order }
-{
-    if order {
-        "a day is reset to a day, an hour to an hour"
-    } else {
-        "hours are extended by hours, days by days"
     }
 }
 

@@ -30,7 +30,7 @@ use Rattle.docket_rows.specs.declared.sheet.SheetHearing.{SheetHearing}
 use Rattle.docket_rows.specs.declared.sheet.SheetMotion.{SheetMotion}
 use Rattle.docket_rows.specs.declared.view.View.{View}
 use Rattle.docket_rows.specs.declared.view.View.TheVariants as view
-use Rattle.docket_rows.specs.Words.{Rows, opening_rows, setup_of}
+use Rattle.docket_rows.specs.Words.{Rows, opening_rows, setup_of, suspended_by}
 use Rattle.docket_selection.specs.declared.calendars.JudgeCalendar.{JudgeCalendar}
 use Rattle.docket_selection.specs.declared.choice.Choice.{Choice}
 use Rattle.docket_selection.specs.Words.{chosen_calendars}
@@ -51,7 +51,7 @@ use Rattle.report_json.specs.declared.answers.AnsweredRow.{AnsweredRow}
 use Rattle.report_json.specs.Answers.{answer_fields, answered_value, case_named, day_named, motion_named, refusal_fields, refusal_front, refusal_value, reply_fields, row_fields, view_fields}
 use Rattle.report_json.specs.Bookings.{booked_fields, booking_fields, booking_value, calendar_fields, calendar_value, called_booking, called_booking_fields, labelled_booked}
 use Rattle.report_json.specs.Cases.{called_case_fields, case_fields, label_fields, name_fields, title_fields}
-use Rattle.report_json.specs.Deadlines.{deadline_fields, deadline_value, docketed_fields, end_of, ended_fields, event_value, filed_fields, filed_value, last_day_of, outcome_fields, shown_fields, shown_value, started_fields}
+use Rattle.report_json.specs.Deadlines.{deadline_fields, deadline_value, docketed_fields, end_of, ended_fields, event_value, filed_fields, filed_value, last_day_of, outcome_fields, shown_fields, shown_value, started_fields, suspended_fields}
 use Rattle.report_json.specs.Document.{answers_from, court_value, court_fields, document_fields, document_value, office_fields, until_fields}
 use Rattle.report_json.specs.Motions.{heard_fields, hearing_fields, hearing_value, labelled_motion, labelled_motion_fields, motion_fields, motion_value, notice_days_of, ruling_fields}
 use Rattle.report_json.specs.Names.{judges_value, name_value, names_from}
@@ -118,8 +118,12 @@ docketed_within zone d =
     let entered = nullable entered_value 2 (λ e. let h = entered_within e in omega arith) (entered_of d.row.period) in
     (omega arith, (period, (entered, started_within zone d.row)))
 
+suspended_within : (n : ℕ) (motion : Option ℕ) → FieldsWithin n (suspended_fields motion)
+suspended_within n (Some motion) = (omega arith, tt)
+suspended_within n None = tt
+
 ended_within : (n : ℕ) (ended : Option Ending) → FieldsWithin n (ended_fields ended)
-ended_within n (Some why) = (omega arith, tt)
+ended_within n (Some why) = (omega arith, suspended_within n (suspended_by why))
 ended_within n None = tt
 
 outcome_within : (zone : TimeZone) (d : SheetDeadline) → FieldsWithin 2 (outcome_fields zone d)

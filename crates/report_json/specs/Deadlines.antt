@@ -1,5 +1,5 @@
 -- Deadlines, with their ends.
-use Rattle.std.specs.Prelude.{ℤ, List, [], ◌∷◌, ◌++◌, map, Option, Some, None, codes}
+use Rattle.std.specs.Prelude.{ℕ, ℤ, List, [], ◌∷◌, ◌++◌, map, Option, Some, None, codes}
 use Rattle.json.specs.Json.{Json, string}
 use Rattle.jiff_tz.specs.declared.timezone.TimeZone.{TimeZone}
 use Rattle.rule6.specs.declared.timeliness.Filing.{Filing}
@@ -8,7 +8,7 @@ use Rattle.rule6.specs.declared.timeliness.Shown.TheVariants as shown
 use Rattle.rule_periods.specs.Words.{DeadlineRowView, EventView}
 use Rattle.docket_rows.specs.declared.fact.Ending.{Ending}
 use Rattle.docket_rows.specs.declared.sheet.SheetDeadline.{SheetDeadline}
-use Rattle.docket_rows.specs.Words.{ending_word}
+use Rattle.docket_rows.specs.Words.{ending_word, suspended_by}
 use Rattle.office_texts.specs.Words.{means_text, state_word}
 use Rattle.report_json.specs.Periods.{code_of, entered_of, entered_value, grant_value, service_value}
 use Rattle.report_json.specs.Times.{day_value, happened_fields, instant_value}
@@ -62,9 +62,17 @@ docketed_fields zone d =
     ∷ field (codes "entered") (or_null entered_value (entered_of d.row.period))
     ∷ started_fields zone d.row
 
--- the field of why it is due no more, if it was ended
+-- the field of the motion that suspends it, where its number is known
+abbrev pub suspended_fields : (motion : Option ℕ) → List Field
+suspended_fields (Some motion) = field (codes "suspended_by") (amount motion) ∷ []
+suspended_fields None = []
+
+-- the fields of why it is due no more, if it was ended
+abbrev pub why_fields : Ending → List Field
+why_fields why = field (codes "ended") (string (ending_word why)) ∷ suspended_fields (suspended_by why)
+
 abbrev pub ended_fields : Option Ending → List Field
-ended_fields (Some why) = field (codes "ended") (string (ending_word why)) ∷ []
+ended_fields (Some why) = why_fields why
 ended_fields None = []
 
 -- when its time ends, whether it was met, and why it is due no more, if it was ended

@@ -3,7 +3,7 @@
 ghost use Rattle.std.specs.Prelude.{◌≡◌, ◌<◌, [], ◌∷◌, IfSome, OnOk, codes};
 ghost use Rattle.json.specs.Json.{string};
 ghost use Rattle.office_texts.specs.Words.{means_text, state_word};
-ghost use Rattle.report_json.specs.Deadlines.{docketed_fields, end_of, ended_fields, filed_value, last_day_of, outcome_fields, started_fields};
+ghost use Rattle.report_json.specs.Deadlines.{docketed_fields, end_of, ended_fields, filed_value, last_day_of, outcome_fields, started_fields, suspended_fields, why_fields};
 ghost use Rattle.report_json.specs.Times.{happened_fields, instant_value};
 ghost use Rattle.report_json.specs.Values.{AddsFields, field, or_null};
 
@@ -82,15 +82,48 @@ fn push_outcome(
     deadline.shown.write_fields(out, court, labels)?;
     out.field(court, labels, "state", &deadline.state)?;
     push_filed(out, court, labels, deadline.row.filed())?;
-    push_ended(out, deadline.ended)
+    push_ended(out, court, labels, deadline.ended)
 }
 
 /// Writes why a deadline is due no more, if it was ended.
-fn push_ended(out: &mut JsonWriter, ended: Option<Ending>) -> Result<(), AllocError>
+fn push_ended(
+    out: &mut JsonWriter,
+    court: &Court,
+    labels: &Labels<'_>,
+    ended: Option<Ending>,
+) -> Result<(), AllocError>
     ensures { OnOk result (AddsFields out.old out.new (ended_fields ended)) }
 {
     match ended {
-        Some(why) => out.text_field("ended", why.word()),
+        Some(why) => push_why(out, court, labels, why),
+        None => Ok(()),
+    }
+}
+
+/// Writes why a deadline is due no more.
+fn push_why(
+    out: &mut JsonWriter,
+    court: &Court,
+    labels: &Labels<'_>,
+    why: Ending,
+) -> Result<(), AllocError>
+    ensures { OnOk result (AddsFields out.old out.new (why_fields why)) }
+{
+    out.text_field("ended", why.word())?;
+    push_suspender(out, court, labels, why.suspended_by())
+}
+
+/// Writes which motion suspends a deadline, where its number is known.
+fn push_suspender(
+    out: &mut JsonWriter,
+    court: &Court,
+    labels: &Labels<'_>,
+    motion: Option<u32>,
+) -> Result<(), AllocError>
+    ensures { OnOk result (AddsFields out.old out.new (suspended_fields motion)) }
+{
+    match motion {
+        Some(motion) => out.field(court, labels, "suspended_by", &motion),
         None => Ok(()),
     }
 }

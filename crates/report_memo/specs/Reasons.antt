@@ -15,7 +15,7 @@ use Rattle.report_memo.specs.Texts.{Is}
 -- the period of a deadline by its Rule, a line for each of these reasons, and a line for each other reading that gives another end
 abbrev pub deadline_lines : CourtView → LabelsView → DaysByReadingView → DeadlineRowView → List Reason → List ℕ
 deadline_lines court labels days row reasons =
-    called_lines (period_back row.period) row ++ reason_lines court.clock labels.holidays (course_of row.period) reasons ++ reading_lines days court.clock row
+    called_lines (period_back court.periods row.event.day row.period) row ++ reason_lines court.clock labels.holidays (course_of row.period) reasons ++ reading_lines days court.clock row
 
 -- these lines, with the reasons of a derivation of what is shown of the deadline, where the days are these
 pub record AreReasons (court : CourtView) (labels : LabelsView) (days : DaysByReadingView) (row : DeadlineRowView) (text : List ℕ) : Type 0 where

@@ -39,10 +39,10 @@ deadline_extended work = None
 
 -- and of the one that was to be resumed
 abbrev pub deadline_resumed : Work → Option (ℕ × ℕ)
-deadline_resumed (Command (command.Fact case (fact.Resumed deadline dated))) = Some (case, deadline)
+deadline_resumed (Command (command.Fact case (fact.Resumed deadline day dated))) = Some (case, deadline)
 deadline_resumed work = None
 
--- the case and the place of the docketed deadline whose end a reply tells
+-- the case and the place of the docketed deadline whose end a reply says
 abbrev pub deadline_told : Work → Reply → Option (ℕ × ℕ)
 deadline_told work (Made (answer.Started place shown)) = deadline_started work place
 deadline_told work (Made (answer.Extended shown)) = deadline_extended work
@@ -77,7 +77,7 @@ pub record HasAnswered (court : CourtView) (labels : LabelsView) (docket : Docke
   pub holds : Holds (setup_of court) docket docketed
   pub read : days ≡ days_docketed labels docketed
 
--- the reasons of the deadline whose end a reply tells, as it is docketed after the row, or of that whose end is computed
+-- the reasons of the deadline whose end a reply says, as it is docketed after the row, or of that whose end is computed
 abbrev pub AreReasonsTold : CourtView → LabelsView → (docketed : Rows) → Option (ℕ × ℕ) → Option DeadlineRowView → List ℕ → Type 0
 AreReasonsTold court labels docketed (Some told) computed = AreReasonsDocketed court labels docketed told.0 told.1
 AreReasonsTold court labels docketed None computed = AreReasonsIfAny court labels (days_docketed labels docketed) computed
@@ -85,7 +85,7 @@ AreReasonsTold court labels docketed None computed = AreReasonsIfAny court label
 abbrev pub AreReasonsWith : CourtView → LabelsView → (docketed : Rows) → Work → Reply → List ℕ → Type 0
 AreReasonsWith court labels docketed work reply = AreReasonsTold court labels docketed (deadline_told work reply) (deadline_computed work reply)
 
--- what is written below the line of a reply: the reasons of the deadline that it tells, and what is said of an act or a refusal
+-- what is written below the line of a reply: the reasons of the deadline whose end it says, and what is said of an act or a refusal
 abbrev pub IsTold : CourtView → LabelsView → (docketed : Rows) → Work → Reply → List ℕ → Type 0
 IsTold court labels docketed work reply = Then (AreReasonsWith court labels docketed work reply) (Is (notes_text court labels docketed work reply))
 

@@ -14,11 +14,12 @@ use Rattle.docket_rows.specs.declared.sheet.State.TheVariants.{Pending}
 use Rattle.docket_rows.specs.declared.view.View.{View}
 use Rattle.docket_rows.specs.declared.view.View.TheVariants as view
 use Rattle.rule6.specs.declared.timeliness.Shown.{Shown}
+use Rattle.rule_periods.specs.Words.{DeadlineRowView}
 use Rattle.office_texts.specs.Words.{assigned_line, deadline_line, motion_lines}
 use Rattle.office_texts.specs.Named.Words.{named_case_line}
 use Rattle.reason_notes.specs.Readings.Words.{DaysByReadingView}
 use Rattle.reason_notes.specs.Margins.Words.{ahead_line, recorded_lines}
-use Rattle.reason_notes.specs.Warnings.Words.{deadline_notes, hearing_notes}
+use Rattle.reason_notes.specs.Warnings.Words.{deadline_notes, hearing_notes, moved_note}
 use Rattle.report_memo.specs.declared.detail.Detail.{Detail}
 use Rattle.report_memo.specs.declared.detail.Detail.TheVariants.{Reasons, Whole}
 use Rattle.report_texts.specs.Words.{LabelsView, case_lines, labelled_deadline, labelled_motion}
@@ -46,20 +47,24 @@ abbrev pub first_lines : ClockView → LabelsView → (case : ℕ) → Detail �
 first_lines clock labels case Reasons d = deadline_line clock d
 first_lines clock labels case (Whole today sources) d = labelled_deadline clock labels case d ++ source_lines d.number sources
 
--- what comes after them on that of a case that was filed on that day: the act that is recorded and by how much it was in time
--- or late, how far the end lies from a day, and what a reader is warned of
-abbrev pub whole_lines : CourtView → DaysView → (filed : ℤ) → (today : Option ℤ) → SheetDeadline → List ℕ
-whole_lines court days filed today d =
-    recorded_lines days court.clock (Some d.row) ++ ahead_if_pending court.clock today d.state d.ended d.shown ++ deadline_notes days court.clock filed today d.row d.shown
+-- what a reader is warned of a deadline for the act of one of the same sheet, if that is recorded
+abbrev pub moved_on_sheet : DeadlineRowView → (other : SheetDeadline) → List ℕ
+moved_on_sheet row other = moved_note row other.row other.row.filed
 
-abbrev pub more_lines : CourtView → DaysView → (filed : ℤ) → Detail → SheetDeadline → List ℕ
-more_lines court days filed Reasons d = []
-more_lines court days filed (Whole today sources) d = whole_lines court days filed today d
+-- what comes after them on the whole sheet: the act that is recorded and by how much it was in time or late, how far the end lies from
+-- a day, and what a reader is warned of, also for the acts of the sheet's deadlines
+abbrev pub whole_lines : CourtView → DaysView → Sheet → (today : Option ℤ) → SheetDeadline → List ℕ
+whole_lines court days sheet today d =
+    recorded_lines days court.clock (Some d.row) ++ ahead_if_pending court.clock today d.state d.ended d.shown ++ deadline_notes days court.clock sheet.filed today d.row d.shown ++ flat_map (moved_on_sheet d.row) sheet.deadlines
 
--- the line of a deadline, its reasons, and what comes before and after them
-abbrev pub IsDeadline : CourtView → LabelsView → DaysByReadingView → (case : ℕ) → (filed : ℤ) → Detail → SheetDeadline → List ℕ → Type 0
-IsDeadline court labels days case filed detail d =
-    Then (Is (first_lines court.clock labels case detail d)) (Then (AreReasons court labels days d.row) (Is (more_lines court days.here filed detail d)))
+abbrev pub more_lines : CourtView → DaysView → Sheet → Detail → SheetDeadline → List ℕ
+more_lines court days sheet Reasons d = []
+more_lines court days sheet (Whole today sources) d = whole_lines court days sheet today d
+
+-- the line of a deadline on a sheet, its reasons, and what comes before and after them
+abbrev pub IsDeadline : CourtView → LabelsView → DaysByReadingView → Sheet → Detail → SheetDeadline → List ℕ → Type 0
+IsDeadline court labels days sheet detail d =
+    Then (Is (first_lines court.clock labels sheet.case detail d)) (Then (AreReasons court labels days d.row) (Is (more_lines court days.here sheet detail d)))
 
 -- what a reader is warned of a hearing, where one is set
 abbrev pub notes_if_set : DaysView → Option SheetHearing → List ℕ
@@ -77,7 +82,7 @@ motions_text court labels case days (Whole today sources) motions = flat_map (wh
 -- the lines of the case, then its deadlines, each with its reasons, then its motions
 abbrev pub IsSheet : CourtView → LabelsView → DaysByReadingView → Detail → Sheet → List ℕ → Type 0
 IsSheet court labels days detail sheet =
-    Then (Is (lines_of_case court labels detail sheet)) (Then (Each (IsDeadline court labels days sheet.case sheet.filed detail) sheet.deadlines) (Is (motions_text court labels sheet.case days.here detail sheet.motions)))
+    Then (Is (lines_of_case court labels detail sheet)) (Then (Each (IsDeadline court labels days sheet detail) sheet.deadlines) (Is (motions_text court labels sheet.case days.here detail sheet.motions)))
 
 -- a case that isn't open shows none
 abbrev pub IsSheetShown : CourtView → LabelsView → DaysByReadingView → View → List ℕ → Type 0

@@ -31,7 +31,7 @@ source_if asked case deadline deed row = if case == asked then Some (record { de
 -- what a fact of a case that was so answered did to a deadline of the case that is asked for
 abbrev pub source_of_fact : (asked row case : ℕ) → Fact → Answer → Option Source
 source_of_fact asked row case (fact.Ended deadline why dated) answer.Ended = source_if asked case deadline Ended row
-source_of_fact asked row case (fact.Resumed deadline dated) (answer.Resumed shown) = source_if asked case deadline Resumed row
+source_of_fact asked row case (fact.Resumed deadline day dated) (answer.Resumed shown) = source_if asked case deadline Resumed row
 source_of_fact asked row case recorded a = None
 
 -- what a command that was so answered did to a deadline of the case that is asked for

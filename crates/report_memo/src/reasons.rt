@@ -48,7 +48,7 @@ fn push_lines(
     ensures { OnOk result (string_bytes text.new ≡ string_bytes text.old ++ deadline_lines court.now labels.now days.now row.now reasons.now) }
 {
     let mut back = String::new(alloc);
-    push_period_back(alloc, &mut back, &row.period())?;
+    push_period_back(alloc, &mut back, court, row.event().day(), &row.period())?;
     push_period_called(alloc, text, row, back.as_str())?;
     let course = Course::of(&row.period());
     push_reasons(text, court.clock(), labels.holidays, course, reasons)?;

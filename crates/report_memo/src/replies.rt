@@ -177,7 +177,7 @@ fn sheet_replied(reply: &Reply) -> Option<&Sheet>
     }
 }
 
-/// Adds the reasons of the deadline that a reply tells, if it tells one.
+/// Adds the reasons of the deadline whose end a reply says, if it says one.
 fn push_reasons_told(
     alloc: Global,
     text: &mut String,
@@ -248,7 +248,7 @@ fn push_reasons_queried(
     }
 }
 
-/// The case and the place of the docketed deadline whose end a reply tells.
+/// The case and the place of the docketed deadline whose end a reply says.
 fn deadline_told(work: &Work, reply: &Reply) -> Option<(u32, u32)>
     ensures { result ≡ deadline_told work.now reply.now }
 {

@@ -11,7 +11,6 @@ use crate::detail::Detail;
 use crate::reasons::push_deadline_reasons;
 use crate::sources::push_sources;
 use crate::whole::{push_all_motions, push_more};
-use court_clock::Day;
 use court_days::Court;
 use docket_core::Docket;
 use docket_rows::{Query, Sheet, SheetDeadline, View};
@@ -40,8 +39,7 @@ pub(crate) fn push_sheet(
         court,
         labels,
         days,
-        sheet.case,
-        sheet.filed,
+        sheet,
         detail,
         sheet.deadlines.as_slice(),
     )?;
@@ -93,17 +91,14 @@ fn push_deadlines(
     court: &Court,
     labels: &Labels<'_>,
     days: &DaysByReading,
-    case: u32,
-    filed: Day,
+    sheet: &Sheet,
     detail: &Detail,
     deadlines: &[SheetDeadline],
 ) -> Result<(), AllocError>
-    ensures { Pushes (Each (IsDeadline court.now labels.now days.now case filed detail.now) deadlines.now) result text.old text.new }
+    ensures { Pushes (Each (IsDeadline court.now labels.now days.now sheet.now detail.now) deadlines.now) result text.old text.new }
 {
     for deadline in deadlines {
-        push_explained(
-            alloc, text, court, labels, days, case, filed, detail, deadline,
-        )?;
+        push_explained(alloc, text, court, labels, days, sheet, detail, deadline)?;
     }
     Ok(())
 }
@@ -115,16 +110,15 @@ fn push_explained(
     court: &Court,
     labels: &Labels<'_>,
     days: &DaysByReading,
-    case: u32,
-    filed: Day,
+    sheet: &Sheet,
     detail: &Detail,
     deadline: &SheetDeadline,
 ) -> Result<(), AllocError>
-    ensures { Pushes (IsDeadline court.now labels.now days.now case filed detail.now deadline.now) result text.old text.new }
+    ensures { Pushes (IsDeadline court.now labels.now days.now sheet.now detail.now deadline.now) result text.old text.new }
 {
-    push_first_lines(alloc, text, court, labels, case, detail, deadline)?;
+    push_first_lines(alloc, text, court, labels, sheet.case, detail, deadline)?;
     push_deadline_reasons(alloc, text, court, labels, days, &deadline.row)?;
-    push_more(alloc, text, court, days.here(), filed, detail, deadline)
+    push_more(alloc, text, court, days.here(), sheet, detail, deadline)
 }
 
 /// Adds the line of a deadline, and where the whole sheet is asked for that of its label and the rows that made it what it is.

@@ -2,15 +2,18 @@
 
 ghost use Rattle.std.specs.Prelude.{◌≡◌, ◌++◌, OnOk, string_bytes};
 ghost use Rattle.std.specs.List.{flat_map};
-ghost use Rattle.report_memo.specs.Sheets.{ahead_if_pending, more_lines, motions_text, notes_if_set, whole_lines, whole_motion};
+ghost use Rattle.report_memo.specs.Sheets.{ahead_if_pending, more_lines, motions_text, moved_on_sheet, notes_if_set, whole_lines, whole_motion};
 
 use crate::detail::Detail;
 use court_clock::{Clock, Day};
 use court_days::{Court, Days};
-use docket_rows::{Ending, SheetDeadline, SheetHearing, SheetMotion, State};
+use docket_rows::{Ending, Sheet, SheetDeadline, SheetHearing, SheetMotion, State};
 use office_texts::push_motions;
-use reason_notes::{push_ahead, push_deadline_notes, push_hearing_notes, push_recorded};
+use reason_notes::{
+    push_ahead, push_deadline_notes, push_hearing_notes, push_moved_note, push_recorded,
+};
 use report_texts::{Labels, push_labelled_motion};
+use rule_periods::DeadlineRow;
 use rule6::Shown;
 use std::alloc::{AllocError, Global};
 
@@ -20,31 +23,32 @@ pub(crate) fn push_more(
     text: &mut String,
     court: &Court,
     days: &Days,
-    filed: Day,
+    sheet: &Sheet,
     detail: &Detail,
     deadline: &SheetDeadline,
 ) -> Result<(), AllocError>
-    ensures { OnOk result (string_bytes text.new ≡ string_bytes text.old ++ more_lines court.now days.now filed detail.now deadline.now) }
+    ensures { OnOk result (string_bytes text.new ≡ string_bytes text.old ++ more_lines court.now days.now sheet.now detail.now deadline.now) }
 {
     match detail {
         Detail::Reasons => Ok(()),
         Detail::Whole { today, .. } => {
-            push_whole(alloc, text, court, days, filed, today, deadline)
+            push_whole(alloc, text, court, days, sheet, today, deadline)
         }
     }
 }
 
-/// Adds the act of a deadline, how far its end lies from a day, and what a reader is warned of.
+/// Adds the act of a deadline, how far its end lies from a day, and what a reader is warned of, also for the acts of the sheet's
+/// deadlines.
 fn push_whole(
     alloc: Global,
     text: &mut String,
     court: &Court,
     days: &Days,
-    filed: Day,
+    sheet: &Sheet,
     today: &Option<Day>,
     deadline: &SheetDeadline,
 ) -> Result<(), AllocError>
-    ensures { OnOk result (string_bytes text.new ≡ string_bytes text.old ++ whole_lines court.now days.now filed today.now deadline.now) }
+    ensures { OnOk result (string_bytes text.new ≡ string_bytes text.old ++ whole_lines court.now days.now sheet.now today.now deadline.now) }
 {
     let (clock, row) = (court.clock(), &deadline.row);
     push_recorded(alloc, text, days, clock, Some(row))?;
@@ -62,11 +66,26 @@ fn push_whole(
         text,
         days,
         clock,
-        filed,
+        sheet.filed,
         *today,
         row,
         &deadline.shown,
-    )
+    )?;
+    push_moved_notes(text, row, sheet.deadlines.as_slice())
+}
+
+/// Adds what a reader is warned of a deadline for the acts of these deadlines.
+fn push_moved_notes(
+    text: &mut String,
+    row: &DeadlineRow,
+    others: &[SheetDeadline],
+) -> Result<(), AllocError>
+    ensures { OnOk result (string_bytes text.new ≡ string_bytes text.old ++ flat_map (moved_on_sheet row.now) others.now) }
+{
+    for other in others {
+        push_moved_note(text, row, &other.row, other.row.filed())?;
+    }
+    Ok(())
 }
 
 /// Adds how far the end of a deadline lies from a day, where one is given, no act is recorded, and it wasn't ended.

@@ -1,2 +1,4 @@
 pub mod MarkupLemmas
+pub mod MonthLemmas
+pub mod PendingLemmas
 pub mod RowLemmas

@@ -26,19 +26,15 @@ use Rattle.report_page.specs.Cases.{case_part, case_parts, cases_part, deadline_
 use Rattle.report_page.specs.Due.{day_row_if_new, due_heads, due_part, due_row, due_table}
 use Rattle.report_page.specs.Judges.{booking_heads, booking_row, is_week_of, judge_part, judge_parts, judges_part, week_name, week_row_if_new}
 use Rattle.report_page.specs.Page.{ContentIsMarkup, content}
-use Rattle.report_page.specs.Tables.{case_cell, case_link, four_heads, motion_cell, rows_by_day, three_heads}
+use Rattle.report_page.specs.Tables.{case_cell, four_heads, motion_cell, three_heads}
+use Rattle.report_page.proofs.MonthLemmas.{case_link_is, months_are, rows_are}
 
 -- nothing, or a row
 row_unless : (test : Bool) (t : Tag) (written : List ℕ) → IsMarkup (if test then [] else element tag.Row (text_in t written))
 row_unless true t written = nothing
 row_unless false t written = within tag.Row (words t written)
 
-rows_are : {X : Type 0} (day_of : X → ℤ) (head : Option ℤ → ℤ → List ℕ) (row : X → List ℕ) → ((before : Option ℤ) (day : ℤ) → IsMarkup (head before day)) → ((x : X) → IsMarkup (row x)) → (before : Option ℤ) (xs : List X) → IsMarkup (rows_by_day day_of head row before xs)
-unfolding rows_by_day
-rows_are day_of head row heads rows before [] = nothing
-rows_are day_of head row heads rows before (x ∷ xs) = both (both (heads before (day_of x)) (rows x)) (rows_are day_of head row heads rows (Some (day_of x)) xs)
-
-three_heads_are : (a b c : List ℕ) → IsMarkup (three_heads a b c)
+pub three_heads_are : (a b c : List ℕ) → IsMarkup (three_heads a b c)
 unfolding three_heads
 three_heads_are a b c = within tag.TableHead (within tag.Row (both (both (words tag.ColumnHead a) (words tag.ColumnHead b)) (words tag.ColumnHead c)))
 
@@ -46,10 +42,6 @@ four_heads_are : (a b c d : List ℕ) → IsMarkup (four_heads a b c d)
 unfolding four_heads
 four_heads_are a b c d =
     within tag.TableHead (within tag.Row (both (both (both (words tag.ColumnHead a) (words tag.ColumnHead b)) (words tag.ColumnHead c)) (words tag.ColumnHead d)))
-
-case_link_is : (named : List NamedCase) (case : ℕ) → IsMarkup (case_link named case)
-unfolding case_link
-case_link_is named case = words (tag.CaseLink case) _
 
 case_cell_is : (named : List NamedCase) (case : ℕ) → IsMarkup (case_cell named case)
 unfolding case_cell
@@ -87,7 +79,7 @@ booking_heads_are = four_heads_are _ _ _ _
 judge_part_is : (court : CourtView) (labels : LabelsView) (c : JudgeCalendar) → IsMarkup (judge_part court labels c)
 unfolding judge_part
 judge_part_is court labels c =
-    within tag.Section (both (words tag.Heading3 _) (within tag.Table (both (both (words tag.Caption _) booking_heads_are) (within tag.TableBody (rows_are (λ (b : Booking). b.day) week_row_if_new (booking_row court labels) (λ before day. row_unless (is_week_of before day) tag.WeekHead (week_name day)) (booking_row_is court labels) None c.bookings)))))
+    within tag.Section (both (both (words tag.Heading3 _) (months_are court labels c c.bookings)) (within tag.Table (both (both (words tag.Caption _) booking_heads_are) (within tag.TableBody (rows_are (λ (b : Booking). b.day) week_row_if_new (booking_row court labels) (λ before day. row_unless (is_week_of before day) tag.WeekHead (week_name day)) (booking_row_is court labels) None c.bookings)))))
 
 judge_parts_are : (court : CourtView) (labels : LabelsView) (calendars : List JudgeCalendar) → IsMarkup (judge_parts court labels calendars)
 judge_parts_are court labels [] = words tag.Paragraph _

@@ -1,5 +1,5 @@
 -- The hearings of each judge, by week.
-use Rattle.std.specs.Prelude.{ℕ, ℤ, Bool, false, List, [], ◌∷◌, ◌++◌, Option, Some, None, codes, if◌then◌else◌}
+use Rattle.std.specs.Prelude.{ℕ, ℤ, Bool, false, List, [], ◌∷◌, ◌++◌, Option, None, codes, if◌then◌else◌}
 use Rattle.std.specs.List.{flat_map}
 use Rattle.std.specs.Option.{option_map_or}
 use Rattle.std.specs.Ordering.{int_eq}
@@ -11,6 +11,7 @@ use Rattle.page_markup.specs.declared.tag.Tag.TheVariants as tag
 use Rattle.page_markup.specs.Words.{element, text_in}
 use Rattle.office_texts.specs.Words.{name_of}
 use Rattle.report_texts.specs.Words.{LabelsView, span_words, whole_day}
+use Rattle.report_page.specs.Months.{months_part}
 use Rattle.report_page.specs.Tables.{four_heads, motion_cell, rows_by_day}
 
 -- the two days are of one week
@@ -45,10 +46,10 @@ judge_title court judge = codes "Judge " ++ name_of court.judges judge
 unfoldable pub judge_caption : CourtView → (judge : ℕ) → List ℕ
 judge_caption court judge = codes "Hearings of judge " ++ name_of court.judges judge ++ codes ", by week"
 
--- the hearings of a judge
+-- the months of a judge, and the hearings
 unfoldable pub judge_part : CourtView → LabelsView → JudgeCalendar → List ℕ
 judge_part court labels c =
-    element tag.Section (text_in tag.Heading3 (judge_title court c.judge) ++ element tag.Table (text_in tag.Caption (judge_caption court c.judge) ++ booking_heads ++ element tag.TableBody (booking_rows court labels None c.bookings)))
+    element tag.Section (text_in tag.Heading3 (judge_title court c.judge) ++ months_part court labels c c.bookings ++ element tag.Table (text_in tag.Caption (judge_caption court c.judge) ++ booking_heads ++ element tag.TableBody (booking_rows court labels None c.bookings)))
 
 -- a part for each judge, or that there is none
 abbrev pub judge_parts : CourtView → LabelsView → List JudgeCalendar → List ℕ

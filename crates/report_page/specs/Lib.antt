@@ -1,7 +1,11 @@
 pub mod Cases
 pub mod Due
 pub mod Judges
+pub mod Load
+pub mod Months
 pub mod Page
+pub mod Pending
 pub mod Phrases
 pub mod Tables
+pub mod Weeks
 pub mod Words

@@ -1,4 +1,4 @@
-//! The hearings of each judge, by week.
+//! The hearings of each judge, by month and by week.
 
 ghost use Rattle.std.specs.Prelude.{◌≡◌, ◌++◌, None, OnOk, string_bytes};
 ghost use Rattle.std.specs.List.{flat_map};
@@ -6,6 +6,7 @@ ghost use Rattle.page_markup.specs.declared.tag.Tag.TheVariants as tag;
 ghost use Rattle.page_markup.specs.Words.{text_in};
 ghost use Rattle.report_page.specs.Judges.{booking_heads, booking_row, booking_rows, is_week_of, judge_caption, judge_part, judge_parts, judge_title, judges_part, week_name, week_row_if_new};
 
+use crate::months::push_months;
 use crate::phrases::set_day;
 use crate::tables::{push_four_heads, push_motion_cell};
 use court_clock::Day;
@@ -15,11 +16,12 @@ use hearing_slots::Booking;
 use office_texts::{judge_name, room_name};
 use page_markup::{Page, Tag};
 use report_texts::{Labels, push_span, push_whole_day};
-use std::alloc::AllocError;
+use std::alloc::{AllocError, Global};
 
 /// Adds the judges' hearings.
 #[tactic(auto, unfolding(crate::specs::Judges::judges_part))]
 pub(crate) fn push_judges(
+    alloc: Global,
     page: &mut Page,
     line: &mut String,
     court: &Court,
@@ -30,12 +32,13 @@ pub(crate) fn push_judges(
 {
     page.open(Tag::Section)?;
     page.text_in(Tag::Heading2, "Hearings by judge")?;
-    push_parts(page, line, court, labels, calendars)?;
+    push_parts(alloc, page, line, court, labels, calendars)?;
     page.close(Tag::Section)
 }
 
 /// Adds a part for each judge, or that there is none.
 fn push_parts(
+    alloc: Global,
     page: &mut Page,
     line: &mut String,
     court: &Court,
@@ -47,11 +50,12 @@ fn push_parts(
     if calendars.is_empty() {
         return page.text_in(Tag::Paragraph, "No hearing is set.");
     }
-    push_calendars(page, line, court, labels, calendars)
+    push_calendars(alloc, page, line, court, labels, calendars)
 }
 
 /// Adds a part for each judge.
 fn push_calendars(
+    alloc: Global,
     page: &mut Page,
     line: &mut String,
     court: &Court,
@@ -61,7 +65,7 @@ fn push_calendars(
     ensures { OnOk result (page.new ≡ page.old ++ flat_map (judge_part court.now labels.now) calendars.now) }
 {
     for calendar in calendars {
-        push_judge(page, line, court, labels, calendar)?;
+        push_judge(alloc, page, line, court, labels, calendar)?;
     }
     Ok(())
 }
@@ -69,6 +73,7 @@ fn push_calendars(
 /// Adds the hearings of a judge.
 #[tactic(auto, unfolding(crate::specs::Judges::judge_part))]
 fn push_judge(
+    alloc: Global,
     page: &mut Page,
     line: &mut String,
     court: &Court,
@@ -80,6 +85,7 @@ fn push_judge(
     page.open(Tag::Section)?;
     set_title(line, court, calendar.judge)?;
     page.text_in(Tag::Heading3, line)?;
+    push_months(alloc, page, line, court, labels, calendar)?;
     page.open(Tag::Table)?;
     set_caption(line, court, calendar.judge)?;
     page.text_in(Tag::Caption, line)?;

@@ -60,7 +60,7 @@ fn push_content(
     push_chosen(line, court, labels, choice)?;
     page.text_in(Tag::Paragraph, line)?;
     push_due(page, line, court, labels, items)?;
-    push_judges(page, line, court, labels, calendars)?;
+    push_judges(alloc, page, line, court, labels, calendars)?;
     push_cases(alloc, page, line, court, days, labels, sheets)
 }
 

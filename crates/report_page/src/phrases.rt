@@ -36,21 +36,39 @@ pub(crate) fn set_day(line: &mut String, day: Day) -> Result<(), AllocError>
 }
 
 /// Makes the line the name of a case.
-#[tactic(auto, unfolding(crate::specs::Phrases::case_name))]
 pub(crate) fn set_case(line: &mut String, labels: &Labels<'_>, case: u32) -> Result<(), AllocError>
     ensures { OnOk result (string_bytes line.new ≡ case_name labels.now.cases case) }
 {
     line.clear();
+    push_case_name(line, labels, case)
+}
+
+/// Adds the name of a case.
+#[tactic(auto, unfolding(crate::specs::Phrases::case_name))]
+pub(crate) fn push_case_name(
+    line: &mut String,
+    labels: &Labels<'_>,
+    case: u32,
+) -> Result<(), AllocError>
+    ensures { OnOk result (AddsText line.old line.new (case_name labels.now.cases case)) }
+{
     line.push_str("case ")?;
     push_case_text(line, labels.cases, case)
 }
 
 /// Makes the line the name of a motion after that of its case.
-#[tactic(auto, unfolding(crate::specs::Phrases::motion_name))]
 pub(crate) fn set_motion(line: &mut String, motion: u32) -> Result<(), AllocError>
     ensures { OnOk result (string_bytes line.new ≡ motion_name motion) }
 {
     line.clear();
+    push_motion_name(line, motion)
+}
+
+/// Adds the name of a motion after that of its case.
+#[tactic(auto, unfolding(crate::specs::Phrases::motion_name))]
+pub(crate) fn push_motion_name(line: &mut String, motion: u32) -> Result<(), AllocError>
+    ensures { OnOk result (AddsText line.old line.new (motion_name motion)) }
+{
     line.push_str(", motion ")?;
     push_number(line, u64::from(motion))
 }

@@ -51,7 +51,7 @@ pub(crate) fn push_four_heads(
 
 /// Adds a link to the part of a case, with its name where it has one.
 #[tactic(auto, unfolding(crate::specs::Tables::case_link))]
-fn push_case_link(
+pub(crate) fn push_case_link(
     page: &mut Page,
     line: &mut String,
     labels: &Labels<'_>,

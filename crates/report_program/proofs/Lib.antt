@@ -1,3 +1,4 @@
 pub mod CameLemmas
 pub mod FlagLemmas
+pub mod TakenLemmas
 pub mod WordLemmas

@@ -29,12 +29,13 @@ taken_of false none = cc
 pub each_taken : (given : List Row) → are_given_taken given ≡ true
     → (is_said_taken (first_of (codes "from") given) ≡ true) × (is_said_taken (first_of (codes "to") given) ≡ true) × (is_said_taken (first_of (codes "of") given) ≡ true)
     × (is_day_taken (first_of (codes "today") given) ≡ true) × (is_instant_taken (first_of (codes "stamp") given) ≡ true) × (is_case_taken (first_of (codes "case") given) ≡ true)
-    × (is_count_taken (first_of (codes "days") given) ≡ true)
+    × (is_count_taken (first_of (codes "days") given) ≡ true) × (is_said_taken (first_of (codes "on") given) ≡ true)
 each_taken given all =
     let from = and_parts (is_said_taken (first_of (codes "from") given)) _ all in
     let to = and_parts (is_said_taken (first_of (codes "to") given)) _ from.1 in
     let of = and_parts (is_said_taken (first_of (codes "of") given)) _ to.1 in
     let today = and_parts (is_day_taken (first_of (codes "today") given)) _ of.1 in
     let stamp = and_parts (is_instant_taken (first_of (codes "stamp") given)) _ today.1 in
-    let rest = and_parts (is_case_taken (first_of (codes "case") given)) (is_count_taken (first_of (codes "days") given)) stamp.1 in
-    (from.0, to.0, of.0, today.0, stamp.0, rest.0, rest.1)
+    let case = and_parts (is_case_taken (first_of (codes "case") given)) _ stamp.1 in
+    let rest = and_parts (is_count_taken (first_of (codes "days") given)) (is_said_taken (first_of (codes "on") given)) case.1 in
+    (from.0, to.0, of.0, today.0, stamp.0, case.0, rest.0, rest.1)

@@ -1,5 +1,5 @@
 -- What is written of a docket after all its rows.
-use Rattle.std.specs.Prelude.{◌≡◌, ℕ, ℤ, true, List, [], ◌++◌, Option, Some, None, codes, length, map, string_bytes, IsErrAnd, IsOkAnd, IsSome}
+use Rattle.std.specs.Prelude.{◌≡◌, ℕ, ℤ, Bool, true, false, not, List, [], ◌++◌, Option, Some, None, Result, Ok, Err, codes, length, map, string_bytes, IsErrAnd, IsOkAnd, IsSome}
 use Rattle.std.specs.declared.alloc.Global.{Global}
 use Rattle.std.specs.Prelude.{String}
 use Rattle.office_texts.specs.Names.Words.{called_text}
@@ -14,14 +14,17 @@ use Rattle.docket_rows.specs.declared.view.View.TheVariants as view
 use Rattle.docket_rows.specs.Words.{CourtSetup, Rows, opening_rows, setup_of, view_of}
 use Rattle.docket_selection.specs.declared.choice.Choice.{Choice}
 use Rattle.docket_selection.specs.declared.item.DueItem.{DueItem}
-use Rattle.docket_selection.specs.Words.{IsDue, all_left_out, chosen_calendars, chosen_sheets, day_bookings, week_days}
+use Rattle.docket_selection.specs.declared.pending.PendingItem.{PendingItem}
+use Rattle.docket_selection.specs.declared.pending.PendingKind.{PendingKind}
+use Rattle.docket_selection.specs.declared.pending.PendingKind.TheVariants.{Cases, Motions}
+use Rattle.docket_selection.specs.Words.{IsDue, all_left_out, all_pending, chosen_calendars, chosen_sheets, day_bookings, week_days}
 use Rattle.docket_selection.specs.declared.changes.change.RowChange.{RowChange}
 use Rattle.content_lines.specs.Words.{HasShortLines}
-use Rattle.report_texts.specs.Words.{LabelsView, due_text, labelled_sheet, left_out_line, numbered_calendar, numbered_day, numbered_item, week_text}
+use Rattle.report_texts.specs.Words.{LabelsView, case_page_text, due_text, labelled_sheet, left_out_line, numbered_calendar, numbered_day, numbered_item, numbered_pending, pending_csv, pending_text, week_text}
 use Rattle.report_ics.specs.Words.{appointments_of, icalendar_text}
 use Rattle.docket_selection.specs.declared.explained.explained.ExplainedSheet.{ExplainedSheet}
 use Rattle.docket_selection.specs.Explained.Words.{AreExplained}
-use Rattle.report_page.specs.Words.{page_text}
+use Rattle.report_page.specs.Words.{page_text, pending_page}
 use Rattle.row_forms.specs.declared.numbered.NumberedRow.{NumberedRow}
 use Rattle.row_forms.specs.Words.{numbered_from, rows_of}
 use Rattle.office_texts.specs.Named.Words.{named_reply}
@@ -34,8 +37,11 @@ use Rattle.program_runs.specs.Words.{Input}
 use Rattle.report_program.specs.declared.asked.Asked.{Asked}
 use Rattle.report_program.specs.declared.chosen.Chosen.{Chosen}
 use Rattle.report_program.specs.declared.chosen.Chosen.TheVariants.{Json, Lines, Listed, Sql}
+use Rattle.report_program.specs.declared.chosen.Form.{Form}
+use Rattle.report_program.specs.declared.chosen.Form.TheVariants as form
 use Rattle.report_program.specs.declared.chosen.Listing.{Listing}
-use Rattle.report_program.specs.declared.chosen.Listing.TheVariants.{Due, Ics, Page, Sheet, Week}
+use Rattle.report_program.specs.declared.chosen.Listing.TheVariants.{Due, Ics, Page, Pending, Sheet, Week}
+use Rattle.report_program.specs.declared.chosen.Listing.TheVariants as listing
 use Rattle.report_program.specs.declared.chosen.Missing.{Missing}
 use Rattle.report_program.specs.declared.chosen.Missing.TheVariants.{Backwards, Case, Closed, Day, Judge}
 use Rattle.report_program.specs.Appointments.{numbered_appointment}
@@ -92,6 +98,30 @@ shown_called court labels reply = named_reply court labels.cases reply
 abbrev pub sheet_text_of : CourtView → LabelsView → (docketed : Rows) → (case : ℕ) → List ℕ
 sheet_text_of court labels docketed case = shown_called court labels (Viewed (numbered_view labels.moved (view_of (setup_of court) docketed (query.Sheet case))))
 
+-- the page of a sheet, and any other reply as rows get it
+abbrev pub page_called : CourtView → LabelsView → Reply → List ℕ
+page_called court labels (Viewed (view.Sheet sheet)) = case_page_text court labels sheet
+page_called court labels reply = named_reply court labels.cases reply
+
+-- one page of a case, up to the entries of its log, by what a row that asks for its sheet is answered
+abbrev pub case_text_of : CourtView → LabelsView → (docketed : Rows) → (case : ℕ) → List ℕ
+case_text_of court labels docketed case = page_called court labels (Viewed (numbered_view labels.moved (view_of (setup_of court) docketed (query.Sheet case))))
+
+-- what has been pending for long on a day, with the numbers of motions
+abbrev pub numbered_all : CourtView → LabelsView → (docketed : Rows) → PendingKind → (day : ℤ) → List PendingItem
+numbered_all court labels docketed kind day = map (numbered_pending labels.moved) (all_pending (setup_of court) docketed kind day)
+
+-- these motions and these cases as a text, as a page, or as a table for other programs
+abbrev pub pending_form : CourtView → LabelsView → Form → (day : ℤ) → (motions cases : List PendingItem) → List ℕ
+pending_form court labels form.Text day motions cases = pending_text court labels day motions cases
+pending_form court labels form.Page day motions cases = pending_page court labels day motions cases
+pending_form court labels form.Csv day motions cases = pending_csv court labels motions cases
+
+-- what has been pending for long on the day, written so
+abbrev pub pending_text_of : CourtView → LabelsView → (docketed : Rows) → (day : ℤ) → Form → List ℕ
+pending_text_of court labels docketed day form =
+    pending_form court labels form day (numbered_all court labels docketed Motions day) (numbered_all court labels docketed Cases day)
+
 -- the text of what is shown of the docket
 abbrev pub IsListing : CourtView → LabelsView → (docketed : Rows) → List RowChange → (lost : List DueItem) → (corrections : ℕ) → Listing → List ℕ → Type 0
 IsListing court labels docketed changes lost corrections (Due choice) text = IsDueText court labels docketed choice text
@@ -99,6 +129,8 @@ IsListing court labels docketed changes lost corrections (Week judge day) text =
 IsListing court labels docketed changes lost corrections (Page choice) text = IsPage court labels docketed choice text
 IsListing court labels docketed changes lost corrections (Ics choice stamp) text = IsIcsText court labels docketed changes lost corrections choice stamp text
 IsListing court labels docketed changes lost corrections (Sheet case) text = text ≡ sheet_text_of court labels docketed case
+IsListing court labels docketed changes lost corrections (Pending day form) text = text ≡ pending_text_of court labels docketed day form
+IsListing court labels docketed changes lost corrections (listing.Case case) text = text ≡ case_text_of court labels docketed case
 
 -- what is docketed after all rows, what these changed, and the deadlines that they start no more, after what came of corrections
 abbrev pub docketed_by : CourtView → List NumberedRow → Rows
@@ -109,6 +141,21 @@ changes_by court past rows = changes_since past ++ changes_made (setup_of court)
 
 abbrev pub lost_of : CourtView → PastView → List NumberedRow → List DueItem
 lost_of court past rows = lost_since past ++ lost_made past.given (setup_of court) (opening_rows (setup_of court)) rows
+
+-- it is a calendar for calendar programs, which rests on what rows changed, and not on the docket alone
+abbrev pub is_calendar : Listing → Bool
+is_calendar (Ics choice stamp) = true
+is_calendar other = false
+
+-- what is chosen rests on the docket alone
+abbrev pub is_of_docket : Chosen → Bool
+is_of_docket (Listed listing) = not (is_calendar listing)
+is_of_docket other = false
+
+-- so does what is found of what was asked for, also where it isn't there
+abbrev pub rests_on_docket : Result Chosen Missing → Bool
+rests_on_docket (Ok chosen) = is_of_docket chosen
+rests_on_docket (Err missing) = true
 
 -- the text of what is chosen
 abbrev pub IsTextOf : CourtView → LabelsView → PastView → List NumberedRow → Chosen → List ℕ → Type 0

@@ -16,8 +16,10 @@ use Rattle.report_program.specs.declared.asked.Task.TheVariants as task
 use Rattle.report_program.specs.declared.asked.Task.{Task}
 use Rattle.report_program.specs.declared.chosen.Chosen.{Chosen}
 use Rattle.report_program.specs.declared.chosen.Chosen.TheVariants.{Json, Lines, Listed, Sql}
+use Rattle.report_program.specs.declared.chosen.Form.{Form}
+use Rattle.report_program.specs.declared.chosen.Form.TheVariants as form
 use Rattle.report_program.specs.declared.chosen.Listing.{Listing}
-use Rattle.report_program.specs.declared.chosen.Listing.TheVariants.{Due, Ics, Page, Sheet, Week}
+use Rattle.report_program.specs.declared.chosen.Listing.TheVariants.{Case, Due, Ics, Page, Pending, Sheet, Week}
 use Rattle.report_program.specs.declared.chosen.Missing.{Missing}
 use Rattle.report_program.specs.declared.chosen.Missing.TheVariants as missing
 
@@ -34,12 +36,6 @@ today_of court asked = unwrap_or asked.today (today_by court.clock asked.clock_t
 abbrev pub day_asked : CourtView → Asked → Option DaySaid → (other : ℤ) → ℤ
 day_asked court asked said other = unwrap_or (option_map (day_on (today_of court asked)) said) other
 
--- the last day: what is overdue ended before today
-abbrev pub last_asked : CourtView → Asked → ℤ
-last_asked court asked =
-    let to = day_asked court asked asked.to court.days.to in
-    if asked.overdue then earlier_day to (day_on (today_of court asked) (Before 1)) else to
-
 -- of that judge or of any, and of that case or of any: all days of the court's file, as far as nothing else is asked for
 abbrev pub choice_of : CourtView → (case : Option ℕ) → Asked → (met : Bool) → (judge : Option ℕ) → Choice
 choice_of court case asked met judge = record {
@@ -47,7 +43,7 @@ choice_of court case asked met judge = record {
   elsewhere = false;
   case = case;
   from = day_asked court asked asked.from court.days.from;
-  to = last_asked court asked;
+  to = day_asked court asked asked.to court.days.to;
   met = met;
   overdue = asked.overdue;
 }
@@ -89,6 +85,18 @@ week_chosen court asked =
 abbrev pub sheet_chosen : (case : Option ℕ) → Chosen
 sheet_chosen case = Listed (Sheet (unwrap_or case 0))
 
+-- the page of that case, likewise
+abbrev pub page_of_case : (case : Option ℕ) → Chosen
+page_of_case case = Listed (Case (unwrap_or case 0))
+
+-- as what it is written what has been pending for long
+abbrev pub form_asked : Asked → Form
+form_asked asked = if asked.page then form.Page else if asked.csv then form.Csv else form.Text
+
+-- what has been pending for long on the day that is asked for
+abbrev pub pending_chosen : CourtView → Asked → Chosen
+pending_chosen court asked = Listed (Pending (day_asked court asked asked.on court.days.from) (form_asked asked))
+
 abbrev pub chosen_for : Task → CourtView → (case : Option ℕ) → Asked → Option Chosen
 chosen_for task.Due court case asked = due_chosen court case asked
 chosen_for task.Week court case asked = week_chosen court asked
@@ -97,6 +105,8 @@ chosen_for task.Ics court case asked = ics_chosen court case asked
 chosen_for task.Json court case asked = json_chosen court case asked
 chosen_for task.Sql court case asked = Some Sql
 chosen_for task.Sheet court case asked = Some (sheet_chosen case)
+chosen_for task.Pending court case asked = Some (pending_chosen court asked)
+chosen_for task.Case court case asked = Some (page_of_case case)
 
 -- what is chosen of that case or of any, where the court has the judge that is asked for
 unfoldable pub chosen_by : CourtView → (case : Option ℕ) → Asked → Option Chosen
@@ -125,12 +135,26 @@ missing_listed days (Week judge day) = missing_day days day
 missing_listed days (Page choice) = missing_between days choice
 missing_listed days (Ics choice stamp) = missing_between days choice
 missing_listed days (Sheet case) = None
+missing_listed days (Pending day form) = missing_day days day
+missing_listed days (Case case) = None
 
 abbrev pub missing_days : DaysView → Chosen → Option Missing
 missing_days days (Listed listing) = missing_listed days listing
 missing_days days (Json choice) = missing_between days choice
 missing_days days Lines = None
 missing_days days Sql = None
+
+-- the last day on which something ended that is listed: what is overdue ended before today
+abbrev pub last_ended : CourtView → Asked → (to : ℤ) → ℤ
+last_ended court asked to = if asked.overdue then earlier_day to (day_on (today_of court asked) (Before 1)) else to
+
+abbrev pub ended_choice : CourtView → Asked → Choice → Choice
+ended_choice court asked choice = record choice { to = last_ended court asked choice.to }
+
+-- What is chosen up to that day. All days that are asked for may be later; then nothing is overdue.
+abbrev pub up_to_ended : CourtView → Asked → Chosen → Chosen
+up_to_ended court asked (Listed (Due choice)) = Listed (Due (ended_choice court asked choice))
+up_to_ended court asked other = other
 
 abbrev pub unless_missing : Chosen → Option Missing → Result Chosen Missing
 unless_missing chosen (Some missing) = Err missing
@@ -141,4 +165,4 @@ unfoldable pub chosen_of : CourtView → List NamedCase → Asked → Result Cho
 chosen_of court named asked = do
   case ← ok_or (case_given named asked.case) missing.Case
   chosen ← ok_or (chosen_by court case asked) missing.Judge
-  unless_missing chosen (missing_days court.days chosen)
+  unless_missing (up_to_ended court asked chosen) (missing_days court.days chosen)

@@ -42,8 +42,16 @@ week_shape = record (sourced_shape (codes "week")) { rules = (sourced_shape (cod
 abbrev pub sql_shape : Shape
 sql_shape = sourced_shape (codes "sql")
 
+-- `--NAME`, once at most
+abbrev pub form_rule : (name : Text) → Rule
+form_rule name = record (new_rule name) { long = Some name; action = Some SetTrue }
+
+-- the one of what has been pending for long, for which a day has to be given; it takes that of today, and as what it is written
+abbrev pub pending_shape : Shape
+pending_shape = record (sourced_shape (codes "pending")) { rules = (sourced_shape (codes "pending")).rules ++ needed_rule (codes "on") ∷ text_rule (codes "today") ∷ form_rule (codes "page") ∷ form_rule (codes "csv") ∷ [] }
+
 -- a command line with a subcommand for each report
 abbrev pub with_reports : App → App
 with_reports app =
-    with_subcommand (with_subcommand (with_subcommand (with_subcommand (with_subcommand (with_subcommand app due_shape) week_shape) (choosing_shape (codes "page"))) ics_shape)
-    json_shape) sql_shape
+    with_subcommand (with_subcommand (with_subcommand (with_subcommand (with_subcommand (with_subcommand (with_subcommand app due_shape) week_shape) (choosing_shape (codes "page"))) ics_shape)
+    json_shape) sql_shape) pending_shape

@@ -5,14 +5,14 @@ use Rattle.court_days.specs.Words.{CourtView}
 use Rattle.docket_rows.specs.declared.query.Query.TheVariants as query
 use Rattle.docket_rows.specs.declared.view.View.{View}
 use Rattle.docket_rows.specs.declared.view.View.TheVariants as view
-use Rattle.docket_rows.specs.Words.{opening_rows, setup_of, view_of}
+use Rattle.docket_rows.specs.Words.{Rows, opening_rows, setup_of, view_of}
 use Rattle.row_forms.specs.declared.numbered.NumberedRow.{NumberedRow}
 use Rattle.row_forms.specs.Words.{rows_of}
 use Rattle.office_texts.specs.Run.Words.{docketed_after}
 use Rattle.report_program.specs.declared.asked.Asked.{Asked}
 use Rattle.report_program.specs.declared.chosen.Chosen.{Chosen}
 use Rattle.report_program.specs.declared.chosen.Chosen.TheVariants.{Json, Listed}
-use Rattle.report_program.specs.declared.chosen.Listing.TheVariants.{Due, Ics, Page, Sheet}
+use Rattle.report_program.specs.declared.chosen.Listing.TheVariants.{Case, Due, Ics, Page, Sheet}
 use Rattle.report_program.specs.declared.chosen.Missing.{Missing}
 use Rattle.report_program.specs.declared.chosen.Missing.TheVariants.{Closed}
 use Rattle.report_program.specs.Chosen.{◌>>=◌, chosen_of}
@@ -23,6 +23,7 @@ case_chosen (Listed (Due choice)) = choice.case
 case_chosen (Listed (Page choice)) = choice.case
 case_chosen (Listed (Ics choice stamp)) = choice.case
 case_chosen (Listed (Sheet case)) = Some case
+case_chosen (Listed (Case case)) = Some case
 case_chosen (Json choice) = choice.case
 case_chosen _ = None
 
@@ -53,3 +54,20 @@ unfoldable pub found_of : CourtView → List NamedCase → List NumberedRow → 
 found_of court named rows asked = do
   chosen ← chosen_of court named asked
   if_open court rows chosen
+
+-- the same of a docket that has taken all rows: the case that alone is chosen, if one is
+abbrev pub case_of : Result Chosen Missing → Option ℕ
+case_of (Ok chosen) = case_chosen chosen
+case_of (Err missing) = None
+
+-- none of a case whose sheet is shown
+abbrev pub unless_sheet : View → (case : ℕ) → Option ℕ
+unless_sheet view case = if is_sheet view then None else Some case
+
+abbrev pub closed_in : CourtView → (docketed : Rows) → Option ℕ → Option ℕ
+closed_in court docketed (Some case) = unless_sheet (view_of (setup_of court) docketed (query.Sheet case)) case
+closed_in court docketed None = None
+
+abbrev pub found_unless : Result Chosen Missing → (closed : Option ℕ) → Result Chosen Missing
+found_unless chosen (Some case) = Err (Closed case)
+found_unless chosen None = chosen

@@ -34,6 +34,10 @@ pub enum Task {
     Sql,
     /// The sheet of one case.
     Sheet,
+    /// What has been pending for long.
+    Pending,
+    /// One page of a case, up to the entries of its log.
+    Case,
 }
 
 /// What the words ask for: what is written, and of what. The name is as the words have it.
@@ -51,6 +55,8 @@ pub struct Asked {
     pub to: Option<DaySaid>,
     /// A day of the week.
     pub of: Option<DaySaid>,
+    /// The day on which something is pending.
+    pub on: Option<DaySaid>,
     /// The day that counts as today, where it isn't that of the clock.
     pub today: Option<Day>,
     /// The instant at which a calendar is written.
@@ -61,6 +67,10 @@ pub struct Asked {
     pub lines: bool,
     /// Whether only what is overdue is asked for.
     pub overdue: bool,
+    /// Whether what is pending is to be a page.
+    pub page: bool,
+    /// Whether it is to be a table for other programs.
+    pub csv: bool,
 }
 
 /// What a subcommand of that name asks for with what it was given, at the clock's time: a subcommand of `with_reports`. Where the rows
@@ -105,6 +115,10 @@ pub fn asked_by(
         Ok(last) => last,
         Err(fault) => return Err(fault),
     };
+    let on = match said_option(alloc, "on", given.get_str("on")) {
+        Ok(day) => day,
+        Err(fault) => return Err(fault),
+    };
     let judge = text_given(alloc, given, "judge")?;
     Ok(Asked {
         task: task_of(name),
@@ -113,11 +127,14 @@ pub fn asked_by(
         from: first_said(&last, from),
         to: last_said(&last, to),
         of,
+        on,
         today,
         stamp,
         clock_time,
         lines: given.get_flag("lines"),
         overdue: given.get_flag("overdue"),
+        page: given.get_flag("page"),
+        csv: given.get_flag("csv"),
     })
 }
 
@@ -151,6 +168,7 @@ fn task_of(name: &str) -> Task
         "ics" => Task::Ics,
         "json" => Task::Json,
         "sql" => Task::Sql,
+        "pending" => Task::Pending,
         _ => Task::Due,
     }
 }

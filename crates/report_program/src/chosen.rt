@@ -2,7 +2,7 @@
 
 ghost use Rattle.std.specs.Prelude.{◌≡◌, option_map, string_bytes};
 ghost use Rattle.court_clock.specs.Words.{earlier_day};
-ghost use Rattle.report_program.specs.Chosen.{case_given, choice_asked, choice_of, chosen_by, chosen_of, day_asked, due_chosen, ics_chosen, json_chosen, judge_given, last_asked, missing_backwards, missing_between, missing_day, missing_days, missing_listed, page_chosen, sheet_chosen, today_of, week_chosen};
+ghost use Rattle.report_program.specs.Chosen.{case_given, choice_asked, choice_of, chosen_by, chosen_of, day_asked, due_chosen, ended_choice, form_asked, ics_chosen, json_chosen, judge_given, last_ended, missing_backwards, missing_between, missing_day, missing_days, missing_listed, page_chosen, page_of_case, pending_chosen, sheet_chosen, today_of, up_to_ended, week_chosen};
 
 use crate::asked::{Asked, Task};
 use court_clock::{Day, Instant};
@@ -25,6 +25,21 @@ pub enum Listing {
     Ics(Choice, Instant),
     /// The sheet of the case.
     Sheet(u32),
+    /// What has been pending for long on that day.
+    Pending(Day, Form),
+    /// The page of the case, up to the entries of its log.
+    Case(u32),
+}
+
+/// As what it is written what has been pending for long.
+#[derive(Clone, Copy, Debug, PartialEq, Eq)]
+pub enum Form {
+    /// A text.
+    Text,
+    /// A page.
+    Page,
+    /// A table for other programs.
+    Csv,
 }
 
 /// What is chosen, by what is written of it.
@@ -47,7 +62,8 @@ pub enum Missing {
     Case,
     /// No judge has the name there.
     Judge,
-    /// The day isn't covered: that of a week, or the first or the last of the days of which something is listed.
+    /// The day isn't covered: that of a week, that on which something is pending, or the first or the last of the days of which
+    /// something is listed.
     Day(Day),
     /// There are no days from the first of these to the last, which comes before it.
     Backwards(Day, Day),
@@ -57,7 +73,7 @@ pub enum Missing {
 
 /// The types inside what is chosen. The checker finds them only where they have names, so a function that takes what is chosen out
 /// of a result has a variable of this type.
-pub(crate) type ChosenTypes = Option<(Listing, Choice, Day, Instant)>;
+pub(crate) type ChosenTypes = Option<(Listing, Choice, Day, Instant, Form)>;
 
 /// What is chosen of the court by what is asked for, or the first that isn't there of it, but for a case that isn't open.
 #[tactic(auto, unfolding(crate::specs::Chosen::chosen_of))]
@@ -76,7 +92,7 @@ pub(crate) fn chosen_of(
     };
     match missing_days(court, &chosen) {
         Some(missing) => Err(missing),
-        None => Ok(chosen),
+        None => Ok(up_to_ended(court, asked, &chosen)),
     }
 }
 
@@ -106,6 +122,8 @@ fn chosen_by(court: &Court, case: Option<u32>, asked: &Asked) -> Option<Chosen>
         Task::Json => json_chosen(court, case, asked),
         Task::Sql => Some(Chosen::Sql),
         Task::Sheet => Some(sheet_chosen(case)),
+        Task::Pending => Some(pending_chosen(court, asked)),
+        Task::Case => Some(page_of_case(case)),
     }
 }
 
@@ -129,6 +147,8 @@ fn missing_listed(court: &Court, listing: &Listing) -> Option<Missing>
         Listing::Page(choice) => missing_between(court, choice),
         Listing::Ics(choice, _) => missing_between(court, choice),
         Listing::Sheet(_) => None,
+        Listing::Pending(day, _) => missing_day(court, *day),
+        Listing::Case(_) => None,
     }
 }
 
@@ -204,6 +224,34 @@ fn sheet_chosen(case: Option<u32>) -> Chosen
     Chosen::Listed(Listing::Sheet(case.unwrap_or(0)))
 }
 
+/// The page of that case. No case has the number 0, which stands for none.
+fn page_of_case(case: Option<u32>) -> Chosen
+    ensures { result ≡ page_of_case case }
+{
+    Chosen::Listed(Listing::Case(case.unwrap_or(0)))
+}
+
+/// What has been pending for long on the day that is asked for.
+fn pending_chosen(court: &Court, asked: &Asked) -> Chosen
+    ensures { result ≡ pending_chosen court.now asked.now }
+{
+    let day = day_asked(court, asked, asked.on, court.days().from());
+    Chosen::Listed(Listing::Pending(day, form_asked(asked)))
+}
+
+/// As what it is written.
+fn form_asked(asked: &Asked) -> Form
+    ensures { result ≡ form_asked asked.now }
+{
+    if asked.page {
+        Form::Page
+    } else if asked.csv {
+        Form::Csv
+    } else {
+        Form::Text
+    }
+}
+
 fn week_chosen(court: &Court, asked: &Asked) -> Option<Chosen>
     ensures { result ≡ week_chosen court.now asked.now }
 {
@@ -241,17 +289,37 @@ fn choice_of(
         elsewhere: false,
         case,
         from: day_asked(court, asked, asked.from, court.days().from()),
-        to: last_asked(court, asked),
+        to: day_asked(court, asked, asked.to, court.days().to()),
         met,
         overdue: asked.overdue,
     }
 }
 
-/// The last day: the one that is asked for, and where only what is overdue is asked for at the latest the day before today.
-fn last_asked(court: &Court, asked: &Asked) -> Day
-    ensures { result ≡ last_asked court.now asked.now }
+/// What is chosen, up to the last day on which something ended that is listed.
+fn up_to_ended(court: &Court, asked: &Asked, chosen: &Chosen) -> Chosen
+    ensures { result ≡ up_to_ended court.now asked.now chosen.now }
 {
-    let to = day_asked(court, asked, asked.to, court.days().to());
+    match chosen {
+        Chosen::Listed(Listing::Due(choice)) => {
+            Chosen::Listed(Listing::Due(ended_choice(court, asked, choice)))
+        }
+        _ => *chosen,
+    }
+}
+
+/// The same choice, up to that day.
+fn ended_choice(court: &Court, asked: &Asked, choice: &Choice) -> Choice
+    ensures { result ≡ ended_choice court.now asked.now choice.now }
+{
+    let mut ended = *choice;
+    ended.to = last_ended(court, asked, choice.to);
+    ended
+}
+
+/// That day, where this is the last that is asked for: at the latest the day before today, where only what is overdue is listed.
+fn last_ended(court: &Court, asked: &Asked, to: Day) -> Day
+    ensures { result ≡ last_ended court.now asked.now to }
+{
     if !asked.overdue {
         return to;
     }

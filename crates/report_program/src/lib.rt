@@ -3,6 +3,7 @@
 
 mod appointments;
 mod asked;
+mod case;
 mod chosen;
 mod clock;
 mod docket;
@@ -13,13 +14,16 @@ mod missing;
 mod opened;
 mod page;
 mod past;
+mod pending;
 mod report;
 mod sheet;
 mod subcommands;
+mod taken;
 mod week;
 
 pub use asked::{Asked, Task, asked_by};
 pub use clock::clock_time;
 pub use past::Past;
-pub use report::report_of;
+pub use report::report_of_rows;
 pub use subcommands::with_reports;
+pub use taken::report_of_docket;

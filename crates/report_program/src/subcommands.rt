@@ -1,8 +1,8 @@
 //! The subcommands for reports, as `clap` takes them.
 
 ghost use Rattle.std.specs.Prelude.{◌≡◌, [], IfOk};
-ghost use Rattle.clap.specs.Words.{app_of};
-ghost use Rattle.report_program.specs.CommandLine.{choosing_shape, due_shape, ics_shape, json_shape, sourced_shape, sql_shape, week_shape, with_reports};
+ghost use Rattle.clap.specs.Words.{app_of, with_rule};
+ghost use Rattle.report_program.specs.CommandLine.{choosing_shape, due_shape, form_rule, ics_shape, json_shape, pending_shape, sourced_shape, sql_shape, week_shape, with_reports};
 
 use clap::{Arg, ArgAction, Command};
 use program_main::{with_needed, with_source, with_subcommand, with_text};
@@ -20,6 +20,9 @@ const ABOUT_PAGE: &str = "One HTML page: what is due, each judge's hearings, and
 
 const ABOUT_ICS: &str = "Deadlines and hearings for calendar programs, as iCalendar (RFC 5545)";
 
+const ABOUT_PENDING: &str =
+    "Motions of more than six months, and cases of more than three years, by judge";
+
 const STAMP: &str = "When it is written, as 20250915T120000Z; else the clock's time";
 
 const LINES: &str = "The answers of all rows alone, an object a line";
@@ -30,10 +33,28 @@ const TO: &str = "The last day; else the last of the court's file";
 
 const OF: &str = "A day of the week";
 
+const ON: &str = "The day on which they are pending";
+
+const PAGE: &str = "One HTML page, for a browser and for print";
+
+const CSV: &str = "A table for other programs, with a line for each";
+
 const TODAY: &str = "The date that counts as today; else that of the clock in the court's zone";
 
 const DAYS: &str =
     "DAY is a date, as 2025-09-15, or today, tomorrow, yesterday; monday to sunday, the
+next such day from today on; or so many days from today, as +7d or (with =) -3d.";
+
+const PENDING: &str =
+    "A motion is listed if more than six months have passed since it was served, and
+its last ruling is of a later day, reserves it, or isn't there; a case if more
+than three years have passed since it was filed. A case that was closed by that
+day isn't listed, and no motion of it is (28 U.S.C. 476(a)).
+
+Example:
+  docket pending cases --on 2026-03-31
+
+DAY is a date, as 2025-09-15, or today, tomorrow, yesterday; monday to sunday, the
 next such day from today on; or so many days from today, as +7d or (with =) -3d.";
 
 const CHOICES: &str =
@@ -117,8 +138,35 @@ fn json<'a>(alloc: Global) -> Result<Command<'a>, AllocError>
     command.arg(lines)
 }
 
-/// A command with the subcommands due, week, page, ics, json and sql. Each takes `folder`, the first place, and `as-of`, or `input`, the option;
-/// none has to be given. `Err` says that memory ran out.
+/// The command, which also takes that what it writes has this form.
+fn with_form<'a>(
+    alloc: Global,
+    command: Command<'a>,
+    name: &'a str,
+    help: &'a str,
+) -> Result<Command<'a>, AllocError>
+    ensures { IfOk result (λ whole. app_of whole ≡ with_rule (app_of command.entry) (form_rule name.now)) }
+{
+    let form = Arg::new(alloc, name)
+        .long(name)
+        .action(ArgAction::SetTrue)
+        .help(help);
+    command.arg(form)
+}
+
+/// The subcommand for what has been pending for long, which also takes as what it is written.
+fn pending<'a>(alloc: Global) -> Result<Command<'a>, AllocError>
+    ensures { IfOk result (λ command. app_of command ≡ record { top = pending_shape; subs = [] }) }
+{
+    let command = sourced(alloc, "pending", ABOUT_PENDING)?.after_help(PENDING);
+    let command = with_needed(alloc, command, "on", "DAY", ON)?;
+    let command = with_text(alloc, command, "today", "DATE", TODAY)?;
+    let command = with_form(alloc, command, "page", PAGE)?;
+    with_form(alloc, command, "csv", CSV)
+}
+
+/// A command with the subcommands due, week, page, ics, json, sql and pending. Each takes `folder`, the first place, and `as-of`, or
+/// `input`, the option; none has to be given. `Err` says that memory ran out.
 pub fn with_reports<'a>(alloc: Global, command: Command<'a>) -> Result<Command<'a>, AllocError>
     ensures { IfOk result (λ whole. app_of whole ≡ with_reports (app_of command.entry)) }
 {
@@ -127,5 +175,6 @@ pub fn with_reports<'a>(alloc: Global, command: Command<'a>) -> Result<Command<'
     let page = with_subcommand(week, choosing(alloc, "page", ABOUT_PAGE))?;
     let ics = with_subcommand(page, ics(alloc))?;
     let json = with_subcommand(ics, json(alloc))?;
-    with_subcommand(json, sourced(alloc, "sql", ABOUT_SQL))
+    let sql = with_subcommand(json, sourced(alloc, "sql", ABOUT_SQL))?;
+    with_subcommand(sql, pending(alloc))
 }

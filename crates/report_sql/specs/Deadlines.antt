@@ -15,7 +15,7 @@ use Rattle.docket_rows.specs.declared.fact.Ending.{Ending}
 use Rattle.docket_rows.specs.declared.sheet.SheetDeadline.{SheetDeadline}
 use Rattle.docket_rows.specs.declared.sheet.State.{State}
 use Rattle.docket_rows.specs.declared.sheet.State.TheVariants.{Pending, Timely, Late, Undecided}
-use Rattle.docket_rows.specs.Words.{ending_word}
+use Rattle.docket_rows.specs.Words.{ending_word, suspended_by}
 use Rattle.report_texts.specs.Words.{period_words}
 use Rattle.report_sql.specs.Rows.{SqlValue, null, number, numbered, or_null, row_of, text, truth}
 use Rattle.report_sql.specs.Times.{day_value, instant_value, minute_value, second_value}
@@ -101,9 +101,14 @@ grant_values (ResetAt at) = day_value at.day ∷ minute_value at.minute ∷ []
 unfoldable pub grant_row : (case deadline : ℕ) → (place : ℕ) → Grant → List ℕ
 grant_row case deadline place g = row_of (grant_table g) case (number deadline ∷ number place ∷ grant_values g)
 
--- why a deadline is due no more
+-- the motion that suspends a deadline
+abbrev pub suspender_value : (motion : Option ℕ) → SqlValue
+suspender_value motion = or_null number motion
+
+-- why a deadline is due no more, and which motion suspends it, where its number is known
 unfoldable pub ending_row : (case deadline : ℕ) → Ending → List ℕ
-ending_row case deadline why = row_of (codes "endings") case (number deadline ∷ text (ending_word why) ∷ [])
+ending_row case deadline why =
+    row_of (codes "endings") case (number deadline ∷ text (ending_word why) ∷ suspender_value (suspended_by why) ∷ [])
 
 abbrev pub ending_row_if_any : (case deadline : ℕ) → Option Ending → List ℕ
 ending_row_if_any case deadline (Some why) = ending_row case deadline why

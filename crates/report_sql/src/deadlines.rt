@@ -2,7 +2,7 @@
 
 ghost use Rattle.std.specs.Prelude.{◌≡◌, ◌<◌, ◌++◌, [], ◌∷◌, IfSome, OnOk};
 ghost use Rattle.court_clock.specs.Words.{civil_of};
-ghost use Rattle.report_sql.specs.Deadlines.{civil_values, deadline_row, deadline_rows, deadline_values, ending_row, ending_row_if_any, ends_values, event_time, filed_values, grant_row, grant_table, grant_values, is_paper, service_letter, service_value, started_values, timely_value};
+ghost use Rattle.report_sql.specs.Deadlines.{civil_values, deadline_row, deadline_rows, deadline_values, ending_row, ending_row_if_any, ends_values, event_time, filed_values, grant_row, grant_table, grant_values, is_paper, service_letter, service_value, started_values, suspender_value, timely_value};
 ghost use Rattle.report_sql.specs.Rows.{AddsValues, null, numbered, or_null};
 ghost use Rattle.report_sql.specs.Times.{day_value, instant_value};
 
@@ -285,5 +285,16 @@ fn push_ending(out: &mut Script, case: u32, deadline: u32, why: Ending) -> Resul
     out.begin_row("endings", u64::from(case))?;
     out.number(u64::from(deadline))?;
     out.text(why.word())?;
+    push_suspender(out, why.suspended_by())?;
     out.end_row()
+}
+
+/// Adds which motion suspends a deadline, where its number is known.
+fn push_suspender(out: &mut Script, motion: Option<u32>) -> Result<(), AllocError>
+    ensures { OnOk result (AddsValues out.old out.new (suspender_value motion ∷ [])) }
+{
+    match motion {
+        Some(motion) => out.number(u64::from(motion)),
+        None => out.null(),
+    }
 }

@@ -1,6 +1,8 @@
 //! The whole script.
 
 ghost use Rattle.std.specs.Prelude.{◌≡◌, ◌++◌, IfOk, OnOk};
+ghost use Rattle.docket_rows.specs.Words.{opening_rows, setup_of};
+ghost use Rattle.office_texts.specs.Run.Words.{Holds};
 ghost use Rattle.report_sql.specs.Script.{script_text, transaction_end, transaction_front};
 
 use crate::answers::push_answers;
@@ -20,7 +22,6 @@ use std::alloc::{AllocError, Global};
 /// motions something there are tables of that. Answers have the names of cases in place of numbers, and the table of cases has a column
 /// for them where there are any. Deadlines and motions have their numbers, while rows name them by their places. `Err` says that memory
 /// ran out.
-#[tactic(auto, unfolding(crate::specs::Script::script_text))]
 pub fn sql_text(
     alloc: Global,
     court: &Court,
@@ -29,21 +30,44 @@ pub fn sql_text(
 ) -> Result<Vec<u8>, AllocError>
     ensures { IfOk result (λ text. text.items ≡ script_text court.now labels.now rows.now) }
 {
-    let mut out = Script::new(alloc);
     let mut docket = Docket::new(alloc, court)?;
-    push_front(&mut out)?;
+    let mut out = Script::new(alloc);
+    let pushed = push_script(alloc, &mut out, court, labels, &mut docket, rows);
+    drop(docket);
+    match pushed {
+        Ok(()) => Ok(out.into_bytes()),
+        Err(error) => {
+            drop(out);
+            Err(error)
+        }
+    }
+}
+
+// Adds the whole script, over the docket before any row.
+#[tactic(auto, unfolding(crate::specs::Script::script_text))]
+fn push_script(
+    alloc: Global,
+    out: &mut Script,
+    court: &Court,
+    labels: &Labels<'_>,
+    docket: &mut Docket,
+    rows: &[NumberedRow],
+) -> Result<(), AllocError>
+    requires { Holds (setup_of court.now) docket.old (opening_rows (setup_of court.now)) }
+    ensures { OnOk result (out.new ≡ out.old ++ script_text court.now labels.now rows.now) }
+{
+    push_front(out)?;
     push_tables(
-        &mut out,
+        out,
         labels,
         have_facts(rows),
         have_rulings(rows),
         have_assignments(rows),
         have_texts(rows),
     )?;
-    push_answers(alloc, &mut out, court, labels, &mut docket, rows)?;
-    push_docketed(alloc, &mut out, court, labels, &docket)?;
-    push_end(&mut out)?;
-    Ok(out.into_bytes())
+    push_answers(alloc, out, court, labels, docket, rows)?;
+    push_docketed(alloc, out, court, labels, docket)?;
+    push_end(out)
 }
 
 #[tactic(auto, unfolding(crate::specs::Script::transaction_front))]

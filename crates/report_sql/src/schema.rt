@@ -84,7 +84,7 @@ const MOTIONS: &str = "CREATE TABLE motions (
 const HEARINGS: &str = "CREATE TABLE hearings (
   case_number INTEGER NOT NULL,
   motion_number INTEGER NOT NULL,
-  room VARCHAR(32) NOT NULL,
+  room VARCHAR(128) NOT NULL,
   hearing_day DATE NOT NULL,
   begins TIME NOT NULL,
   minutes INTEGER NOT NULL CHECK (minutes > 0),
@@ -103,7 +103,7 @@ const PANELS: &str = "CREATE TABLE panels (
   case_number INTEGER NOT NULL,
   motion_number INTEGER NOT NULL,
   place INTEGER NOT NULL,
-  judge VARCHAR(32) NOT NULL,
+  judge VARCHAR(128) NOT NULL,
   PRIMARY KEY (case_number, motion_number, place),
   UNIQUE (case_number, motion_number, judge),
   FOREIGN KEY (case_number, motion_number) REFERENCES hearings (case_number, motion_number)
@@ -131,16 +131,17 @@ const CLOSINGS: &str = "CREATE TABLE closings (
 const ASSIGNMENTS: &str = "CREATE TABLE assignments (
   case_number INTEGER NOT NULL PRIMARY KEY REFERENCES cases (number),
   dated DATE NOT NULL,
-  judge VARCHAR(32) NOT NULL,
-  referred VARCHAR(32)
+  judge VARCHAR(128) NOT NULL,
+  referred VARCHAR(128)
 );
 ";
 
-// The deadlines that are due no more, and why.
+// The deadlines that are due no more, and why; of one that a motion suspends its number, or NULL where no row says it.
 const ENDINGS: &str = "CREATE TABLE endings (
   case_number INTEGER NOT NULL,
   deadline_number INTEGER NOT NULL,
   why VARCHAR(16) NOT NULL CHECK (why IN ('moot', 'vacated', 'stayed', 'suspended', 'withdrawn', 'case closed')),
+  motion_number INTEGER,
   PRIMARY KEY (case_number, deadline_number),
   FOREIGN KEY (case_number, deadline_number) REFERENCES deadlines (case_number, number)
 );

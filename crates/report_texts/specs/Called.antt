@@ -44,3 +44,7 @@ called_after labels case kind number = both_in_brackets (title_of labels.called 
 -- `    Doe v. Acme: answer of Acme`
 abbrev pub called_beneath : LabelsView → (case : ℕ) → Counted → (number : ℕ) → List ℕ
 called_beneath labels case kind number = both_beneath (title_of labels.called case) (label_of labels.called case kind number)
+
+-- `    Doe v. Acme`
+abbrev pub title_beneath : LabelsView → (case : ℕ) → List ℕ
+title_beneath labels case = beneath (title_of labels.called case)

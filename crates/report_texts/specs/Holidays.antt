@@ -1,20 +1,12 @@
 -- The names that a court's file gives to holidays.
-use Rattle.std.specs.Prelude.{ℕ, ◌==◌, ◌&&◌, ◌||◌, not, nat_eq, nat_lt, Bool, ℤ, List, [], ◌∷◌, ◌++◌, length, take, Option, Some, None, codes, if◌then◌else◌}
-use Rattle.std.specs.List.{ends_with, flat_map, list_all}
+use Rattle.std.specs.Prelude.{ℕ, nat_eq, ℤ, List, [], ◌∷◌, ◌++◌, take, Option, Some, None, codes, if◌then◌else◌}
+use Rattle.std.specs.List.{ends_with, flat_map}
 use Rattle.std.specs.Option.{option_and_then}
 use Rattle.toml.specs.Data.{Data, Members, no_members, member, as_str, as_table, get_member}
-use Rattle.court_file_text.specs.Words.{toml_of}
+use Rattle.court_file_text.specs.Words.{is_printed, toml_of}
 use Rattle.court_clock.specs.Words.{day_of_text}
 use Rattle.docket_rows.specs.Words.{most_dates}
 use Rattle.reason_texts.specs.Words.{NamedDay}
-
--- a byte of no ASCII control character
-abbrev pub is_printed_byte : ℕ → Bool
-is_printed_byte b = not (nat_lt b 32 || (b == 127))
-
--- a text that can be a name in a line: it isn't empty, and has no such character
-abbrev pub is_printed : List ℕ → Bool
-is_printed text = not (length text == 0) && list_all is_printed_byte text
 
 -- a day and its name, where there are both
 abbrev pub named_day : Option ℤ → Option (List ℕ) → List NamedDay

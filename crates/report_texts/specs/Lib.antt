@@ -1,4 +1,6 @@
 pub mod Called
+pub mod Case
+pub mod Csv
 pub mod Days
 pub mod Due
 pub mod Grid
@@ -7,6 +9,8 @@ pub mod Items
 pub mod Labels
 pub mod Names
 pub mod Other
+pub mod Pending
+pub mod PendingCsv
 pub mod Periods
 pub mod Selected
 pub mod Sheets

@@ -2,7 +2,7 @@
 
 ghost use Rattle.std.specs.Prelude.{OnOk};
 ghost use Rattle.office_texts.specs.Words.{AddsText};
-ghost use Rattle.report_texts.specs.Called.{after_colon, beneath, both_beneath, both_in_brackets, called_after, called_beneath, in_brackets, label_after, title_after};
+ghost use Rattle.report_texts.specs.Called.{after_colon, beneath, both_beneath, both_in_brackets, called_after, called_beneath, in_brackets, label_after, title_after, title_beneath};
 
 use crate::labels::Labels;
 use docket_rows::Counted;
@@ -117,4 +117,15 @@ pub(crate) fn push_called_beneath(
 {
     let title = labels.called.title_of(case);
     push_both_beneath(text, title, labels.called.label_of(case, counted, number))
+}
+
+/// Adds what a case is called as a line of its own, if a row says it. `Err` says that memory ran out.
+pub(crate) fn push_title_beneath(
+    text: &mut String,
+    labels: &Labels<'_>,
+    case: u32,
+) -> Result<(), AllocError>
+    ensures { OnOk result (AddsText text.old text.new (title_beneath labels.now case)) }
+{
+    push_beneath(text, labels.called.title_of(case))
 }

@@ -1,12 +1,12 @@
 //! The names that a court's file gives to holidays.
 
 ghost use Rattle.std.specs.Prelude.{◌≡◌, ◌++◌, ◌∷◌, [], take, IfOk, OnOk, option_map};
-ghost use Rattle.std.specs.List.{list_all};
 ghost use Rattle.toml.specs.View.{table_view, view};
 ghost use Rattle.docket_rows.specs.Words.{most_dates};
-ghost use Rattle.report_texts.specs.Holidays.{doubtful_among, doubtful_days, holiday_names, is_printed, is_printed_byte, named_among, named_by, named_in, table_of_names};
+ghost use Rattle.report_texts.specs.Holidays.{doubtful_among, doubtful_days, holiday_names, named_among, named_by, named_in, table_of_names};
 
 use court_clock::Day;
+use court_file_text::is_printed;
 use docket_rows::MOST_DATES;
 use reason_texts::HolidayName;
 use std::alloc::{AllocError, Global};
@@ -127,25 +127,4 @@ fn push_if_doubtful(doubtful: &mut Vec<Day>, day: Day, name: &str) -> Result<(),
         doubtful.push(day)?;
     }
     Ok(())
-}
-
-/// Whether a text can be a name in a line.
-fn is_printed(text: &str) -> bool
-    ensures { result ≡ is_printed text.now }
-{
-    !text.is_empty() && are_printed(text.as_bytes())
-}
-
-/// Whether no byte is that of a control character.
-fn are_printed(text: &[u8]) -> bool
-    ensures { result ≡ list_all is_printed_byte text.now }
-{
-    text.iter().all(|b| is_printed_byte(*b))
-}
-
-/// Whether a byte is that of no control character.
-fn is_printed_byte(b: u8) -> bool
-    ensures { result ≡ is_printed_byte b }
-{
-    b >= 32 && b != 127
 }

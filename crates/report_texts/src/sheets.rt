@@ -102,7 +102,7 @@ pub fn push_labelled_motion(
 }
 
 /// Adds the lines of each deadline.
-fn push_labelled_deadlines(
+pub(crate) fn push_labelled_deadlines(
     text: &mut String,
     clock: &Clock,
     labels: &Labels<'_>,
@@ -118,7 +118,7 @@ fn push_labelled_deadlines(
 }
 
 /// Adds the lines of each motion.
-fn push_labelled_motions(
+pub(crate) fn push_labelled_motions(
     text: &mut String,
     court: &Court,
     labels: &Labels<'_>,

@@ -3,4 +3,5 @@ mod WordLemmas
 mod LineLemmas
 pub mod NumberLemmas
 mod LawLemmas
+mod NamedLemmas
 pub mod CallerLemmas

@@ -16,9 +16,12 @@ pub use choices::{
     ruling_said, service_said, why_said,
 };
 pub use dates::{DateOrder, date_said};
-pub use laws::{no_other_reading, numbers_stay_whole, order_is_kept, places_follow_their_marks};
+pub use laws::{
+    codes_name_sections, no_other_reading, numbers_stay_whole, order_is_kept,
+    places_follow_their_marks,
+};
 pub use letters::{bare, folded};
 pub use line::{cut_line, place_in, separator_of, typed};
-pub use named::{NamedPeriod, RuleBook, fronts, named_periods, section_said};
+pub use named::{NamedPeriod, RuleBook, fronts, named_periods, section_said, text_coded};
 pub use said::Said;
 pub use times::time_said;

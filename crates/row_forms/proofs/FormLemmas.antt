@@ -74,17 +74,17 @@ counted form true r h = record { asks = λ work none. cc none }
 counted form false r h = h
 
 -- a row of `start` asks for a period that is counted
-pub start_is : (fields : List (List ℕ)) (work : Work) → start_row fields ≡ Ok work → (form_asking work ≡ Start) × (is_office_work work ≡ true)
-start_is fields work h = by (number_in fields 3) (measured_from fields 4) refl h
+pub start_is : (names : CourtNames) (fields : List (List ℕ)) (work : Work) → start_row names fields ≡ Ok work → (form_asking work ≡ Start) × (is_office_work work ≡ true)
+start_is names fields work h = by (number_in fields 3) (measured_from names fields 4) refl h
   where
-    by : (case : Result ℕ RowCause) (m : Result Measured RowCause) → measured_from fields 4 ≡ m
+    by : (case : Result ℕ RowCause) (m : Result Measured RowCause) → measured_from names fields 4 ≡ m
         → (case >>= (λ (n : ℕ). m >>= (λ (x : Measured). Ok (Command (command.Start n x.period x.event x.second x.service))))) ≡ Ok work
         → (form_asking work ≡ Start) × (is_office_work work ≡ true)
     by (Err cause) m same e = cc e
     by (Ok n) (Err cause) same e = cc e
     by (Ok n) (Ok x) same e =
         let is : Command (command.Start n x.period x.event x.second x.service) ≡ work = cc e in
-        let plain : is_set x.period ≡ false = measured_counted fields 4 x same in
+        let plain : is_set x.period ≡ false = measured_counted names fields 4 x same in
         let asks : form_asking (Command (command.Start n x.period x.event x.second x.service)) ≡ Start = rw plain refl in
         let office : is_office_work (Command (command.Start n x.period x.event x.second x.service)) ≡ true = rw plain refl in
         rw (← is) (asks, office)
@@ -131,7 +131,7 @@ reset_asks case deadline time event dated =
 form_asks : (names : CourtNames) (form : Form) (fields : List (List ℕ)) → Asks form (read_as names form fields)
 form_asks names Open fields = search (rules, counted, after, done) depth 12
 form_asks names Start fields =
-    counted Start (not (length fields == length (columns_of_form Start))) (start_row fields) (record { asks = λ work h. (start_is fields work h).0 })
+    counted Start (not (length fields == length (columns_of_form Start))) (start_row names fields) (record { asks = λ work h. (start_is names fields work h).0 })
 form_asks names Extend fields =
     counted Extend (not (length fields == length (columns_of_form Extend))) (extend_row fields) (record { asks = λ work h. (extend_is fields work h).0 })
 form_asks names Set fields = search (rules, counted, after, set_asks) depth 12

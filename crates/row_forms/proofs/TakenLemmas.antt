@@ -11,9 +11,9 @@ use Rattle.row_forms.specs.declared.headings.columns.Column.TheVariants.{TimeOrN
 use Rattle.row_forms.specs.declared.row.Row.{Row}
 use Rattle.row_forms.specs.declared.row.Work.{Work}
 use Rattle.row_forms.specs.Columns.{◌>>=◌, column, day_in, number_in}
-use Rattle.row_forms.specs.CourtNames.{CourtNames}
+use Rattle.row_forms.specs.CourtNames.{CourtNames, office_names}
 use Rattle.row_forms.specs.Fields.Choices.{kind_if_given}
-use Rattle.row_forms.specs.Fields.Times.{day_anew, day_if_given, minute_or_midnight}
+use Rattle.row_forms.specs.Fields.Times.{day_if_given, minute_or_midnight}
 use Rattle.row_forms.specs.Forms.{fields_as, office_work_of, work_as, work_of}
 use Rattle.row_forms.specs.Forms.Periods.{measured_from}
 use Rattle.row_forms.specs.Forms.Settings.{setting_in}
@@ -79,11 +79,11 @@ pub rows_follow_the_table_lem : RowsFollowTheTable
 unfolding row_of work_of office_row_of office_work_of
 rows_follow_the_table_lem = record {
   desk = λ clerks names fields. row_follows clerks names fields (form_of (column fields 2)) (λ known. known);
-  office = λ clerks names fields. row_follows clerks names fields (office_form_of (column fields 2)) (known_at_desk (column fields 2));
+  office = λ clerks names fields. row_follows clerks (office_names names) fields (office_form_of (column fields 2)) (known_at_desk (column fields 2));
 }
 
 pub empty_fields_are_taken_lem : EmptyFieldsAreTaken
-unfolding minute_or_midnight day_if_given kind_if_given day_anew
+unfolding minute_or_midnight day_if_given kind_if_given
 empty_fields_are_taken_lem TimeOrNone clerks names e = refl
 empty_fields_are_taken_lem SecondOrNone clerks names e = refl
 empty_fields_are_taken_lem ServiceOrNone clerks names e = refl

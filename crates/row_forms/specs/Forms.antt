@@ -27,8 +27,8 @@ use Rattle.row_forms.specs.Fields.Choices.{closing_of, counted_of, ending_of, is
 use Rattle.row_forms.specs.Fields.Grants.{grant_of, need_of, order_dated, reset_to}
 use Rattle.row_forms.specs.Fields.Period.{act_of}
 use Rattle.row_forms.specs.Fields.Texts.{text_length}
-use Rattle.row_forms.specs.Fields.Times.{day_anew, ending_minute, minute_or_midnight}
-use Rattle.row_forms.specs.CourtNames.{CourtNames, number_if_named, number_named}
+use Rattle.row_forms.specs.Fields.Times.{day_if_given, ending_minute, minute_or_midnight}
+use Rattle.row_forms.specs.CourtNames.{CourtNames, number_if_named, number_named, office_names}
 use Rattle.row_forms.specs.Forms.Periods.{measured_from}
 use Rattle.row_forms.specs.Forms.Settings.{setting_in}
 use Rattle.row_forms.specs.Forms.Table.{columns_of_form, form_of, office_form_of}
@@ -41,10 +41,10 @@ open_row fields = do
   Ok (Command (command.OpenCase case filed))
 
 -- a row of `start`
-abbrev pub start_row : List (List ℕ) → Result Work RowCause
-start_row fields = do
+abbrev pub start_row : CourtNames → List (List ℕ) → Result Work RowCause
+start_row names fields = do
   case ← number_in fields 3
-  m ← measured_from fields 4
+  m ← measured_from names fields 4
   Ok (Command (command.Start case m.period m.event m.second m.service))
 
 -- a row of `file`
@@ -101,9 +101,9 @@ inaccessible_row fields = do
   Ok (Command (command.Inaccessible day from to))
 
 -- a row of `compute`
-abbrev pub compute_row : List (List ℕ) → Result Work RowCause
-compute_row fields = do
-  m ← measured_from fields 3
+abbrev pub compute_row : CourtNames → List (List ℕ) → Result Work RowCause
+compute_row names fields = do
+  m ← measured_from names fields 3
   Ok (Query (query.Compute m.period m.event m.second m.service))
 
 -- a row of `calendar`: any text is read as one judge's name
@@ -149,14 +149,14 @@ end_row fields = do
   dated ← day_in fields 6
   Ok (Command (command.Fact case (Ended deadline why dated)))
 
--- a row of `resume`: a deadline that was ended is due again
+-- a row of `resume`: a deadline that was ended is due again, as before or anew from a day
 abbrev pub resume_row : List (List ℕ) → Result Work RowCause
 resume_row fields = do
   case ← number_in fields 3
   deadline ← number_in fields 4
-  _ ← in_column 5 (day_anew (column fields 5))
+  day ← in_column 5 (day_if_given (column fields 5))
   dated ← day_in fields 6
-  Ok (Command (command.Fact case (Resumed deadline dated)))
+  Ok (Command (command.Fact case (Resumed deadline day dated)))
 
 -- a row of `close`: a case is closed
 abbrev pub close_row : List (List ℕ) → Result Work RowCause
@@ -208,20 +208,20 @@ label_row fields = do
 -- what the fields of a row of this form ask for
 abbrev pub fields_as : CourtNames → Form → List (List ℕ) → Result Work RowCause
 fields_as names Open fields = open_row fields
-fields_as names Start fields = start_row fields
+fields_as names Start fields = start_row names fields
 fields_as names File fields = file_row fields
 fields_as names Extend fields = extend_row fields
 fields_as names Motion fields = motion_row fields
 fields_as names Book fields = do
-  setting ← setting_in names fields
+  setting ← setting_in names.judges names.rooms fields
   Ok (Command (command.Book setting))
 fields_as names Move fields = do
-  setting ← setting_in names fields
+  setting ← setting_in names.judges names.rooms fields
   Ok (Command (command.MoveHearing setting))
 fields_as names Cancel fields = cancel_row fields
 fields_as names Holiday fields = holiday_row fields
 fields_as names Inaccessible fields = inaccessible_row fields
-fields_as names Compute fields = compute_row fields
+fields_as names Compute fields = compute_row names fields
 fields_as names Sheet fields = do
   case ← number_in fields 3
   Ok (Query (query.Sheet case))
@@ -252,9 +252,9 @@ work_as names found fields = do
 unfoldable pub work_of : CourtNames → List (List ℕ) → Result Work RowCause
 work_of names fields = work_as names (form_of (column fields 2)) fields
 
--- what a row of clerk_office asks for
+-- what a row of clerk_office asks for, which names no period so
 unfoldable pub office_work_of : CourtNames → List (List ℕ) → Result Work RowCause
-office_work_of names fields = work_as names (office_form_of (column fields 2)) fields
+office_work_of names fields = work_as (office_names names) (office_form_of (column fields 2)) fields
 
 -- the form of the rows that ask for this
 abbrev pub form_asking : Work → Form
@@ -269,7 +269,7 @@ form_asking (Command (command.Cancel case motion)) = Cancel
 form_asking (Command (command.Holiday day list)) = Holiday
 form_asking (Command (command.Inaccessible day from to)) = Inaccessible
 form_asking (Command (command.Fact case (Ended deadline why dated))) = End
-form_asking (Command (command.Fact case (Resumed deadline dated))) = Resume
+form_asking (Command (command.Fact case (Resumed deadline day dated))) = Resume
 form_asking (Command (command.Fact case (Closed why dated))) = Close
 form_asking (Command (command.Fact case (Reopened dated))) = Reopen
 form_asking (Command (command.Fact case (Ruled motion how dated))) = Rule

@@ -10,14 +10,14 @@ use Rattle.row_forms.specs.declared.forms.table.Form.{Form}
 use Rattle.row_forms.specs.declared.headings.columns.Column.{Column}
 use Rattle.row_forms.specs.declared.headings.columns.Column.TheVariants.{Clerk, Command, Case, Deadline, Motion, Period, Date, Time, Start, TimeOrNone, SecondOrNone, ServiceOrNone, Means, Grant, ByMotion, Cause, Neglect, Need, Holidays, From, To, Judge, Judges, Room, Slots, Notice, Act, Why, Closing, ResumeDay, Ruling, JudgeOrNone, Dated, Title, Counted, Number, Label}
 use Rattle.row_forms.specs.Columns.{column}
-use Rattle.row_forms.specs.CourtNames.{CourtNames}
+use Rattle.row_forms.specs.CourtNames.{CourtNames, office_names}
 use Rattle.row_forms.specs.Fields.Choices.{closing_of, counted_of, ending_of, is_so, kind_if_given, list_of, means_of, ruling_of}
 use Rattle.row_forms.specs.Fields.Grants.{grant_of, need_of}
 use Rattle.row_forms.specs.Fields.Hearings.{panel_named, slots_of}
 use Rattle.row_forms.specs.Fields.Numbers.{number_of}
-use Rattle.row_forms.specs.Fields.Period.{act_of, period_of}
+use Rattle.row_forms.specs.Fields.Period.{act_of, period_in}
 use Rattle.row_forms.specs.Fields.Texts.{text_length}
-use Rattle.row_forms.specs.Fields.Times.{day_anew, day_if_given, ending_minute, minute_or_midnight, slot_at}
+use Rattle.row_forms.specs.Fields.Times.{day_if_given, ending_minute, minute_or_midnight, slot_at}
 use Rattle.row_forms.specs.Forms.Table.{columns_of_form, form_of, office_form_of}
 use Rattle.row_forms.specs.Headings.Columns.{mark_of, may_be_empty}
 use Rattle.row_forms.specs.Rows.{clerk_of, office_row_of, row_of}
@@ -29,7 +29,7 @@ takes clerks names Command field = is_some (form_of field)
 takes clerks names Case field = is_some (number_of field)
 takes clerks names Deadline field = is_some (number_of field)
 takes clerks names Motion field = is_some (number_of field)
-takes clerks names Period field = is_some (period_of field)
+takes clerks names Period field = is_some (period_in names field)
 takes clerks names Date field = is_some (day_of_text field)
 takes clerks names Time field = is_some (minute_of_text field)
 takes clerks names Start field = is_some (slot_at field)
@@ -54,7 +54,7 @@ takes clerks names Act field = is_some (act_of field)
 takes clerks names Dated field = is_some (day_of_text field)
 takes clerks names Why field = is_some (ending_of field)
 takes clerks names Closing field = is_some (closing_of field)
-takes clerks names ResumeDay field = is_some (day_anew field)
+takes clerks names ResumeDay field = is_some (day_if_given field)
 takes clerks names Ruling field = is_some (ruling_of field)
 takes clerks names JudgeOrNone field = true
 takes clerks names Title field = is_some (text_length field)
@@ -91,7 +91,7 @@ fault_of (Err cause) = Some cause
 -- A row is refused for what the table of forms says, and for nothing else: at the desk by its table, and by clerk_office by its own.
 pub record RowsFollowTheTable : Type 0 where
   pub desk : (clerks : ℕ) (names : CourtNames) (fields : List (List ℕ)) → fault_of (row_of clerks names fields) ≡ fault_by_table clerks names fields (form_of (column fields 2))
-  pub office : (clerks : ℕ) (names : CourtNames) (fields : List (List ℕ)) → fault_of (office_row_of clerks names fields) ≡ fault_by_table clerks names fields (office_form_of (column fields 2))
+  pub office : (clerks : ℕ) (names : CourtNames) (fields : List (List ℕ)) → fault_of (office_row_of clerks names fields) ≡ fault_by_table clerks (office_names names) fields (office_form_of (column fields 2))
 
 -- A column whose field may be empty takes an empty field.
 abbrev pub EmptyFieldsAreTaken : Type 0

@@ -1,12 +1,13 @@
 -- The words of clauses and definitions, for the crates above, from one place.
-pub use Rattle.row_forms.specs.CourtNames.{CourtNames, names_of}
+pub use Rattle.row_forms.specs.CourtNames.{CourtNames, names_if, names_of, office_names}
 unfoldable pub use Rattle.row_forms.specs.CourtNames.{number_if_named, number_named}
 pub use Rattle.row_forms.specs.Fields.Numbers.{is_number}
 unfoldable pub use Rattle.row_forms.specs.Fields.Numbers.{count_of, number_of}
-unfoldable pub use Rattle.row_forms.specs.Fields.Period.{length_of, entered_of, period_of}
-pub use Rattle.row_forms.specs.Fields.Period.{CodesAreReadBack}
+unfoldable pub use Rattle.row_forms.specs.Fields.Period.{length_of, entered_of, period_coded, period_in, period_of}
+pub use Rattle.row_forms.specs.Fields.Period.{CodesAreReadBack, SectionCodesAreNew, period_entered, text_meant}
 unfoldable pub use Rattle.row_forms.specs.Fields.Times.{day_if_given, ending_minute, minute_or_midnight, slot_at}
 unfoldable pub use Rattle.row_forms.specs.Fields.Choices.{closing_of, counted_of, ending_of, is_so, kind_if_given, kind_of, list_of, means_of, ruling_of}
+pub use Rattle.row_forms.specs.Fields.Texts.{is_text}
 unfoldable pub use Rattle.row_forms.specs.Fields.Texts.{text_length}
 unfoldable pub use Rattle.row_forms.specs.Fields.Grants.{grant_of, need_of}
 pub use Rattle.row_forms.specs.Fields.Hearings.{joined_names}

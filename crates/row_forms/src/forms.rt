@@ -3,7 +3,7 @@
 ghost use Rattle.std.specs.Prelude.{◌≡◌};
 ghost use Rattle.csv.specs.Records.{fields_of};
 ghost use Rattle.row_forms.specs.Forms.{assign_row, calendar_row, cancel_row, close_row, compute_row, end_row, extend_row, file_row, holiday_row, inaccessible_row, label_row, motion_row, open_row, read_as, reopen_row, reset_row, resume_row, rule_row, set_length, set_row, set_to, start_row, title_row, work_as};
-ghost use Rattle.row_forms.specs.CourtNames.{names_of};
+ghost use Rattle.row_forms.specs.CourtNames.{names_if, names_of};
 
 use crate::columns::{column, day_in, number_in};
 use crate::fault::RowCause;
@@ -14,7 +14,7 @@ use crate::fields::grants::{grant_of, need_of, order_dated, reset_to};
 use crate::fields::hearings::{judge_if_named, judge_named};
 use crate::fields::period::act_of;
 use crate::fields::texts::text_length;
-use crate::fields::times::{day_anew, ending_minute, minute_or_midnight};
+use crate::fields::times::{day_if_given, ending_minute, minute_or_midnight};
 use crate::row::Work;
 use court_clock::{Direction, minute_from_text};
 use court_days::Court;
@@ -33,25 +33,36 @@ mod table;
 pub use table::{COMMANDS, columns_of, commands, commands_listed};
 pub(crate) use table::{Form, form_of, office_form_of};
 
-/// What a row of that court asks for whose command word names this form, if it names one.
+/// What a row of that court asks for whose command word names this form, if it names one. Its period may be named by the code of a
+/// section, or by the court, where such names are taken.
 #[tactic(auto, unfolding(crate::specs::Forms::work_as))]
-pub fn work_as(court: &Court, found: Option<Form>, fields: &StringRecord) -> Result<Work, RowCause>
-    ensures { result ≡ work_as (names_of court.now) found (fields_of fields.now) }
+pub fn work_as(
+    court: &Court,
+    coded: bool,
+    found: Option<Form>,
+    fields: &StringRecord,
+) -> Result<Work, RowCause>
+    ensures { result ≡ work_as (names_if coded (names_of court.now)) found (fields_of fields.now) }
 {
     let form = found.ok_or(RowCause::UnknownCommand)?;
-    read_as(court, form, fields)
+    read_as(court, coded, form, fields)
 }
 
 // What a row of that form asks for.
-fn read_as(court: &Court, form: Form, fields: &StringRecord) -> Result<Work, RowCause>
-    ensures { result ≡ read_as (names_of court.now) form (fields_of fields.now) }
+fn read_as(
+    court: &Court,
+    coded: bool,
+    form: Form,
+    fields: &StringRecord,
+) -> Result<Work, RowCause>
+    ensures { result ≡ read_as (names_if coded (names_of court.now)) form (fields_of fields.now) }
 {
     if fields.len() != columns_of_form(form).len() {
         return Err(RowCause::WrongCount);
     }
     match form {
         Form::Open => open_row(fields),
-        Form::Start => start_row(fields),
+        Form::Start => start_row(court, coded, fields),
         Form::File => file_row(fields),
         Form::Extend => extend_row(fields),
         Form::Motion => motion_row(fields),
@@ -60,7 +71,7 @@ fn read_as(court: &Court, form: Form, fields: &StringRecord) -> Result<Work, Row
         Form::Cancel => cancel_row(fields),
         Form::Holiday => holiday_row(fields),
         Form::Inaccessible => inaccessible_row(fields),
-        Form::Compute => compute_row(fields),
+        Form::Compute => compute_row(court, coded, fields),
         Form::Sheet => Ok(Work::Query(Query::Sheet(number_in(fields, 3)?))),
         Form::Calendar => calendar_row(court, fields),
         Form::Set => set_row(fields),
@@ -84,11 +95,11 @@ fn open_row(fields: &StringRecord) -> Result<Work, RowCause>
     Ok(Work::Command(Command::OpenCase { case, filed }))
 }
 
-fn start_row(fields: &StringRecord) -> Result<Work, RowCause>
-    ensures { result ≡ start_row (fields_of fields.now) }
+fn start_row(court: &Court, coded: bool, fields: &StringRecord) -> Result<Work, RowCause>
+    ensures { result ≡ start_row (names_if coded (names_of court.now)) (fields_of fields.now) }
 {
     let case = number_in(fields, 3)?;
-    let measured = measured_from(fields, 4)?;
+    let measured = measured_from(court, coded, fields, 4)?;
     Ok(Work::Command(Command::Start {
         case,
         period: measured.period,
@@ -171,10 +182,10 @@ fn inaccessible_row(fields: &StringRecord) -> Result<Work, RowCause>
     Ok(Work::Command(Command::Inaccessible { day, from, to }))
 }
 
-fn compute_row(fields: &StringRecord) -> Result<Work, RowCause>
-    ensures { result ≡ compute_row (fields_of fields.now) }
+fn compute_row(court: &Court, coded: bool, fields: &StringRecord) -> Result<Work, RowCause>
+    ensures { result ≡ compute_row (names_if coded (names_of court.now)) (fields_of fields.now) }
 {
-    let measured = measured_from(fields, 3)?;
+    let measured = measured_from(court, coded, fields, 3)?;
     Ok(Work::Query(Query::Compute(
         measured.period,
         measured.event,
@@ -267,15 +278,19 @@ fn end_row(fields: &StringRecord) -> Result<Work, RowCause>
     Ok(Work::Command(Command::Fact { case, fact }))
 }
 
-// A deadline that was ended is due again.
+// A deadline that was ended is due again, as before or anew from a day.
 fn resume_row(fields: &StringRecord) -> Result<Work, RowCause>
     ensures { result ≡ resume_row (fields_of fields.now) }
 {
     let case = number_in(fields, 3)?;
     let deadline = number_in(fields, 4)?;
-    day_anew(column(fields, 5)).ok_or(RowCause::BadField(5))?;
+    let from = day_if_given(column(fields, 5)).ok_or(RowCause::BadField(5))?;
     let dated = day_in(fields, 6)?;
-    let fact = Fact::Resumed { deadline, dated };
+    let fact = Fact::Resumed {
+        deadline,
+        from,
+        dated,
+    };
     Ok(Work::Command(Command::Fact { case, fact }))
 }
 

@@ -1,7 +1,7 @@
 //! What the definitions of rows mean.
 
 ghost use Rattle.row_forms.specs.Bounds.{RowsAreBounded};
-ghost use Rattle.row_forms.specs.Fields.Period.{CodesAreReadBack};
+ghost use Rattle.row_forms.specs.Fields.Period.{CodesAreReadBack, SectionCodesAreNew};
 ghost use Rattle.row_forms.specs.FirstFault.{FirstFaultIsTold};
 ghost use Rattle.row_forms.specs.Forms.{RowsAskByTheirWords};
 ghost use Rattle.row_forms.specs.Forms.Table.{CommandWordsNameForms};
@@ -57,6 +57,12 @@ pub fn codes_are_read_back()
 {
     codes_name_periods();
 }
+
+/// No section's code is that of a period of the Rules, or a period that is entered, so it is read as its section's period.
+#[tactic(auto, using(crate::proofs::PeriodLemmas::section_codes_are_new_lem))]
+pub fn section_codes_are_new()
+    ensures { SectionCodesAreNew }
+{}
 
 /// Either each record spells the row of its place, or the fault is that of the first record that spells none.
 #[tactic(auto, using(crate::proofs::FaultLemmas::first_fault_is_told_lem))]

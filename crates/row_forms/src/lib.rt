@@ -15,11 +15,13 @@ mod row;
 pub use columns::column;
 pub use fault::{RowCause, RowError};
 pub use fields::numbers::is_number;
+pub use fields::texts::is_text;
 pub use forms::{COMMANDS, columns_of, commands, commands_listed};
 pub use headings::{Column, column_at, mark_of, may_be_empty, name_of};
 pub use laws::{
     codes_are_read_back, command_words_name_forms, empty_fields_are_taken, first_fault_is_told,
     office_rows_are_read_alike, rows_are_bounded, rows_ask_by_their_words, rows_follow_the_table,
+    section_codes_are_new,
 };
 pub use line::{Line, push_row_text, read_clerk, read_line};
 pub use numbered::{NumberedRow, numbered_rows};

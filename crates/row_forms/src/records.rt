@@ -7,7 +7,7 @@ ghost use Rattle.csv.specs.Reading.{default_config, records, strip_bom};
 ghost use Rattle.csv.specs.Records.{fields_of};
 ghost use Rattle.row_forms.specs.Forms.{work_as};
 ghost use Rattle.row_forms.specs.Rows.{AnswersRow, AnswersRows, clerk_of, office_row_of, row_asking, row_of, rows_read_from, rows_read};
-ghost use Rattle.row_forms.specs.CourtNames.{names_of};
+ghost use Rattle.row_forms.specs.CourtNames.{names_if, names_of};
 ghost use Rattle.row_forms.specs.Records.{TakesAnyRow, TakesText, MeetsNoText, records_left};
 
 use crate::columns::column;
@@ -101,33 +101,35 @@ pub fn row_of(clerks: u8, court: &Court, fields: &StringRecord) -> Result<Row, R
     requires { list_all is_utf8 (fields_of fields.now) ≡ true }
     ensures { result ≡ row_of clerks (names_of court.now) (fields_of fields.now) }
 {
-    row_as(clerks, court, form_of(column(fields, 2)), fields)
+    row_as(clerks, court, true, form_of(column(fields, 2)), fields)
 }
 
-// The same in the forms of clerk_office.
+// The same in the forms of clerk_office, which takes no such names of periods.
 #[tactic(auto, unfolding(crate::specs::Rows::office_row_of, crate::specs::Forms::office_work_of))]
 fn office_row_of(clerks: u8, court: &Court, fields: &StringRecord) -> Result<Row, RowCause>
     requires { list_all is_utf8 (fields_of fields.now) ≡ true }
     ensures { result ≡ office_row_of clerks (names_of court.now) (fields_of fields.now) }
 {
-    row_as(clerks, court, office_form_of(column(fields, 2)), fields)
+    row_as(clerks, court, false, office_form_of(column(fields, 2)), fields)
 }
 
-// The row that a record spells whose command word names this form, if it names one.
+// The row that a record spells whose command word names this form, if it names one. Its period may be named by the code of a section
+// or by the court where such names are taken.
 fn row_as(
     clerks: u8,
     court: &Court,
+    coded: bool,
     found: Option<Form>,
     fields: &StringRecord,
 ) -> Result<Row, RowCause>
     requires { list_all is_utf8 (fields_of fields.now) ≡ true }
-    ensures { result ≡ row_asking clerks (work_as (names_of court.now) found (fields_of fields.now)) (fields_of fields.now) }
+    ensures { result ≡ row_asking clerks (work_as (names_if coded (names_of court.now)) found (fields_of fields.now)) (fields_of fields.now) }
 {
     if fields.len() < 2 {
         return Err(RowCause::WrongCount);
     }
     let clerk = clerk_of(clerks, column(fields, 1)).ok_or(RowCause::BadClerk)?;
-    let work = work_as(court, found, fields)?;
+    let work = work_as(court, coded, found, fields)?;
     Ok(Row { clerk, work })
 }
 

@@ -1,2 +1,4 @@
+pub mod LineRows
+pub mod Triggers
 pub mod Reading
 pub mod Words

@@ -129,9 +129,13 @@ pub(crate) fn advice(
 ) -> Result<String, AllocError> {
     let found = fault.value.as_str();
     match fault.flaw {
-        Flaw::Unknown(Column::Date | Column::SecondOrNone | Column::Notice | Column::Grant) => {
-            for_date(alloc, order, found)
-        }
+        Flaw::Unknown(
+            Column::Date
+            | Column::SecondOrNone
+            | Column::ResumeDay
+            | Column::Notice
+            | Column::Grant,
+        ) => for_date(alloc, order, found),
         Flaw::Unknown(Column::Time | Column::Start) => for_time(alloc, found),
         Flaw::Unknown(
             Column::Clerk

@@ -3,12 +3,14 @@
 
 mod advice;
 mod later;
+mod line_rows;
 mod nearest;
 mod objects;
 mod periods;
 mod reading;
 mod report;
 mod shown;
+mod triggers;
 mod wording;
 
 pub use later::json_of_said;

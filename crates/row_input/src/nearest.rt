@@ -1,6 +1,6 @@
 //! The known word that is nearest to what was found.
 
-use crate::periods::{CODES, is_section, number_cited};
+use crate::periods::{CODES, all_codes, is_section, number_cited};
 use court_days::Court;
 use row_fields::{cut_line, folded};
 use row_forms::{COMMANDS, Column};
@@ -73,13 +73,30 @@ fn nearest_judge(alloc: Global, court: &Court, panel: &str) -> Result<Option<Str
     Ok(None)
 }
 
-/// The code of a period that is nearest to a folded word, unless that cites a section that sets another period.
+/// The code of a period of the Rules that is nearest to a folded word, unless that cites a section that sets another period.
 fn nearest_code(alloc: Global, word: &str) -> Result<Option<String>, AllocError> {
     if is_section(alloc, word)? {
         Ok(None)
     } else {
         nearest_of(alloc, number_cited(word), &CODES)
     }
+}
+
+/// The code of a period, of the Rules or of a section whose period is entered, or the court's name for one, that is nearest to a folded
+/// word, likewise.
+fn nearest_period(
+    alloc: Global,
+    court: &Court,
+    word: &str,
+) -> Result<Option<String>, AllocError> {
+    if is_section(alloc, word)? {
+        return Ok(None);
+    }
+    let mut known = all_codes(alloc)?;
+    for period in court.periods() {
+        known.push(period.name())?;
+    }
+    nearest_of(alloc, number_cited(word), &known)
 }
 
 /// The known word that is nearest to what was found in a column, which is this word when it is folded.
@@ -96,7 +113,8 @@ fn nearest_in(
             let names = rooms_of(alloc, court)?;
             nearest_of(alloc, word, &names)
         }
-        Column::Period | Column::Deadline => nearest_code(alloc, word),
+        Column::Period => nearest_period(alloc, court, word),
+        Column::Deadline => nearest_code(alloc, word),
         Column::Motion => nearest_of(alloc, word, &["last"]),
         Column::ServiceOrNone => nearest_of(
             alloc,

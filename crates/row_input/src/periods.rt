@@ -17,6 +17,23 @@ pub(crate) const CODES: [&str; 10] = [
     "59e",
 ];
 
+/// Rule 60(b) and (c), whose time is a year for some of its motions.
+const OF_A_YEAR: [&str; 6] = ["60b", "60b1", "60b2", "60b3", "60c", "60c1"];
+
+/// The codes of periods, and of sections that set one which is entered.
+pub(crate) fn all_codes<'a>(alloc: Global) -> Result<Vec<&'a str>, AllocError> {
+    let mut codes = Vec::new(alloc);
+    for code in &CODES {
+        codes.push(*code)?;
+    }
+    for period in named_periods() {
+        if let Some(code) = period.code {
+            codes.push(code)?;
+        }
+    }
+    Ok(codes)
+}
+
 /// How many texts of entered periods are listed at most.
 const MOST_LISTED: usize = 3;
 
@@ -115,6 +132,12 @@ fn said_of(alloc: Global, listed: String, count: usize) -> Result<String, AllocE
 /// How the periods are entered that parts of the section set which a folded word cites; empty where there are none.
 pub(crate) fn parts_entered(alloc: Global, word: &str) -> Result<String, AllocError> {
     let number = number_cited(word);
+    if OF_A_YEAR.iter().any(|year| *year == number) {
+        return String::from_str(
+            alloc,
+            "Rule 60(c)(1) sets a year, which is no unit: docs/law/RULES.md says how it is entered",
+        );
+    }
     if !names_a_part(number) || begins_a_code(alloc, number)? {
         return Ok(String::new(alloc));
     }

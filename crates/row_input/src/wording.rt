@@ -10,8 +10,8 @@ fn held(column: Column) -> &'static str {
         Column::Command => "a command word",
         Column::Case => "a number, as 7, or a case number, as 1:25-cv-01234",
         Column::Deadline =>
-            "a deadline's number, as 1, or the rule of one that is pending, as 59(e)",
-        Column::Motion => "a motion's number, as 1, or last for the newest",
+            "a deadline's number, as 1, the rule of one that is pending, as 59(e), or what it is called",
+        Column::Motion => "a motion's number, as 1, last for the newest, or what it is called",
         Column::Period => "a period, as 59(e) or 14d/after/filing/event/plain",
         Column::Date => "a date, as 2025-09-02",
         Column::Time | Column::Start | Column::From => "a time of day, as 09:30 or 9:30 AM",
@@ -33,15 +33,15 @@ fn held(column: Column) -> &'static str {
         Column::Notice => "the day on which notice was served, as 2025-09-02",
         Column::Act => "filing or service",
         Column::Dated => "the day of the order, as 2025-09-02",
-        Column::Why => "moot, vacated, stayed, suspended or withdrawn",
+        Column::Why => "moot, vacated, stayed, suspended, suspended:3 or withdrawn",
         Column::Closing => "dismissed, judgment, settled, transferred, remanded or otherwise",
-        Column::ResumeDay => "nothing, since the deadline has its days as before",
+        Column::ResumeDay => "the day from which it runs anew, as 2025-09-02, or nothing",
         Column::Ruling => "granted, denied, in part, moot, withdrawn or reserved",
         Column::JudgeOrNone => "a judge of the court's file, or nothing",
         Column::Title =>
             "what the case is called, in ASCII and without ?; a plain row takes other letters",
         Column::Counted => "deadline or motion",
-        Column::Number => "the number of a deadline or a motion, as 1",
+        Column::Number => "the number of a deadline or a motion, as 1, or what it is called",
         Column::Label =>
             "what it is called, in ASCII and without ?; a plain row takes other letters",
     }

@@ -15,7 +15,8 @@ use Rattle.row_fields.specs.Words.{bare, date_said, folded, numbers_in, rule_sai
 use Rattle.row_fields.specs.Choices.{one_rule_said}
 use Rattle.row_fields.proofs.CallerLemmas.{numbers_stay_whole_lem}
 use Rattle.row_forms.specs.declared.headings.columns.Column.TheVariants.{Case, Period, Need}
-use Rattle.row_written.specs.Fields.{clear_if, deadline_said, field_said, filled_said, grant_said, is_quarters, motion_said, number_said, period_said, shown_said, slots_said, word_said}
+use Rattle.row_written.specs.Fields.{field_said, filled_said, grant_said, is_quarters, or_own, period_said, slots_said, word_said}
+use Rattle.row_written.specs.Subjects.{clear_if, deadline_said, has_mark, label_said, may_be_label, motion_said, number_or_label, number_said, rule_or_label, shown_said, text_said}
 use Rattle.row_written.specs.Laws.{LengthsKeepTheirNumbers, NumbersAreTheirFields}
 
 same_text : (a b : List ℕ) → ◌≡◌ {A = Said (List ℕ)} (Clear a) (Clear b) → a ≡ b
@@ -85,15 +86,33 @@ rule_none : (word number : List ℕ) → rule_said word ≡ Clear number → is_
 unfolding rule_said
 rule_none word number = two_rules_none _ _ _ number (one_rule_said word) (one_rule_none word number)
 
-deadline_is : (text number : List ℕ) (so : Bool) → either so (Clear text) (rule_said (folded text)) ≡ Clear number → is_number number ≡ true → number ≡ text
-deadline_is text number true said digits = sym (same_text text number said)
-deadline_is text number false said digits = absurd (rule_none (folded text) number said digits)
+-- what is said to be what something is called is the field
+text_is : (text number : List ℕ) (so : Bool) → either so Unknown (Clear text) ≡ Clear number → number ≡ text
+text_is text number true said = cc said
+text_is text number false said = sym (same_text text number said)
 
-motion_is : (text number : List ℕ) (so : Bool) → either so (Clear (codes "last")) (number_said text) ≡ Clear number → is_number number ≡ true → number ≡ text
+label_is : (text number : List ℕ) (so : Bool) → either so (text_said text) Unknown ≡ Clear number → number ≡ text
+label_is text number true said = text_is text number (has_mark text) said
+label_is text number false said = cc said
+
+rule_is : (text number : List ℕ) (rule : Said (List ℕ)) → (rule ≡ Clear number → is_number number ≡ true → ⊥) → rule_or_label rule text ≡ Clear number → is_number number ≡ true → number ≡ text
+rule_is text number Unknown none said digits = label_is text number (may_be_label text) said
+rule_is text number (Clear code) none said digits = absurd (none said digits)
+rule_is text number (Unclear one other) none said digits = cc said
+
+deadline_is : (text number : List ℕ) (so : Bool) → either so (Clear text) (rule_or_label (rule_said (folded text)) text) ≡ Clear number → is_number number ≡ true → number ≡ text
+deadline_is text number true said digits = sym (same_text text number said)
+deadline_is text number false said digits = rule_is text number (rule_said (folded text)) (rule_none (folded text) number) said digits
+
+number_is : (text number : List ℕ) (so : Bool) → either so (Clear text) (label_said text) ≡ Clear number → number ≡ text
+number_is text number true said = sym (same_text text number said)
+number_is text number false said = label_is text number (may_be_label text) said
+
+motion_is : (text number : List ℕ) (so : Bool) → either so (Clear (codes "last")) (number_or_label text) ≡ Clear number → is_number number ≡ true → number ≡ text
 motion_is text number true said digits =
     let none : is_number (codes "last") ≡ true = ap is_number (same_text (codes "last") number said) ∙ digits in
     cc none
-motion_is text number false said digits = said_if (is_number text) text number said
+motion_is text number false said digits = number_is text number (is_number text) said
 
 pub numbers_are_their_fields_lem : NumbersAreTheirFields
 unfolding field_said
@@ -119,6 +138,6 @@ pub lengths_keep_their_numbers_lem : LengthsKeepTheirNumbers
 unfolding field_said
 lengths_keep_their_numbers_lem names order text plain = record {
   slots = λ said. slots_are text plain (is_number text) (not_empty (length text == 0) (slots_said text) (Clear plain) said);
-  entered = λ so said. bare_is text plain (list_any (λ b. nat_eq b 47) text) (word_said Period text) so (not_empty (length text == 0) (period_said text) (Clear plain) said);
+  entered = λ so said. bare_is text plain (list_any (λ b. nat_eq b 47) text) (or_own names.periods text (word_said Period text)) so (not_empty (length text == 0) (period_said names text) (Clear plain) said);
   extended = λ so said. bare_is text plain (starts_with nat_eq (bare text) (codes "+")) (said_map day_text (date_said order text)) so (not_empty (length text == 0) (grant_said order text) (Clear plain) said);
 }

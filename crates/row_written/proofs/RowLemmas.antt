@@ -7,6 +7,7 @@ use Rattle.std.specs.Str.{bytes_eq}
 use Rattle.std.proofs.lemmas.List.{drop_all, drop_more}
 use Rattle.std.proofs.lemmas.Option.{unwrap_or-slice_get}
 use Rattle.csv.specs.Records.{field_at}
+use Rattle.court_file_text.specs.Words.{NamedTextView}
 use Rattle.row_fields.specs.declared.said.Said.{Said}
 use Rattle.row_fields.specs.declared.said.Said.TheVariants.{Unknown, Clear, Unclear}
 use Rattle.row_forms.specs.Words.{CourtNames}
@@ -143,23 +144,23 @@ pub faults_said : (old new : List FieldFault) (text : List ℕ) (column : Column
 faults_said old new text column p q v w s t is place value said = rw (← place, ← value, ← said) is
 
 -- the names of a panel
-module _ (judges pieces : List (List ℕ)) (names : List ℕ) (i : ℕ) (all : Said (List ℕ)) (whole : names_after judges names (drop i pieces) ≡ all) (there : i < length pieces) where
-  one_piece : when_meant (name_said judges (word_at pieces i)) (λ name. names_after judges (with_name names name) (drop (i + 1) pieces)) ≡ all
+module _ (shorts : List NamedTextView) (judges pieces : List (List ℕ)) (names : List ℕ) (i : ℕ) (all : Said (List ℕ)) (whole : names_after shorts judges names (drop i pieces) ≡ all) (there : i < length pieces) where
+  one_piece : when_meant (name_said shorts judges (word_at pieces i)) (λ name. names_after shorts judges (with_name names name) (drop (i + 1) pieces)) ≡ all
   unfolding names_after
-  one_piece = sym (ap (names_after judges names) (next_word pieces i there)) ∙ whole
+  one_piece = sym (ap (names_after shorts judges names) (next_word pieces i there)) ∙ whole
 
-  pub piece_clear : (name : List ℕ) → Clear name ≡ name_said judges (word_at pieces i) → names_after judges (with_name names name) (drop (i + 1) pieces) ≡ all
-  piece_clear name is = ap (λ (s : Said (List ℕ)). when_meant s (λ n. names_after judges (with_name names n) (drop (i + 1) pieces))) is ∙ one_piece
+  pub piece_clear : (name : List ℕ) → Clear name ≡ name_said shorts judges (word_at pieces i) → names_after shorts judges (with_name names name) (drop (i + 1) pieces) ≡ all
+  piece_clear name is = ap (λ (s : Said (List ℕ)). when_meant s (λ n. names_after shorts judges (with_name names n) (drop (i + 1) pieces))) is ∙ one_piece
 
-  pub piece_unknown : Unknown ≡ name_said judges (word_at pieces i) → Unknown ≡ all
-  piece_unknown is = ap (λ (s : Said (List ℕ)). when_meant s (λ n. names_after judges (with_name names n) (drop (i + 1) pieces))) is ∙ one_piece
+  pub piece_unknown : Unknown ≡ name_said shorts judges (word_at pieces i) → Unknown ≡ all
+  piece_unknown is = ap (λ (s : Said (List ℕ)). when_meant s (λ n. names_after shorts judges (with_name names n) (drop (i + 1) pieces))) is ∙ one_piece
 
-  pub piece_unclear : (one other : List ℕ) → Unclear one other ≡ name_said judges (word_at pieces i) → Unclear one other ≡ all
-  piece_unclear one other is = ap (λ (s : Said (List ℕ)). when_meant s (λ n. names_after judges (with_name names n) (drop (i + 1) pieces))) is ∙ one_piece
+  pub piece_unclear : (one other : List ℕ) → Unclear one other ≡ name_said shorts judges (word_at pieces i) → Unclear one other ≡ all
+  piece_unclear one other is = ap (λ (s : Said (List ℕ)). when_meant s (λ n. names_after shorts judges (with_name names n) (drop (i + 1) pieces))) is ∙ one_piece
 
-pub pieces_past : (judges pieces : List (List ℕ)) (names : List ℕ) (i : ℕ) (all : Said (List ℕ)) → names_after judges names (drop i pieces) ≡ all → length pieces ≤ i → Clear names ≡ all
+pub pieces_past : (shorts : List NamedTextView) (judges pieces : List (List ℕ)) (names : List ℕ) (i : ℕ) (all : Said (List ℕ)) → names_after shorts judges names (drop i pieces) ≡ all → length pieces ≤ i → Clear names ≡ all
 unfolding names_after
-pieces_past judges pieces names i all whole past = sym (ap (names_after judges names) (drop_all i pieces past)) ∙ whole
+pieces_past shorts judges pieces names i all whole past = sym (ap (names_after shorts judges names) (drop_all i pieces past)) ∙ whole
 
 -- a text is filled where it isn't empty
 pub filled_test : (text : List ℕ) → is_filled text ≡ not (length text == 0)

@@ -1,49 +1,19 @@
 -- What a field says, by what its column holds, as a plain row writes it.
 use Rattle.std.specs.Prelude.{ℕ, ◌-◌, ◌==◌, ◌&&◌, nat_eq, Bool, true, false, List, [], codes, length, take, Option, Some, None, if◌then◌else◌}
 use Rattle.std.specs.List.{ends_with, list_any, starts_with}
+use Rattle.std.specs.Option.{is_some}
 use Rattle.std.specs.Str.{bytes_eq}
-use Rattle.case_numbers.specs.Words.{NameView, case_read}
 use Rattle.court_clock.specs.Words.{day_text, minute_text}
+use Rattle.court_file_text.specs.Words.{NamedTextView, text_named}
 use Rattle.row_forms.specs.Words.{CourtNames, is_number}
 use Rattle.row_fields.specs.declared.said.Said.{Said}
-use Rattle.row_fields.specs.declared.said.Said.TheVariants.{Unknown, Clear}
+use Rattle.row_fields.specs.declared.said.Said.TheVariants.{Unknown, Clear, Unclear}
 use Rattle.row_fields.specs.declared.dates.DateOrder.{DateOrder}
-use Rattle.row_fields.specs.Words.{act_said, answer_said, bare, closing_said, counted_said, date_said, folded, list_said, means_said, rule_said, ruling_said, said_map, section_said, service_said, time_said, why_said}
+use Rattle.row_fields.specs.Words.{act_said, answer_said, bare, closing_said, counted_said, date_said, folded, list_said, means_said, ruling_said, said_map, section_said, service_said, time_said, why_said}
 use Rattle.row_forms.specs.declared.headings.columns.Column.{Column}
 use Rattle.row_forms.specs.declared.headings.columns.Column.TheVariants.{Clerk, Command, Case, Deadline, Motion, Period, Date, Time, Start, TimeOrNone, SecondOrNone, ServiceOrNone, Means, Grant, ByMotion, Cause, Neglect, Need, Holidays, From, To, Judge, Judges, Room, Slots, Notice, Act, Why, Closing, ResumeDay, Ruling, JudgeOrNone, Dated, Title, Counted, Number, Label}
 use Rattle.row_written.specs.Names.{name_said, panel_said}
-
--- this, where it is so, and else nothing that is known
-abbrev pub clear_if : Bool → List ℕ → Said (List ℕ)
-clear_if so text = if so then Clear text else Unknown
-
--- a number: the field as it is
-abbrev pub number_said : List ℕ → Said (List ℕ)
-number_said text = clear_if (is_number text) text
-
--- What something is called: the field as it is. It has no question mark, which may stand for a letter that plain keys don't type.
-abbrev pub has_mark : List ℕ → Bool
-has_mark text = list_any (λ b. b == 63) text
-
-abbrev pub text_said : List ℕ → Said (List ℕ)
-text_said text = if has_mark text then Unknown else Clear text
-
--- a deadline: its number, or a Rule's number
-abbrev pub deadline_said : List ℕ → Said (List ℕ)
-deadline_said text = if is_number text then Clear text else rule_said (folded text)
-
--- a motion: its number, or the last
-abbrev pub motion_said : List ℕ → Said (List ℕ)
-motion_said text = if bytes_eq (folded text) (codes "last") then Clear (codes "last") else number_said text
-
--- a case number as it is shown
-abbrev pub shown_said : Option NameView → Said (List ℕ)
-shown_said None = Unknown
-shown_said (Some name) = Clear name.shown
-
--- a case: its number, or its case number as the court writes it
-abbrev pub case_said : List ℕ → Said (List ℕ)
-case_said text = if is_number text then Clear text else shown_said (case_read (bare text))
+use Rattle.row_written.specs.Subjects.{case_said, clear_if, deadline_said, motion_said, number_or_label, number_said, text_said}
 
 -- a number of quarter hours, before a `q`
 abbrev pub is_quarters : List ℕ → Bool
@@ -80,9 +50,20 @@ word_in _ word = section_said word
 abbrev pub word_said : Column → List ℕ → Said (List ℕ)
 word_said column text = word_in column (folded text)
 
--- a period: the number of a section of the Rules or of a statute, or one with slashes, which a court enters
-abbrev pub period_said : List ℕ → Said (List ℕ)
-period_said text = if list_any (λ b. nat_eq b 47) text then Clear (bare text) else word_said Period text
+-- a name that the court's file gives to a period, where a field says nothing else
+abbrev pub or_own : (own : List NamedTextView) → (text : List ℕ) → Said (List ℕ) → Said (List ℕ)
+or_own own text Unknown = clear_if (is_some (text_named own text)) text
+or_own own text (Clear plain) = Clear plain
+or_own own text (Unclear one other) = Unclear one other
+
+-- a period: the number of a section of the Rules or of a statute, the court's own name for one, or one with slashes, which a court enters
+abbrev pub period_said : CourtNames → List ℕ → Said (List ℕ)
+period_said names text =
+    if list_any (λ b. nat_eq b 47) text then Clear (bare text) else or_own names.periods text (word_said Period text)
+
+-- why a deadline is due no more: a word, or one with a colon and the number of the motion that suspends it
+abbrev pub ending_why_said : List ℕ → Said (List ℕ)
+ending_why_said text = if list_any (λ b. nat_eq b 58) text then Clear (bare text) else word_said Why text
 
 -- an extension: a plus and a length, or a date
 abbrev pub grant_said : Option DateOrder → List ℕ → Said (List ℕ)
@@ -109,7 +90,7 @@ filled_said names order Command text = Clear (folded text)
 filled_said names order Case text = case_said text
 filled_said names order Deadline text = deadline_said text
 filled_said names order Motion text = motion_said text
-filled_said names order Period text = period_said text
+filled_said names order Period text = period_said names text
 filled_said names order Date text = said_map day_text (date_said order text)
 filled_said names order Time text = time_if (time_said text)
 filled_said names order Start text = time_if (time_said text)
@@ -125,21 +106,20 @@ filled_said names order Need text = need_said text
 filled_said names order Holidays text = word_said Holidays text
 filled_said names order From text = time_if (time_said text)
 filled_said names order To text = ending_said text
-filled_said names order Judge text = name_said names.judges text
-filled_said names order Judges text = panel_said names.judges text
-filled_said names order Room text = name_said names.rooms text
+filled_said names order Judge text = name_said names.shorts names.judges text
+filled_said names order Judges text = panel_said names.shorts names.judges text
+filled_said names order Room text = name_said names.shorts names.rooms text
 filled_said names order Slots text = slots_said text
 filled_said names order Notice text = said_map day_text (date_said order text)
 filled_said names order Act text = word_said Act text
 filled_said names order Dated text = said_map day_text (date_said order text)
-filled_said names order Why text = word_said Why text
+filled_said names order Why text = ending_why_said text
 filled_said names order Closing text = word_said Closing text
--- a deadline that is resumed has its days as before
-filled_said names order ResumeDay text = Unknown
+filled_said names order ResumeDay text = said_map day_text (date_said order text)
 filled_said names order Ruling text = word_said Ruling text
-filled_said names order JudgeOrNone text = name_said names.judges text
+filled_said names order JudgeOrNone text = name_said names.shorts names.judges text
 filled_said names order Counted text = word_said Counted text
-filled_said names order Number text = number_said text
+filled_said names order Number text = number_or_label text
 -- what something is called is the field as it is
 filled_said names order Title text = text_said text
 filled_said names order Label text = text_said text

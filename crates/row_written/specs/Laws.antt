@@ -1,9 +1,8 @@
 -- What the definitions come to.
-use Rattle.std.specs.Prelude.{◌≡◌, ◌⊎◌, ℕ, nat_eq, true, IsSome, List, codes, Option, None}
+use Rattle.std.specs.Prelude.{◌≡◌, ◌⊎◌, ℕ, nat_eq, true, false, IsSome, List, codes, Option, None, Some}
 use Rattle.std.specs.List.{list_any, starts_with}
 use Rattle.csv.specs.Writing.{default_writer, row_text}
 use Rattle.case_numbers.specs.Words.{case_read}
-use Rattle.rule_periods.specs.Words.{rule_of_code}
 use Rattle.row_forms.specs.declared.row.Row.{Row}
 use Rattle.row_forms.specs.Words.{CourtNames, is_number}
 use Rattle.row_forms.specs.declared.line.line.Line.TheVariants as line
@@ -18,31 +17,33 @@ use Rattle.row_written.specs.Cases.{with_one}
 use Rattle.row_written.specs.Fields.{field_said}
 use Rattle.row_written.specs.Headings.{word_at}
 use Rattle.row_written.specs.Known.{names_known}
-use Rattle.row_written.specs.Rows.{read_as}
+use Rattle.row_written.specs.Rows.{plain_of, read_as}
 
 -- a text is a plain row as the office reads it, whose judges and room the court has
 pub record IsPlainRow (clerks : ℕ) (names : CourtNames) (text : List ℕ) (row : Row) : Type 0 where
   pub read : line_read clerks names text ≡ line.Row row
   pub known : names_known names row.work ≡ true
 
--- a field is the name of a deadline or a motion in place of its number: a rule's code, or `last`
+-- a field is the name of a deadline or a motion in place of its number: a rule's code, `last`, or what it is called
 abbrev pub IsSubjectName : List ℕ → Type 0
-IsSubjectName field = IsSome (rule_of_code field) ⊎ (field ≡ codes "last")
+IsSubjectName field = is_number field ≡ false
 
 -- fields are as before, or have the number 1 at a place where what was there is so
 abbrev pub PutsOne : (place : ℕ) → (List ℕ → Type 0) → (before after : List (List ℕ)) → Type 0
 PutsOne place IsSo before after = (after ≡ before) ⊎ (IsSo (word_at before place) × (after ≡ with_one place before))
 
 -- a text is a row that may have names in place of numbers: a case number in its third field, the name of a deadline or a motion in
--- its fourth; with the number 1 in place of each it is a plain row
+-- its fourth, or its fifth; with the number 1 in place of each it is a plain row
 pub record IsNamedRow (clerks : ℕ) (names : CourtNames) (text : List ℕ) (row : Row) : Type 0 where
   pub fields : List (List ℕ)
   pub cased : List (List ℕ)
   pub numbered : List (List ℕ)
+  pub all_numbered : List (List ℕ)
   pub text_is : text ≡ row_text default_writer fields
   pub case : PutsOne 2 (λ field. IsSome (case_read field)) fields cased
   pub subject : PutsOne 3 IsSubjectName cased numbered
-  pub row_is : IsPlainRow clerks names (row_text default_writer numbered) row
+  pub labelled : PutsOne 4 IsSubjectName numbered all_numbered
+  pub row_is : IsPlainRow clerks names (row_text default_writer all_numbered) row
 
 -- a text is a plain row, or one with names
 abbrev pub IsRow : (clerks : ℕ) → CourtNames → (text : List ℕ) → Row → Type 0
@@ -52,10 +53,10 @@ IsRow clerks names text row = IsPlainRow clerks names text row ⊎ IsNamedRow cl
 abbrev pub PlainRowsStay : Type 0
 PlainRowsStay = (clerks : ℕ) (names : CourtNames) (order : Option DateOrder) (text : List ℕ) (row : Row) → IsPlainRow clerks names text row → read_as clerks names order None text ≡ Plain text
 
--- What a line is read as, if it is read as a row, is a plain row, or one with a case number, or a deadline's rule or `last`, in
--- place of a number.
+-- What a line is read as, if it is read as a row, is a plain row, or one with a case number, or a deadline's rule, `last` or what is called
+-- so, in place of a number.
 abbrev pub RowsArePlain : Type 0
-RowsArePlain = (clerks : ℕ) (names : CourtNames) (order : Option DateOrder) (header : Option (List (List ℕ))) (line text : List ℕ) → read_as clerks names order header line ≡ Plain text
+RowsArePlain = (clerks : ℕ) (names : CourtNames) (order : Option DateOrder) (header : Option (List (List ℕ))) (line text : List ℕ) → plain_of (read_as clerks names order header line) ≡ Some text
     → (row : Row) × IsRow clerks names text row
 
 -- fields of that court, with dates in that order
@@ -81,7 +82,7 @@ module _ (names : CourtNames) (order : Option DateOrder) where
     pub extended : starts_with nat_eq (bare text) (codes "+") ≡ true → HasItsNumbers Grant text plain
 
 -- A number that is read is its field, digit for digit. (A case may also be read as a case number, a deadline as its
--- rule and a motion as the last, which are none.)
+-- rule, a motion as the last, and both by what they are called, which are none.)
 abbrev pub NumbersAreTheirFields : Type 0
 NumbersAreTheirFields = (names : CourtNames) (order : Option DateOrder) (text number : List ℕ) → is_number number ≡ true → AreTheirFields names order text number
 

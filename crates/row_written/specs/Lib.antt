@@ -1,9 +1,12 @@
 pub mod Names
+pub mod Subjects
 pub mod Fields
 pub mod Known
 pub mod Fault
 pub mod Headings
 pub mod Cases
+pub mod Labels
 pub mod Rows
+pub mod Called
 pub mod Laws
 pub mod Words

@@ -1,7 +1,7 @@
 -- The names of a court's judges and rooms, as people write them.
-use Rattle.std.specs.Prelude.{ℕ, Bool, List, [], ◌∷◌, ◌++◌, filter, is_some, if◌then◌else◌}
+use Rattle.std.specs.Prelude.{ℕ, Bool, List, [], ◌∷◌, ◌++◌, filter, is_some, unwrap_or, if◌then◌else◌}
 use Rattle.std.specs.Str.{bytes_eq}
-use Rattle.court_file_text.specs.Words.{name_index}
+use Rattle.court_file_text.specs.Words.{NamedTextView, name_index, text_named}
 use Rattle.row_forms.specs.Words.{CourtNames}
 use Rattle.row_fields.specs.declared.said.Said.{Said}
 use Rattle.row_fields.specs.declared.said.Said.TheVariants.{Unknown, Clear, Unclear}
@@ -41,9 +41,17 @@ chosen (Clear first) [] = Clear first
 chosen (Clear first) (name ∷ more) = Unclear first name
 chosen (Unclear first second) names = Unclear first second
 
--- The name that is meant: this very one, or one that differs in the case of letters, in blanks and in dots alone.
-abbrev pub name_said : List (List ℕ) → List ℕ → Said (List ℕ)
-name_said names text = if is_named names text then Clear text else said_among (filter (same_name (bare text)) names)
+-- the name of which a text is the short one, or else the text
+abbrev pub long_name : (shorts : List NamedTextView) → List ℕ → List ℕ
+long_name shorts text = unwrap_or (text_named shorts text) text
+
+-- The name that is meant: this very one, or the one of which it is the short one, or one that differs in the case of letters, in blanks and
+-- in dots alone.
+abbrev pub name_said : (shorts : List NamedTextView) → List (List ℕ) → List ℕ → Said (List ℕ)
+name_said shorts names text =
+    if is_named names text then Clear text
+    else if is_named names (long_name shorts text) then Clear (long_name shorts text)
+    else said_among (filter (same_name (bare text)) names)
 
 -- names that a plus joins, and one more
 abbrev pub with_name : List ℕ → List ℕ → List ℕ
@@ -57,10 +65,10 @@ when_meant (Clear name) more = more name
 when_meant (Unclear name other) more = Unclear name other
 
 -- the names that are meant, after these
-unfoldable pub names_after : List (List ℕ) → List ℕ → List (List ℕ) → Said (List ℕ)
-names_after judges names [] = Clear names
-names_after judges names (piece ∷ pieces) = when_meant (name_said judges piece) (λ name. names_after judges (with_name names name) pieces)
+unfoldable pub names_after : (shorts : List NamedTextView) → List (List ℕ) → List ℕ → List (List ℕ) → Said (List ℕ)
+names_after shorts judges names [] = Clear names
+names_after shorts judges names (piece ∷ pieces) = when_meant (name_said shorts judges piece) (λ name. names_after shorts judges (with_name names name) pieces)
 
 -- the judges that are meant, whose names a plus joins
-abbrev pub panel_said : List (List ℕ) → List ℕ → Said (List ℕ)
-panel_said judges text = names_after judges [] (fields_in 43 text)
+abbrev pub panel_said : (shorts : List NamedTextView) → List (List ℕ) → List ℕ → Said (List ℕ)
+panel_said shorts judges text = names_after shorts judges [] (fields_in 43 text)

@@ -14,7 +14,7 @@ use Rattle.row_fields.specs.declared.said.Said.TheVariants as said
 use Rattle.row_fields.specs.declared.dates.DateOrder.{DateOrder}
 use Rattle.row_fields.specs.Words.{fields_in, folded, separator_of, typed}
 use Rattle.row_forms.specs.declared.headings.columns.Column.{Column}
-use Rattle.row_forms.specs.declared.headings.columns.Column.TheVariants.{Command}
+use Rattle.row_forms.specs.declared.headings.columns.Column.TheVariants.{Command, Label}
 use Rattle.row_written.specs.declared.fault.Flaw.TheVariants.{Excess, NoCommand, Unclear, Unknown}
 use Rattle.row_written.specs.declared.rows.Written.{Written}
 use Rattle.row_written.specs.declared.rows.Written.TheVariants as written
@@ -24,13 +24,23 @@ use Rattle.row_written.specs.Fault.{FieldFault, fault_at}
 use Rattle.row_written.specs.Fields.{field_said}
 use Rattle.row_written.specs.Headings.{heading_faults, heading_of, index_of, is_filled, names_columns, word_at}
 use Rattle.row_written.specs.Known.{names_known}
+use Rattle.row_written.specs.Labels.{is_label, label_at, row_of_label, made_by, wanted_columns}
 
 -- what is read, in other words
 abbrev pub written_map : {A B C D E F : Type 0} → (A → B) → (C → D) → (E → F) → Written A C E → Written B D F
 written_map f g h written.Nothing = written.Nothing
 written_map f g h (written.Header x) = written.Header (f x)
 written_map f g h (written.Plain x) = written.Plain (g x)
+written_map f g h (written.Labelled x y) = written.Labelled (g x) (g y)
 written_map f g h (written.Faulty x) = written.Faulty (h x)
+
+-- the plain row that is read, if one is
+abbrev pub plain_of : Written (List (List ℕ)) (List ℕ) (List FieldFault) → Option (List ℕ)
+plain_of written.Nothing = None
+plain_of (written.Header headings) = None
+plain_of (written.Plain text) = Some text
+plain_of (written.Labelled text label) = Some text
+plain_of (written.Faulty faults) = None
 
 -- the fields of a line that is typed on plain keys
 abbrev pub fields_written : List ℕ → List (List ℕ)
@@ -94,11 +104,21 @@ abbrev pub fault_of_column : Option (List (List ℕ)) → (text : List ℕ) → 
 fault_of_column header text fields columns number =
     fault_at text (column_place header number (column_at columns number)) (Unknown (column_at columns number)) (value_at header fields number (column_at columns number)) [] []
 
+-- the fault of a label by which nothing may be called
+abbrev pub label_faults : Option (List (List ℕ)) → (text label : List ℕ) → List FieldFault
+label_faults header text label =
+    if is_filled label && not (is_label label) then fault_at text (column_place header 0 Label) (Unknown Label) label [] [] ∷ [] else []
+
+-- a plain row, with the one that says what it makes is called, if there is one
+abbrev pub with_label : (plain : List ℕ) → (label : Option (List ℕ)) → Written (List (List ℕ)) (List ℕ) (List FieldFault)
+with_label plain None = written.Plain plain
+with_label plain (Some label) = written.Labelled plain label
+
 -- the row with this text, where the row that the office is asked about says this
-abbrev pub taken : CourtNames → Option (List (List ℕ)) → (text : List ℕ) → (fields : List (List ℕ)) → List Column → (plain : List ℕ) → Line → Written (List (List ℕ)) (List ℕ) (List FieldFault)
-taken names header text fields columns plain line.Blank = written.Faulty (fault_of_column header text fields columns 1 ∷ [])
-taken names header text fields columns plain (line.Fault cause) = written.Faulty (fault_of_column header text fields columns (column_of_cause cause) ∷ [])
-taken names header text fields columns plain (line.Row row) = if names_known names row.work then written.Plain plain else written.Faulty (fault_of_column header text fields columns 1 ∷ [])
+abbrev pub taken : CourtNames → Option (List (List ℕ)) → (text : List ℕ) → (fields : List (List ℕ)) → List Column → (plain : List ℕ) → (label : Option (List ℕ)) → Line → Written (List (List ℕ)) (List ℕ) (List FieldFault)
+taken names header text fields columns plain label line.Blank = written.Faulty (fault_of_column header text fields columns 1 ∷ [])
+taken names header text fields columns plain label (line.Fault cause) = written.Faulty (fault_of_column header text fields columns (column_of_cause cause) ∷ [])
+taken names header text fields columns plain label (line.Row row) = if names_known names row.work then with_label plain label else written.Faulty (fault_of_column header text fields columns 1 ∷ [])
 
 -- a row in a file with these headings, of that court, whose fields are these
 module _ (names : CourtNames) (order : Option DateOrder) (header : Option (List (List ℕ))) (text : List ℕ) (fields : List (List ℕ)) where
@@ -113,21 +133,30 @@ module _ (names : CourtNames) (order : Option DateOrder) (header : Option (List 
   column_faults number (column ∷ columns) =
       unclear text (column_place header number column) column (value_at header fields number column) (said_in names order header fields number column) ++ column_faults (number + 1) columns
 
-  -- the row with these plain fields, if there is no fault
-  abbrev pub if_faultless : (clerks : ℕ) → List Column → (plain : List (List ℕ)) → List FieldFault → Written (List (List ℕ)) (List ℕ) (List FieldFault)
-  if_faultless clerks columns plain [] =
-      taken names header text fields columns (row_text default_writer plain) (line_read clerks names (row_text default_writer (asked columns plain)))
-  if_faultless clerks columns plain (fault ∷ faults) = written.Faulty (fault ∷ faults)
+  -- the row with these plain fields, and the one with its label, if there is no fault
+  abbrev pub if_faultless : (clerks : ℕ) → List Column → (plain : List (List ℕ)) → (label : Option (List ℕ)) → List FieldFault → Written (List (List ℕ)) (List ℕ) (List FieldFault)
+  if_faultless clerks columns plain label [] =
+      taken names header text fields columns (row_text default_writer plain) label (line_read clerks names (row_text default_writer (asked columns plain)))
+  if_faultless clerks columns plain label (fault ∷ faults) = written.Faulty (fault ∷ faults)
 
-  -- what a row with these columns is read as: each field says one thing in its column, and no other field is there
-  abbrev pub in_columns : (clerks : ℕ) → Option (List Column) → Written (List (List ℕ)) (List ℕ) (List FieldFault)
-  in_columns clerks None = written.Faulty (fault_at text (column_place header 1 Command) NoCommand (value_at header fields 1 Command) [] [] ∷ [])
-  in_columns clerks (Some columns) =
-      if_faultless clerks columns (plain_in 0 columns) (column_faults 0 columns ++ excess_faults header columns text 0 fields)
+  -- what a row with these columns is read as, where what it makes is called so: each field says one thing in its column, and no other
+  -- field is there
+  abbrev pub in_columns : (clerks : ℕ) → (made label : List ℕ) → Option (List Column) → Written (List (List ℕ)) (List ℕ) (List FieldFault)
+  in_columns clerks made label None = written.Faulty (fault_at text (column_place header 1 Command) NoCommand (value_at header fields 1 Command) [] [] ∷ [])
+  in_columns clerks made label (Some columns) =
+      if_faultless clerks columns (plain_in 0 columns) (row_of_label made (plain_in 0 columns) label)
+      (column_faults 0 columns ++ excess_faults header (wanted_columns header made columns) text 0 fields ++ label_faults header text label)
 
   -- what a row is read as: its columns are those of its command word
+  abbrev pub row_worded : (clerks : ℕ) → (word label : List ℕ) → Written (List (List ℕ)) (List ℕ) (List FieldFault)
+  row_worded clerks word label = in_columns clerks (made_by word) label (columns_of word)
+
+  -- the command word of a row
+  abbrev pub row_word : List ℕ
+  row_word = folded (value_at header fields 1 Command)
+
   unfoldable pub row_said : (clerks : ℕ) → Written (List (List ℕ)) (List ℕ) (List FieldFault)
-  row_said clerks = in_columns clerks (columns_of (folded (value_at header fields 1 Command)))
+  row_said clerks = row_worded clerks row_word (label_at header (made_by row_word) fields)
 
 -- a line that names columns, with these headings and these faults
 abbrev pub header_said : (headings : List (List ℕ)) → List FieldFault → Written (List (List ℕ)) (List ℕ) (List FieldFault)

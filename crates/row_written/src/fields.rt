@@ -1,110 +1,27 @@
 //! What a field says, by what its column holds, as a plain row writes it.
 
 ghost use Rattle.std.specs.Prelude.{◌≡◌, ◌++◌, ◌<◌, IfOk, OnOk, string_bytes};
-ghost use Rattle.std.specs.Char.{is_ascii_digit};
-ghost use Rattle.std.specs.List.{list_all};
+ghost use Rattle.std.specs.Option.{is_some};
+ghost use Rattle.court_file_text.specs.Words.{text_named};
 ghost use Rattle.jiff_fmt.specs.Text.{pad2};
 ghost use Rattle.court_clock.specs.Words.{day_text};
-ghost use Rattle.row_forms.specs.Words.{is_number, names_of};
+ghost use Rattle.row_forms.specs.Words.{names_of};
 ghost use Rattle.row_fields.specs.Words.{date_said, said_map, time_said};
-ghost use Rattle.row_written.specs.Fields.{case_said, deadline_said, ending_said, field_said, filled_said, grant_said, has_mark, is_quarters, may_be_empty, motion_said, need_said, number_said, period_said, slots_said, text_said, time_if, word_said};
+ghost use Rattle.row_written.specs.Fields.{ending_said, ending_why_said, field_said, filled_said, grant_said, is_quarters, may_be_empty, need_said, or_own, period_said, slots_said, time_if, word_said};
+ghost use Rattle.row_written.specs.Subjects.{clear_if};
 
 use crate::names::{Named, name_said, owned, panel_said};
-use case_numbers::case_read;
+use crate::subjects::{
+    case_said, deadline_said, motion_said, number_or_label, number_said, text_said,
+};
 use court_clock::Day;
 use court_days::Court;
 use row_fields::{
     DateOrder, Said, act_said, answer_said, bare, closing_said, counted_said, date_said, folded,
-    list_said, means_said, rule_said, ruling_said, section_said, service_said, time_said, why_said,
+    list_said, means_said, ruling_said, section_said, service_said, time_said, why_said,
 };
-use row_forms::Column;
+use row_forms::{Column, is_number};
 use std::alloc::{AllocError, Global};
-
-// Whether bytes are one to nine digits, with no leading zero but 0 itself.
-fn is_number(text: &[u8]) -> bool
-    ensures { result ≡ is_number text.now }
-{
-    if text.is_empty() || text.len() > 9 {
-        return false;
-    }
-    if text.len() > 1 && text[0] == b'0' {
-        return false;
-    }
-    has_digits_only(text)
-}
-
-fn has_digits_only(text: &[u8]) -> bool
-    ensures { result ≡ list_all is_ascii_digit text.now }
-{
-    text.iter().all(|byte| byte.is_ascii_digit())
-}
-
-// A number: the field as it is.
-fn number_said(alloc: Global, text: &str) -> Result<Said<String>, AllocError>
-    ensures { IfOk result (λ said. said_map string_bytes said ≡ number_said text.now) }
-{
-    if is_number(text.as_bytes()) {
-        Ok(Said::Clear(String::from_str(alloc, text)?))
-    } else {
-        Ok(Said::Unknown)
-    }
-}
-
-// Whether a text has a question mark, which may stand for a letter that plain keys don't type.
-fn has_mark(text: &[u8]) -> bool
-    ensures { result ≡ has_mark text.now }
-{
-    text.iter().any(|byte| *byte == b'?')
-}
-
-// What something is called: the field as it is.
-fn text_said(alloc: Global, text: &str) -> Result<Said<String>, AllocError>
-    ensures { IfOk result (λ said. said_map string_bytes said ≡ text_said text.now) }
-{
-    if has_mark(text.as_bytes()) {
-        Ok(Said::Unknown)
-    } else {
-        Ok(Said::Clear(String::from_str(alloc, text)?))
-    }
-}
-
-// A case: its number, or its case number as the court writes it.
-fn case_said(alloc: Global, text: &str) -> Result<Said<String>, AllocError>
-    ensures { IfOk result (λ said. said_map string_bytes said ≡ case_said text.now) }
-{
-    if is_number(text.as_bytes()) {
-        return Ok(Said::Clear(String::from_str(alloc, text)?));
-    }
-    let text = bare(alloc, text)?;
-    match case_read(alloc, text.as_bytes())? {
-        Some(name) => Ok(Said::Clear(String::from_str(alloc, name.shown())?)),
-        None => Ok(Said::Unknown),
-    }
-}
-
-// A deadline: its number, or a Rule's number.
-fn deadline_said(alloc: Global, text: &str) -> Result<Said<String>, AllocError>
-    ensures { IfOk result (λ said. said_map string_bytes said ≡ deadline_said text.now) }
-{
-    if is_number(text.as_bytes()) {
-        Ok(Said::Clear(String::from_str(alloc, text)?))
-    } else {
-        let word = folded(alloc, text)?;
-        owned(alloc, rule_said(word.as_str()))
-    }
-}
-
-// A motion: its number, or the last.
-fn motion_said(alloc: Global, text: &str) -> Result<Said<String>, AllocError>
-    ensures { IfOk result (λ said. said_map string_bytes said ≡ motion_said text.now) }
-{
-    let word = folded(alloc, text)?;
-    if word.as_str() == "last" {
-        Ok(Said::Clear(word))
-    } else {
-        number_said(alloc, text)
-    }
-}
 
 // Whether it is a number of quarter hours, before a `q`.
 fn is_quarters(text: &[u8]) -> bool
@@ -209,14 +126,53 @@ fn word_said(alloc: Global, column: Column, text: &str) -> Result<Said<String>, 
     owned(alloc, said)
 }
 
-// A period: the number of a section of the Rules or of a statute, or one with slashes, which a court enters.
-fn period_said(alloc: Global, text: &str) -> Result<Said<String>, AllocError>
-    ensures { IfOk result (λ said. said_map string_bytes said ≡ period_said text.now) }
+// A period: the number of a section of the Rules or of a statute, the court's own name for one, or one with slashes, which a court
+// enters.
+fn period_said(alloc: Global, court: &Court, text: &str) -> Result<Said<String>, AllocError>
+    ensures { IfOk result (λ said. said_map string_bytes said ≡ period_said (names_of court.now) text.now) }
 {
     if text.as_bytes().contains(&b'/') {
         Ok(Said::Clear(bare(alloc, text)?))
     } else {
-        word_said(alloc, Column::Period, text)
+        let said = word_said(alloc, Column::Period, text)?;
+        or_own(alloc, court, text, said)
+    }
+}
+
+// A name that the court's file gives to a period, where a field says nothing else.
+fn or_own(
+    alloc: Global,
+    court: &Court,
+    text: &str,
+    said: Said<String>,
+) -> Result<Said<String>, AllocError>
+    ensures { IfOk result (λ found. said_map string_bytes found ≡ or_own court.now.periods.texts text.now (said_map string_bytes said)) }
+{
+    match said {
+        Said::Unknown => own_said(alloc, court, text),
+        Said::Clear(plain) => Ok(Said::Clear(plain)),
+        Said::Unclear(one, other) => Ok(Said::Unclear(one, other)),
+    }
+}
+
+// A name that the court's file gives to a period.
+fn own_said(alloc: Global, court: &Court, text: &str) -> Result<Said<String>, AllocError>
+    ensures { IfOk result (λ said. said_map string_bytes said ≡ clear_if (is_some (text_named court.now.periods.texts text.now)) text.now) }
+{
+    match court.period_text(text) {
+        Some(_) => Ok(Said::Clear(String::from_str(alloc, text)?)),
+        None => Ok(Said::Unknown),
+    }
+}
+
+// Why a deadline is due no more: a word, or one with a colon and the number of the motion that suspends it.
+fn ending_why_said(alloc: Global, text: &str) -> Result<Said<String>, AllocError>
+    ensures { IfOk result (λ said. said_map string_bytes said ≡ ending_why_said text.now) }
+{
+    if text.as_bytes().contains(&b':') {
+        Ok(Said::Clear(bare(alloc, text)?))
+    } else {
+        word_said(alloc, Column::Why, text)
     }
 }
 
@@ -278,14 +234,14 @@ fn filled_said(
         Column::Deadline => deadline_said(alloc, text),
         Column::Motion => motion_said(alloc, text),
         Column::Case => case_said(alloc, text),
-        Column::Date | Column::SecondOrNone | Column::Notice | Column::Dated => {
-            day_said(alloc, order, text)
-        }
+        Column::Date | Column::Notice | Column::Dated => day_said(alloc, order, text),
+        Column::SecondOrNone | Column::ResumeDay => day_said(alloc, order, text),
         Column::Time | Column::Start | Column::TimeOrNone | Column::From => {
             minute_said(alloc, text)
         }
         Column::To => ending_said(alloc, text),
-        Column::Period => period_said(alloc, text),
+        Column::Period => period_said(alloc, court, text),
+        Column::Why => ending_why_said(alloc, text),
         Column::ServiceOrNone
         | Column::Means
         | Column::ByMotion
@@ -293,7 +249,6 @@ fn filled_said(
         | Column::Neglect
         | Column::Holidays
         | Column::Act
-        | Column::Why
         | Column::Closing
         | Column::Ruling
         | Column::Counted => word_said(alloc, column, text),
@@ -303,9 +258,7 @@ fn filled_said(
         Column::Judges => panel_said(alloc, court, text),
         Column::Room => name_said(alloc, court, Named::Rooms, text),
         Column::Slots => slots_said(alloc, text),
-        // A deadline that is resumed has its days as before.
-        Column::ResumeDay => Ok(Said::Unknown),
-        Column::Number => number_said(alloc, text),
+        Column::Number => number_or_label(alloc, text),
         Column::Title | Column::Label => text_said(alloc, text),
     }
 }

@@ -10,8 +10,8 @@ use csv::StringRecord;
 use row_fields::folded;
 use std::alloc::{AllocError, Global};
 
-// The field of that number, counted from 0; empty where there is none.
-pub(crate) fn word_at(fields: &StringRecord, number: usize) -> &str
+/// The field of that number, counted from 0; empty where there is none.
+pub fn word_at(fields: &StringRecord, number: usize) -> &str
     ensures { result.now ≡ word_at (fields_of fields.now) number }
 {
     fields.get(number).unwrap_or("")

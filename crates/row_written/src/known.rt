@@ -1,13 +1,18 @@
-//! Whether a row names judges and a room that the court has.
+//! Whether a row names judges and a room that the court has, and whether it stays as it is.
 
-ghost use Rattle.std.specs.Prelude.{◌≡◌, nat_lt};
+ghost use Rattle.std.specs.Prelude.{◌≡◌, IfOk, nat_lt, option_map};
 ghost use Rattle.std.specs.List.{list_all};
+ghost use Rattle.csv.specs.Records.{fields_of};
 ghost use Rattle.row_forms.specs.Words.{names_of};
 ghost use Rattle.row_written.specs.Known.{names_known, referred_known, setting_known};
+ghost use Rattle.row_written.specs.Rows.{stays};
 
+use crate::rows::RowTypes;
 use court_days::Court;
+use csv::StringRecord;
 use docket_rows::{Command, Fact, Query, Setting};
-use row_forms::Work;
+use row_forms::{Line, Work, read_line};
+use std::alloc::{AllocError, Global};
 
 // Whether all numbers are below this one.
 fn are_below(numbers: &[u8], most: u8) -> bool
@@ -52,5 +57,26 @@ pub fn names_known(court: &Court, work: &Work) -> bool
         ) => *judge < court.judges() && referred_known(court, *referred),
         Work::Query(Query::JudgeDay(judge, _)) => *judge < court.judges(),
         _ => true,
+    }
+}
+
+/// Whether a plain row stays as it is: where columns have no headings.
+pub(crate) fn stays(
+    alloc: Global,
+    clerks: u8,
+    court: &Court,
+    header: &Option<StringRecord>,
+    line: &[u8],
+) -> Result<bool, AllocError>
+    ensures { IfOk result (λ so. so ≡ stays clerks (names_of court.now) (option_map fields_of header.now) line.now) }
+{
+    let _types: RowTypes = None;
+    if header.is_some() {
+        return Ok(false);
+    }
+    let mut fields = StringRecord::new(alloc);
+    match read_line(alloc, line, clerks, court, &mut fields)? {
+        Line::Row(row) => Ok(names_known(court, &row.work)),
+        _ => Ok(false),
     }
 }

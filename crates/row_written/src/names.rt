@@ -4,7 +4,7 @@ ghost use Rattle.std.specs.Prelude.{◌≡◌, IfOk, OnOk, [], length, slice_get
 ghost use Rattle.csv.specs.Records.{fields_of};
 ghost use Rattle.row_forms.specs.Words.{names_of};
 ghost use Rattle.row_fields.specs.Words.{said_map};
-ghost use Rattle.row_written.specs.Names.{is_named, name_said, named, names_after, panel_said, same_name, with_choice, with_name};
+ghost use Rattle.row_written.specs.Names.{is_named, long_name, name_said, named, names_after, panel_said, same_name, with_choice, with_name};
 
 use crate::headings::word_at;
 use court_days::Court;
@@ -51,6 +51,16 @@ fn is_named(court: &Court, of: Named, name: &str) -> bool
     }
 }
 
+// The name of which a text is the short one in the court's file, or else the text.
+fn long_name<'a>(court: &'a Court, text: &'a str) -> &'a str
+    ensures { result.now ≡ long_name (names_of court.now).shorts text.now }
+{
+    match court.long_name(text) {
+        Some(name) => name,
+        None => text,
+    }
+}
+
 // Whether a name is this text, in small letters, without blanks and dots.
 fn same_name(alloc: Global, text: &str, name: &str) -> Result<bool, AllocError>
     ensures { IfOk result (λ same. same ≡ same_name text.now name.now) }
@@ -85,18 +95,22 @@ pub(crate) fn owned(alloc: Global, said: Said<&str>) -> Result<Said<String>, All
     }
 }
 
-/// The name of the court that is meant: this very one, or one that differs in the case of letters, in blanks and in dots
-/// alone.
+/// The name of the court that is meant: this very one, or the one of which it is the short one, or one that differs in the case of
+/// letters, in blanks and in dots alone.
 pub fn name_said(
     alloc: Global,
     court: &Court,
     of: Named,
     text: &str,
 ) -> Result<Said<String>, AllocError>
-    ensures { IfOk result (λ said. said_map string_bytes said ≡ name_said (named (names_of court.now) of) text.now) }
+    ensures { IfOk result (λ said. said_map string_bytes said ≡ name_said (names_of court.now).shorts (named (names_of court.now) of) text.now) }
 {
     if is_named(court, of, text) {
         return Ok(Said::Clear(String::from_str(alloc, text)?));
+    }
+    let long = long_name(court, text);
+    if is_named(court, of, long) {
+        return Ok(Said::Clear(String::from_str(alloc, long)?));
     }
     let plain = bare(alloc, text)?;
     let mut said = Said::Unknown;
@@ -121,7 +135,7 @@ fn push_name(names: &mut String, name: &str) -> Result<(), AllocError>
 
 // The judges that are meant by these names.
 fn panel_of(alloc: Global, court: &Court, pieces: &StringRecord) -> Result<Said<String>, AllocError>
-    ensures { IfOk result (λ said. said_map string_bytes said ≡ names_after (names_of court.now).judges [] (fields_of pieces.now)) }
+    ensures { IfOk result (λ said. said_map string_bytes said ≡ names_after (names_of court.now).shorts (names_of court.now).judges [] (fields_of pieces.now)) }
 {
     let mut names = String::new(alloc);
     for i in 0..pieces.len() {
@@ -137,7 +151,7 @@ fn panel_of(alloc: Global, court: &Court, pieces: &StringRecord) -> Result<Said<
 
 /// The judges that are meant, whose names a plus joins.
 pub fn panel_said(alloc: Global, court: &Court, text: &str) -> Result<Said<String>, AllocError>
-    ensures { IfOk result (λ said. said_map string_bytes said ≡ panel_said (names_of court.now).judges text.now) }
+    ensures { IfOk result (λ said. said_map string_bytes said ≡ panel_said (names_of court.now).shorts (names_of court.now).judges text.now) }
 {
     let pieces = cut_line(alloc, text, b'+')?;
     panel_of(alloc, court, &pieces)

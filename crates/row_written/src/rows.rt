@@ -5,21 +5,21 @@ ghost use Rattle.std.specs.List.{list_any};
 ghost use Rattle.csv.specs.Records.{fields_of};
 ghost use Rattle.csv.specs.Writing.{default_writer, row_text};
 ghost use Rattle.row_forms.specs.Words.{names_of};
-ghost use Rattle.row_forms.specs.Headings.Words.{column_at, name_of};
+ghost use Rattle.row_forms.specs.Headings.Words.{column_at};
 ghost use Rattle.row_forms.specs.Line.Words.{line_read};
 ghost use Rattle.row_fields.specs.Words.{said_map};
-ghost use Rattle.std.specs.Str.{bytes_eq};
 ghost use Rattle.row_written.specs.declared.rows.Written.TheVariants as written;
 ghost use Rattle.row_written.specs.Cases.{asked};
 ghost use Rattle.row_written.specs.Fault.{fault_in};
 ghost use Rattle.row_written.specs.Headings.{heading_of, is_filled};
-ghost use Rattle.row_written.specs.Rows.{clear_text, column_faults, column_of_cause, column_place, excess_fault, excess_faults, fault_of_column, fields_written, is_wanted, plain_in, read_as, row_said, said_in, says_nothing, stays, taken, typed_as, unclear, value_at, written_map};
+ghost use Rattle.row_written.specs.Rows.{clear_text, column_faults, column_of_cause, column_place, fault_of_column, fields_written, plain_in, read_as, row_said, row_worded, said_in, says_nothing, taken, typed_as, unclear, value_at, with_label, written_map};
 
 use crate::cases::{asked_text, text_of};
 use crate::fault::{Fault, Flaw, fault_at};
 use crate::fields::field_said;
 use crate::headings::{headings_of, index_of, names_columns, word_at};
-use crate::known::names_known;
+use crate::known::{names_known, stays};
+use crate::labels::{label_at, row_of_label, made_by, push_others};
 use court_clock::Day;
 use court_days::Court;
 use csv::StringRecord;
@@ -30,7 +30,7 @@ use rule_periods::{Grant, Request};
 use std::alloc::{AllocError, Global};
 
 // The types inside a row, which the checker finds only where they have names.
-type RowTypes = Option<
+pub(crate) type RowTypes = Option<
     (
         Row,
         Work,
@@ -52,6 +52,8 @@ pub enum Written<H, T, F> {
     Header(H),
     /// This plain row.
     Plain(T),
+    /// This plain row, and one after it that says what the deadline or the motion that it makes is called.
+    Labelled(T, T),
     /// No row, or not one alone, for these faults.
     Faulty(F),
 }
@@ -59,8 +61,8 @@ pub enum Written<H, T, F> {
 /// A line that is read.
 pub type WrittenLine = Written<StringRecord, Vec<u8>, Vec<Fault>>;
 
-// The fields of a line that is typed on plain keys.
-fn fields_written(alloc: Global, text: &str) -> Result<StringRecord, AllocError>
+/// The fields of a line that is typed on plain keys. `Err` says that memory ran out.
+pub fn fields_written(alloc: Global, text: &str) -> Result<StringRecord, AllocError>
     ensures { IfOk result (λ fields. fields_of fields ≡ fields_written text.now) }
 {
     cut_line(alloc, text, separator_of(text))
@@ -86,7 +88,7 @@ fn says_nothing(fields: &StringRecord) -> bool
 }
 
 // The number of the field of a row's column of that number, in a file with these headings.
-fn column_place(header: &Option<StringRecord>, number: usize, column: Column) -> usize
+pub(crate) fn column_place(header: &Option<StringRecord>, number: usize, column: Column) -> usize
     ensures { result ≡ column_place (option_map fields_of header.now) number column }
 {
     match header {
@@ -96,7 +98,7 @@ fn column_place(header: &Option<StringRecord>, number: usize, column: Column) ->
 }
 
 // The field of a row's column.
-fn value_at<'a>(
+pub(crate) fn value_at<'a>(
     header: &Option<StringRecord>,
     fields: &'a StringRecord,
     number: usize,
@@ -189,61 +191,6 @@ fn plain_in(
     Ok((plain, faults))
 }
 
-// Whether a row with these columns has one with this heading.
-fn has_column(columns: &[Column], heading: &str) -> bool
-    ensures { result ≡ list_any (λ column. bytes_eq (name_of column) heading.now) columns.now }
-{
-    columns.iter().any(|column| name_of(*column) == heading)
-}
-
-// Whether a row with these columns has one for the field of that number.
-fn is_wanted(header: &Option<StringRecord>, columns: &[Column], number: usize) -> bool
-    ensures { result ≡ is_wanted (option_map fields_of header.now) columns.now number }
-{
-    match header {
-        None => number < columns.len(),
-        Some(headings) => {
-            let heading = word_at(headings, number);
-            heading == "note" || has_column(columns, heading)
-        }
-    }
-}
-
-// Adds the fault of a field for which a row has no column.
-fn push_excess(
-    alloc: Global,
-    header: &Option<StringRecord>,
-    columns: &[Column],
-    text: &str,
-    number: usize,
-    field: &str,
-    faults: &mut Vec<Fault>,
-) -> Result<(), AllocError>
-    ensures { OnOk result (map fault_in faults.new.items ≡ map fault_in faults.old.items ++ excess_fault (option_map fields_of header.now) columns.now text.now number field.now) }
-{
-    if !field.is_empty() && !is_wanted(header, columns, number) {
-        faults.push(fault_at(alloc, text, number, Flaw::Excess, field, ("", ""))?)?;
-    }
-    Ok(())
-}
-
-// Adds the faults of all fields for which a row has no column.
-fn push_excesses(
-    alloc: Global,
-    header: &Option<StringRecord>,
-    columns: &[Column],
-    text: &str,
-    fields: &StringRecord,
-    faults: &mut Vec<Fault>,
-) -> Result<(), AllocError>
-    ensures { OnOk result (map fault_in faults.new.items ≡ map fault_in faults.old.items ++ excess_faults (option_map fields_of header.now) columns.now text.now 0 (fields_of fields.now)) }
-{
-    for i in 0..fields.len() {
-        push_excess(alloc, header, columns, text, i, word_at(fields, i), faults)?;
-    }
-    Ok(())
-}
-
 // The number of the column that is at fault.
 fn column_of_cause(cause: RowCause) -> usize
     ensures { result ≡ column_of_cause cause }
@@ -274,6 +221,16 @@ fn faulty_column(
     Ok(Written::Faulty(faults))
 }
 
+// A plain row, with the one that says what it makes is called, if there is one.
+pub(crate) fn with_label(plain: Vec<u8>, label: Option<Vec<u8>>) -> WrittenLine
+    ensures { written_map fields_of (λ t. t.items) (λ f. map fault_in f.items) result ≡ with_label plain.items (option_map (λ t. t.items) label) }
+{
+    match label {
+        Some(label) => Written::Labelled(plain, label),
+        None => Written::Plain(plain),
+    }
+}
+
 // What a row with these plain fields is read as, in these columns.
 fn taken(
     alloc: Global,
@@ -284,21 +241,64 @@ fn taken(
     fields: &StringRecord,
     columns: &[Column],
     plain: &StringRecord,
+    label: Option<Vec<u8>>,
 ) -> Result<WrittenLine, AllocError>
-    ensures { IfOk result (λ line. written_map fields_of (λ t. t.items) (λ f. map fault_in f.items) line ≡ taken (names_of court.now) (option_map fields_of header.now) text.now (fields_of fields.now) columns.now (row_text default_writer (fields_of plain.now)) (line_read clerks (names_of court.now) (row_text default_writer (asked columns.now (fields_of plain.now))))) }
+    ensures { IfOk result (λ line. written_map fields_of (λ t. t.items) (λ f. map fault_in f.items) line ≡ taken (names_of court.now) (option_map fields_of header.now) text.now (fields_of fields.now) columns.now (row_text default_writer (fields_of plain.now)) (option_map (λ t. t.items) label) (line_read clerks (names_of court.now) (row_text default_writer (asked columns.now (fields_of plain.now))))) }
 {
     let _types: RowTypes = None;
     let asked = asked_text(alloc, columns, plain)?;
     let mut read = StringRecord::new(alloc);
     match read_line(alloc, &asked, clerks, court, &mut read)? {
         Line::Row(row) if names_known(court, &row.work) => {
-            Ok(Written::Plain(text_of(alloc, plain)?))
+            Ok(with_label(text_of(alloc, plain)?, label))
         }
         Line::Fault(cause) => {
             faulty_column(alloc, header, text, fields, columns, column_of_cause(cause))
         }
         _ => faulty_column(alloc, header, text, fields, columns, 1),
     }
+}
+
+// What a row with this command word is read as, where what it makes is called so.
+pub(crate) fn row_worded(
+    alloc: Global,
+    clerks: u8,
+    court: &Court,
+    order: Option<DateOrder>,
+    header: &Option<StringRecord>,
+    text: &str,
+    fields: &StringRecord,
+    word: &str,
+    label: &str,
+) -> Result<WrittenLine, AllocError>
+    ensures { IfOk result (λ line. written_map fields_of (λ t. t.items) (λ f. map fault_in f.items) line ≡ row_worded (names_of court.now) order (option_map fields_of header.now) text.now (fields_of fields.now) clerks word.now label.now) }
+{
+    let Some(columns) = columns_of(word) else {
+        let place = column_place(header, 1, Column::Command);
+        let value = value_at(header, fields, 1, Column::Command);
+        let mut faults = Vec::new(alloc);
+        faults.push(fault_at(alloc, text, place, Flaw::NoCommand, value, ("", ""))?)?;
+        return Ok(Written::Faulty(faults));
+    };
+    let made = made_by(word);
+    let (plain, mut faults) = plain_in(alloc, court, order, header, text, fields, columns)?;
+    push_others(
+        alloc,
+        header,
+        made,
+        columns,
+        text,
+        fields,
+        label,
+        &mut faults,
+    )?;
+    if !faults.is_empty() {
+        return Ok(Written::Faulty(faults));
+    }
+    let label = row_of_label(alloc, made, &plain, label)?;
+    taken(
+        alloc, clerks, court, header, text, fields, columns, &plain, label,
+    )
 }
 
 // What a row is read as, in a file with these headings.
@@ -314,20 +314,12 @@ fn row_said(
 ) -> Result<WrittenLine, AllocError>
     ensures { IfOk result (λ line. written_map fields_of (λ t. t.items) (λ f. map fault_in f.items) line ≡ row_said (names_of court.now) order (option_map fields_of header.now) text.now (fields_of fields.now) clerks) }
 {
-    let value = value_at(header, fields, 1, Column::Command);
-    let word = folded(alloc, value)?;
-    let Some(columns) = columns_of(word.as_str()) else {
-        let place = column_place(header, 1, Column::Command);
-        let mut faults = Vec::new(alloc);
-        faults.push(fault_at(alloc, text, place, Flaw::NoCommand, value, ("", ""))?)?;
-        return Ok(Written::Faulty(faults));
-    };
-    let (plain, mut faults) = plain_in(alloc, court, order, header, text, fields, columns)?;
-    push_excesses(alloc, header, columns, text, fields, &mut faults)?;
-    if !faults.is_empty() {
-        return Ok(Written::Faulty(faults));
-    }
-    taken(alloc, clerks, court, header, text, fields, columns, &plain)
+    let word = folded(alloc, value_at(header, fields, 1, Column::Command))?;
+    let word = word.as_str();
+    let label = label_at(header, made_by(word), fields);
+    row_worded(
+        alloc, clerks, court, order, header, text, fields, word, label,
+    )
 }
 
 // What a line that is typed on plain keys is read as.
@@ -358,30 +350,10 @@ fn typed_as(
     }
 }
 
-// Whether a plain row stays as it is: where columns have no headings.
-fn stays(
-    alloc: Global,
-    clerks: u8,
-    court: &Court,
-    header: &Option<StringRecord>,
-    line: &[u8],
-) -> Result<bool, AllocError>
-    ensures { IfOk result (λ so. so ≡ stays clerks (names_of court.now) (option_map fields_of header.now) line.now) }
-{
-    let _types: RowTypes = None;
-    if header.is_some() {
-        return Ok(false);
-    }
-    let mut fields = StringRecord::new(alloc);
-    match read_line(alloc, line, clerks, court, &mut fields)? {
-        Line::Row(row) => Ok(names_known(court, &row.work)),
-        _ => Ok(false),
-    }
-}
-
 /// Reads a line as people write it as a plain row, in a file whose columns have these headings, or none. A line that is a
 /// plain row already stays as it is, where there are no headings; any other is one if each of its fields says one thing. A case
-/// number stays in the row, as it is shown, and so does a deadline's rule, as its code, and the word `last` for the newest motion.
+/// number stays in the row, as it is shown, and so does a deadline's rule, as its code, the word `last` for the newest motion, and what
+/// either is called.
 /// `Err` says that memory ran out.
 #[tactic(auto, unfolding(crate::specs::Rows::read_as))]
 pub fn read_written(

@@ -4,10 +4,11 @@ use Rattle.court_clock.specs.declared.direction.Direction.{Direction}
 use Rattle.court_clock.specs.declared.direction.Direction.TheVariants.{After}
 use Rattle.court_clock.specs.Words.{ClockView, IsSameCourtClock, instant_of}
 use Rattle.court_days.specs.Words.{DaysView}
-use Rattle.court_clock.proofs.CallerLemmas.{instant_alike}
+use Rattle.court_clock.proofs.CallerLemmas.{civil_of_alike, instant_alike}
 use Rattle.rule6.specs.declared.timeliness.Act.{Act}
 use Rattle.rule6.specs.declared.timeliness.Means.TheVariants.{Electronic}
 use Rattle.rule6.specs.declared.timeliness.Shown.{Shown}
+use Rattle.rule6.specs.declared.timeliness.Shown.TheVariants as shown
 use Rattle.rule6.proofs.CallerLemmas.{and_then_alike, end_of_hours_alike, extended_end_alike, in_time_alike}
 use Rattle.rule_periods.specs.declared.expiry.Expiry.{Expiry}
 use Rattle.rule_periods.specs.declared.expiry.Expiry.TheVariants.{OnDay, AtInstant}
@@ -23,7 +24,7 @@ use Rattle.rule_periods.specs.Deadline.{DeadlineRowView, with_grant}
 use Rattle.rule_periods.specs.Due.{act_due}
 use Rattle.rule_periods.specs.Event.{EventView}
 use Rattle.rule_periods.specs.Extended.{by_hours, extended_of, granted, granted_if_it_fits}
-use Rattle.rule_periods.specs.Extension.{extension_refusal, is_asked_in_time, request_refusal, reset_refusal}
+use Rattle.rule_periods.specs.Extension.{extension_refusal, is_after_day, is_asked_in_time, is_by_day, is_no_later, request_refusal, reset_refusal}
 use Rattle.rule_periods.specs.Grant.{grant_fits}
 use Rattle.rule_periods.specs.Period.{direction_of, is_in_hours}
 use Rattle.rule_periods.specs.Showing.{access_direction, accessed, certain_by, is_moved_by_access, shown_after, shown_end, shown_of}
@@ -95,9 +96,21 @@ module _ (a b : ClockView) (same : IsSameCourtClock a b) where
   request_alike c row request =
       rw (shown_alike c row, shown_alike c (with_grant row request.grant), asked_alike (shown_of c b row) request.asked) refl
 
+  no_later_alike : (now anew : Shown) → is_no_later a now anew ≡ is_no_later b now anew
+  no_later_alike (shown.Last d act) (shown.Last e act') = refl
+  no_later_alike (shown.Last d act) (shown.Until u) = ap (is_by_day d) (civil_of_alike a.zone b.zone same.zone u)
+  no_later_alike (shown.Last d act) shown.Beyond = refl
+  no_later_alike (shown.Until t) (shown.Last e act) = ap (is_after_day e) (civil_of_alike a.zone b.zone same.zone t)
+  no_later_alike (shown.Until t) (shown.Until u) = refl
+  no_later_alike (shown.Until t) shown.Beyond = refl
+  no_later_alike shown.Beyond (shown.Last e act) = refl
+  no_later_alike shown.Beyond (shown.Until u) = refl
+  no_later_alike shown.Beyond shown.Beyond = refl
+
   reset_alike : (c : DaysView) (row : DeadlineRowView) (request : Request) → reset_refusal c a row request ≡ reset_refusal c b row request
   unfolding reset_refusal
-  reset_alike c row request = rw (shown_alike c row, shown_alike c (with_grant row request.grant)) refl
+  reset_alike c row request =
+      rw (shown_alike c row, shown_alike c (with_grant row request.grant), no_later_alike (shown_of c b row) (shown_of c b (with_grant row request.grant))) refl
 
   pub extension_alike : (c : DaysView) (row : DeadlineRowView) (request : Request) → extension_refusal c a row request ≡ extension_refusal c b row request
   unfolding extension_refusal

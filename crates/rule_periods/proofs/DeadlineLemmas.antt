@@ -1,5 +1,5 @@
 -- One more extension.
-use Rattle.std.proofs.Common.{◌≡◌, ◌-◌, Bool, true, List, [], ◌∷◌, ◌++◌, length, slice_get, fold, Some, refl, ap, ◌∙◌, arith, length-append}
+use Rattle.std.proofs.Common.{◌≡◌, ◌-◌, ◌&&◌, ℤ, Bool, true, false, Option, None, List, [], ◌∷◌, ◌++◌, length, slice_get, fold, Some, refl, ap, ◌∙◌, arith, length-append}
 use Rattle.std.specs.List.{list_all}
 use Rattle.std.specs.Option.{option_map_or}
 use Rattle.std.proofs.lemmas.List.Folds.{list_all-append}
@@ -12,12 +12,26 @@ use Rattle.rule_periods.specs.declared.grant.Grant.{Grant}
 use Rattle.rule_periods.specs.declared.period.Period.{Period}
 use Rattle.rule_periods.specs.declared.period.Period.TheVariants as period
 use Rattle.rule_periods.specs.Base.{base_of, base_of_period, end_of_rule}
-use Rattle.rule_periods.specs.Deadline.{DeadlineRowView, with_grant}
+use Rattle.rule6.specs.declared.service.ServiceKind.{ServiceKind}
+use Rattle.rule_periods.specs.Deadline.{DeadlineRowView, second_anew, with_grant}
 use Rattle.rule_periods.specs.Due.{act_due}
 use Rattle.rule_periods.specs.Extended.{extended_of, granted_if_it_fits}
 use Rattle.rule_periods.specs.Grant.{is_certain}
-use Rattle.rule_periods.specs.Period.{direction_of, is_in_hours, is_set}
+use Rattle.rule_periods.specs.Period.{direction_of, is_in_hours, is_kind_for, is_kind_for_entered, is_second_for, is_set, suits}
+use Rattle.rule_periods.specs.Rule.{service_rule_of, takes_second_day}
 use Rattle.rule_periods.specs.Showing.{certain_by, access_direction, shown_after, shown_of}
+
+-- a deadline that runs anew has a second day where it had one
+anew_second : (takes : Bool) (second : Option ℤ) (day : ℤ) → is_second_for takes (second_anew second day) ≡ is_second_for takes second
+anew_second true None day = refl
+anew_second false None day = refl
+anew_second true (Some d) day = refl
+anew_second false (Some d) day = refl
+
+-- so that its days suit its period
+pub anew_suits : (period : Period) (second : Option ℤ) (kind : Option ServiceKind) (day : ℤ) → suits period second kind ≡ true → suits period (second_anew second day) kind ≡ true
+anew_suits (period.Rule rule) second kind day is = ap (λ (b : Bool). is_kind_for (service_rule_of rule) kind && b) (anew_second (takes_second_day rule) second day) ∙ is
+anew_suits (period.Entered entered) second kind day is = ap (λ (b : Bool). is_kind_for_entered entered kind && b) (anew_second false second day) ∙ is
 
 -- a test that all pass, and one more passes
 pub all_push : (test : Grant → Bool) (grants : List Grant) (grant : Grant) → list_all test grants ≡ true → test grant ≡ true → list_all test (grants ++ grant ∷ []) ≡ true

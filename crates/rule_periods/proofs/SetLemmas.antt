@@ -21,7 +21,7 @@ use Rattle.rule_periods.specs.Base.{base_of_period, end_of_length}
 use Rattle.rule_periods.specs.Deadline.{DeadlineRowView}
 use Rattle.rule_periods.specs.Due.{act_due}
 use Rattle.rule_periods.specs.Event.{EventView}
-use Rattle.rule_periods.specs.Extended.{extended_of, granted_if_it_fits}
+use Rattle.rule_periods.specs.Extended.{extended_of}
 use Rattle.rule_periods.specs.Period.{is_set, is_set_length}
 use Rattle.rule_periods.specs.Showing.{ResetEndsStay, SetEndsStay, end_as_set, shown_after, shown_end, shown_of}
 use Rattle.rule_periods.proofs.DeadlineLemmas.{shown_of-push}
@@ -64,12 +64,8 @@ certain_stays c clock ByService end = refl
 
 pub reset_ends_stay_lem : ResetEndsStay
 reset_ends_stay_lem = record {
-  on_day = λ c clock row day days.
-      shown_of-push c clock row (Reset day)
-      ∙ ap (λ hours. shown_after c clock (act_due row) true After (granted_if_it_fits c clock hours (extended_of c clock row) (Reset day))) days
-      ∙ certain_stays c clock (act_due row) (OnDay day);
-  at_time = λ c clock row at hours.
+  on_day = λ c clock row day. shown_of-push c clock row (Reset day) ∙ certain_stays c clock (act_due row) (OnDay day);
+  at_time = λ c clock row at.
       shown_of-push c clock row (ResetAt at)
-      ∙ ap (λ h. shown_after c clock (act_due row) true After (granted_if_it_fits c clock h (extended_of c clock row) (ResetAt at))) hours
       ∙ certain_stays c clock (act_due row) (AtInstant (instant_of clock.zone at.day (60 * at.minute)));
 }

@@ -1,5 +1,5 @@
 -- A deadline: what is kept of it.
-use Rattle.std.specs.Prelude.{ℤ, Bool, min, List, [], ◌∷◌, ◌++◌, Option, Some}
+use Rattle.std.specs.Prelude.{ℤ, Bool, min, List, [], ◌∷◌, ◌++◌, Option, Some, None}
 use Rattle.std.specs.List.{list_all}
 use Rattle.rule6.specs.declared.timeliness.Filing.{Filing}
 use Rattle.rule6.specs.declared.service.ServiceKind.{ServiceKind}
@@ -30,6 +30,21 @@ with_grant row grant = record row { grants = row.grants ++ grant ∷ [] }
 -- the deadline with the act recorded
 abbrev pub with_filing : DeadlineRowView → Filing → DeadlineRowView
 with_filing row filing = record row { filed = Some (kept_filing filing) }
+
+-- the second day of a deadline that runs anew, where its period takes one
+abbrev pub second_anew : Option ℤ → (day : ℤ) → Option ℤ
+second_anew None day = None
+second_anew (Some second) day = Some day
+
+-- The deadline as it runs anew from a day: that is the day of its event, at the same time of day, and the second day where its period takes
+-- one. No extension counts any more.
+abbrev pub anew : DeadlineRowView → (day : ℤ) → DeadlineRowView
+anew row day = record row { event = record row.event { day = day }; second = second_anew row.second day; grants = [] }
+
+-- and as it goes on, anew from a day where one is given
+abbrev pub anew_if : DeadlineRowView → Option ℤ → DeadlineRowView
+anew_if row None = row
+anew_if row (Some day) = anew row day
 
 -- every extension is of the kind of the period
 abbrev pub has_fitting_grants : DeadlineRowView → Bool

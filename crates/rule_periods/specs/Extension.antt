@@ -1,6 +1,6 @@
 -- Whether the time may be extended (Fed. R. Civ. P. 6(b)), and whether an order may set another end.
-use Rattle.std.specs.Prelude.{Bool, true, false, ◌&&◌, not, int_le, int_lt, List, [], ◌∷◌, Option, if◌then◌else◌}
-use Rattle.court_clock.specs.Words.{ClockView}
+use Rattle.std.specs.Prelude.{Bool, true, false, ◌&&◌, not, int_le, int_lt, List, [], ◌∷◌, ℤ, Option, Some, None, if◌then◌else◌}
+use Rattle.court_clock.specs.Words.{CivilTime, ClockView, civil_of}
 use Rattle.court_days.specs.Words.{DaysView, is_covered}
 use Rattle.rule6.specs.declared.timeliness.Means.TheVariants.{Electronic}
 use Rattle.rule6.specs.declared.timeliness.Shown.{Shown}
@@ -57,14 +57,33 @@ is_later (shown.Last d act) (shown.Last e act') = int_lt d e
 is_later (shown.Until t) (shown.Until u) = int_lt t u
 is_later _ _ = false
 
--- the second end is no later than the first
-abbrev pub is_no_later : Shown → Shown → Bool
-is_no_later (shown.Last d act) (shown.Last e act') = int_le e d
-is_no_later (shown.Until t) (shown.Until u) = int_le u t
-is_no_later _ _ = false
+-- what the court's clock shows at an instant is on the day or before it, and is on a later day
+abbrev pub is_by_day : (day : ℤ) → Option CivilTime → Bool
+is_by_day day (Some at) = int_le at.day day
+is_by_day day None = false
+
+abbrev pub is_after_day : (day : ℤ) → Option CivilTime → Bool
+is_after_day day (Some at) = int_lt day at.day
+is_after_day day None = false
+
+-- The second end is no later than the first. A time of day is no later than a last day if it is of that day or an earlier one, and a last
+-- day is sooner than a time of day only if that is of a later day.
+abbrev pub is_no_later : ClockView → Shown → Shown → Bool
+is_no_later clock (shown.Last d act) (shown.Last e act') = int_le e d
+is_no_later clock (shown.Last d act) (shown.Until u) = is_by_day d (civil_of clock.zone u)
+is_no_later clock (shown.Until t) (shown.Last e act) = is_after_day e (civil_of clock.zone t)
+is_no_later clock (shown.Until t) (shown.Until u) = int_le u t
+is_no_later clock _ _ = false
+
+-- The extension is of the kind of the end as it is, which is another than the period's where an order set it: by days or to a date from a
+-- last day, and by hours from an instant.
+abbrev pub fits_end : Shown → Grant → Bool
+fits_end (shown.Last d act) grant = grant_fits false grant
+fits_end (shown.Until t) grant = grant_fits true grant
+fits_end shown.Beyond grant = true
 
 -- In this order: the day asked or that of a date certain isn't covered; the deadline is beyond; its time must not be
--- extended; the extension is of another kind than the period; its length is out of range; there is no good cause
+-- extended; the extension is of another kind than the period, or than its end as it is; its length is out of range; there is no good cause
 -- (6(b)(1)); asked late, there is no motion, and no excusable neglect (6(b)(1)(B)); the extended deadline would be
 -- beyond; it wouldn't be later.
 abbrev pub extension_checks : DaysView → ClockView → DeadlineRowView → Request → List (Option PeriodRefusal)
@@ -77,6 +96,7 @@ extension_checks c clock row request =
     ∷ when (is_beyond now) Beyond
     ∷ when (is_never rule) NotExtendable
     ∷ when (not (grant_fits (is_in_hours row.period) request.grant)) WrongGrant
+    ∷ when (not (fits_end now request.grant)) WrongGrant
     ∷ when (not (is_grant_length request.grant)) BadLength
     ∷ when (asks_findings rule && not request.cause) NoGoodCause
     ∷ when (asks_findings rule && late && not request.motion) LateWithoutMotion
@@ -85,16 +105,14 @@ extension_checks c clock row request =
     ∷ when (not (is_later now anew)) NotLonger
     ∷ [])
 
--- An order needs no findings, and the end may be sooner. In this order: the day of the order or that of the end isn't covered; the
--- time must not be extended (6(b)(2)) and the end would be later, or can't be told to be no later; the end is of another kind than
--- the period.
+-- An order needs no findings, and the end may be sooner, and of another kind than the period. In this order: the day of the order or that of
+-- the end isn't covered; the time must not be extended (6(b)(2)) and the end would be later.
 abbrev pub reset_checks : DaysView → ClockView → DeadlineRowView → Request → List (Option PeriodRefusal)
 reset_checks c clock row request =
     let now = shown_of c clock row in
     let anew = shown_of c clock (with_grant row request.grant) in
     (when (not (is_covered c request.asked.day && is_covered_grant c request.grant)) BadDay
-    ∷ when (is_never (extension_due row) && not (is_no_later now anew)) NotExtendable
-    ∷ when (not (grant_fits (is_in_hours row.period) request.grant)) WrongGrant
+    ∷ when (is_never (extension_due row) && not (is_no_later clock now anew)) NotExtendable
     ∷ [])
 
 -- the first refusal of what was asked for, and of what an order sets, or none

@@ -69,8 +69,7 @@ end_as_set clock row =
 abbrev pub SetEndsStay : Type 0
 SetEndsStay = (c : DaysView) (clock : ClockView) (row : DeadlineRowView) → is_set row.period ≡ true → row.grants ≡ [] → shown_of c clock row ≡ end_as_set clock row
 
--- So does the end that an order sets in place of another: a day where the period ends with a day, and a minute of one where it ends
--- at an instant.
+-- So does the end that an order sets in place of another, a day or a minute of one, whatever the period is counted in.
 pub record ResetEndsStay : Type 0 where
-  pub on_day : (c : DaysView) (clock : ClockView) (row : DeadlineRowView) (day : ℤ) → is_in_hours row.period ≡ false → shown_of c clock (with_grant row (Reset day)) ≡ shown.Last day (act_due row)
-  pub at_time : (c : DaysView) (clock : ClockView) (row : DeadlineRowView) (at : EventView) → is_in_hours row.period ≡ true → shown_of c clock (with_grant row (ResetAt at)) ≡ shown.Until (instant_of clock.zone at.day (60 * at.minute))
+  pub on_day : (c : DaysView) (clock : ClockView) (row : DeadlineRowView) (day : ℤ) → shown_of c clock (with_grant row (Reset day)) ≡ shown.Last day (act_due row)
+  pub at_time : (c : DaysView) (clock : ClockView) (row : DeadlineRowView) (at : EventView) → shown_of c clock (with_grant row (ResetAt at)) ≡ shown.Until (instant_of clock.zone at.day (60 * at.minute))

@@ -2,7 +2,7 @@
 
 ghost use Rattle.std.specs.Prelude.{◌≡◌, ◌<◌, true, option_map, IfSome, IfOk, is_ok, if◌then◌else◌};
 ghost use Rattle.std.specs.List.{list_all};
-ghost use Rattle.rule_periods.specs.Deadline.{DeadlineRowView, kept_filing, with_filing, with_grant};
+ghost use Rattle.rule_periods.specs.Deadline.{DeadlineRowView, anew, kept_filing, second_anew, with_filing, with_grant};
 ghost use Rattle.rule_periods.specs.Grant.{is_grant_length};
 ghost use Rattle.rule_periods.specs.Period.{suits, has_length};
 
@@ -126,6 +126,32 @@ impl DeadlineRow {
         self.filed = Some(kept_filing(filing));
     }
 
+    /// The deadline as it runs anew from a day: that is the day of its event, at the same time of day, and its second day where the period
+    /// takes one, and no extension counts any more. It takes no memory.
+    #[tactic(auto, using(crate::proofs::DeadlineLemmas::anew_suits))]
+    pub fn anew(&self, alloc: Global, day: Day) -> DeadlineRow
+        ensures { result ≡ anew self.now day }
+    {
+        DeadlineRow {
+            period: self.period,
+            event: self.event.on(day),
+            second: second_anew(self.second, day),
+            service: self.service,
+            grants: Vec::new(alloc),
+            filed: self.filed,
+        }
+    }
+
+    /// Lets the deadline run anew from a day, in place. It takes no memory.
+    #[tactic(auto, using(crate::proofs::DeadlineLemmas::anew_suits))]
+    pub(crate) fn run_anew(&mut self, day: Day)
+        ensures { self.new ≡ anew self.old day }
+    {
+        self.event = self.event.on(day);
+        self.second = second_anew(self.second, day);
+        self.grants.clear();
+    }
+
     /// A copy.
     pub fn copy(&self, alloc: Global) -> Result<DeadlineRow, AllocError>
         ensures { IfOk result (λ row. row ≡ self.now) }
@@ -145,6 +171,16 @@ impl DeadlineRow {
         ensures { result.items ≡ self.grants }
     {
         self.grants
+    }
+}
+
+// The second day of a deadline that runs anew, where its period takes one.
+fn second_anew(second: Option<Day>, day: Day) -> Option<Day>
+    ensures { result ≡ second_anew second day }
+{
+    match second {
+        Some(_) => Some(day),
+        None => None,
     }
 }
 

@@ -1,7 +1,7 @@
 //! A row of the docket: a deadline that began with no extension, and whose extensions all fit its period.
 
 ghost use Rattle.std.specs.Prelude.{◌≡◌, [], None, true, IfOk, is_ok, if◌then◌else◌};
-ghost use Rattle.rule_periods.specs.Deadline.{DeadlineRowView, has_fitting_grants, with_filing, with_grant};
+ghost use Rattle.rule_periods.specs.Deadline.{DeadlineRowView, anew, has_fitting_grants, with_filing, with_grant};
 ghost use Rattle.rule_periods.specs.Grant.{grant_fits, is_grant_length};
 ghost use Rattle.rule_periods.specs.Period.{is_in_hours, suits, has_length};
 
@@ -14,8 +14,8 @@ use rule6::{Filing, ServiceKind};
 use std::alloc::{AllocError, Global};
 use std::marker::Model;
 
-/// A deadline of the docket. Each of its extensions is by hours or to a time where its period ends at an instant, and by days
-/// or to a date where it ends with a day. An extension and an act are put into it in place.
+/// A deadline of the docket. Each of its extensions is by hours where its period ends at an instant, and by days or to a date
+/// where it ends with a day; an order may set either end of either. An extension and an act are put into it in place.
 #[derive(Debug, Drop)]
 pub struct DocketRow {
     row: DeadlineRow,
@@ -71,6 +71,14 @@ impl DocketRow {
         ensures { self.new ≡ with_filing self.old filing }
     {
         self.row.set_filed(filing);
+    }
+
+    /// Lets the deadline run anew from a day, in place: that is the day of its event, at the same time of day, and its second day where the
+    /// period takes one, and no extension counts any more. It takes no memory.
+    pub fn run_anew(&mut self, day: Day)
+        ensures { self.new ≡ anew self.old day }
+    {
+        self.row.run_anew(day);
     }
 
     /// A copy.

@@ -37,6 +37,16 @@ impl Event {
         }
     }
 
+    // The same minute of another day.
+    pub(crate) fn on(self, day: Day) -> Event
+        ensures { result ≡ record { day = day; minute = self.minute } }
+    {
+        Event {
+            day,
+            minute: self.minute,
+        }
+    }
+
     /// The day.
     pub fn day(self) -> Day
         ensures { result ≡ self.day }

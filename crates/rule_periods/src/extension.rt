@@ -2,8 +2,9 @@
 
 ghost use Rattle.std.specs.Prelude.{◌≡◌, true, OnOk};
 ghost use Rattle.std.specs.Result.{result_err};
+ghost use Rattle.court_clock.specs.Words.{civil_of};
 ghost use Rattle.rule_periods.specs.Deadline.{with_grant};
-ghost use Rattle.rule_periods.specs.Extension.{extension_refusal, request_refusal, reset_refusal, is_covered_grant, is_beyond, is_never, asks_findings, is_asked_in_time, is_later, is_no_later};
+ghost use Rattle.rule_periods.specs.Extension.{extension_refusal, request_refusal, reset_refusal, is_covered_grant, is_beyond, is_never, asks_findings, is_asked_in_time, is_later, is_by_day, is_after_day, is_no_later, fits_end};
 ghost use Rattle.rule_periods.specs.Grant.{grant_fits, is_grant_length};
 ghost use Rattle.rule_periods.specs.Period.{is_in_hours};
 ghost use Rattle.rule_periods.specs.Showing.{shown_of};
@@ -41,8 +42,7 @@ pub fn may_extend(
 }
 
 /// Whether an order may set the end (2009 Note to Fed. R. Civ. P. 6(a)). The first refusal that applies: `BadDay` where the day of
-/// the order or that of the end isn't covered; `NotExtendable` where the time must not be extended, and the end would be later or
-/// can't be compared; `WrongGrant`.
+/// the order or that of the end isn't covered; `NotExtendable` where the time must not be extended, and the end would be later.
 #[tactic(auto, unfolding(crate::specs::Extension::reset_refusal))]
 fn check_order(
     days: &Days,
@@ -51,29 +51,25 @@ fn check_order(
     request: &Request,
 ) -> Result<(), PeriodRefusal>
     requires { is_grant_length request.now.grant ≡ true }
-    ensures refusal { result_err result ≡ reset_refusal days.now clock.now row.now request.now }
-    ensures fits { OnOk result (grant_fits (is_in_hours row.now.period) request.now.grant ≡ true) }
+    ensures { result_err result ≡ reset_refusal days.now clock.now row.now request.now }
 {
     let now = shown(days, clock, row);
     let then = shown_with(days, clock, row, request.grant);
     if !(days.covered(request.asked.day()) && is_covered_grant(days, request.grant)) {
         return Err(PeriodRefusal::BadDay);
     }
-    if is_never(extension_due(row)) && !is_no_later(&now, &then) {
+    if is_never(extension_due(row)) && !is_no_later(clock, &now, &then) {
         return Err(PeriodRefusal::NotExtendable);
-    }
-    if !grant_fits(row.period().is_in_hours(), request.grant) {
-        return Err(PeriodRefusal::WrongGrant);
     }
     Ok(())
 }
 
 /// Whether the request may be granted (Fed. R. Civ. P. 6(b); 4(m) for a period of that Rule). The first refusal that
 /// applies: `BadDay` where the day asked, or that of a date certain, isn't covered; `Beyond` where the deadline is;
-/// `NotExtendable`; `WrongGrant`; `BadLength`; then, unless the period is one of Rule 4(m), `NoGoodCause`, and, where
-/// the request came after the time had expired, `LateWithoutMotion` and `LateWithoutNeglect`; `Beyond` where the
-/// extended deadline would be; `NotLonger` where it wouldn't be later. A request is in time where an electronic filing
-/// at its moment would be timely.
+/// `NotExtendable`; `WrongGrant`, by the kind of the period and by that of the end as it is; `BadLength`; then, unless the
+/// period is one of Rule 4(m), `NoGoodCause`, and, where the request came after the time had expired, `LateWithoutMotion`
+/// and `LateWithoutNeglect`; `Beyond` where the extended deadline would be; `NotLonger` where it wouldn't be later. A
+/// request is in time where an electronic filing at its moment would be timely.
 #[tactic(auto, unfolding(crate::specs::Extension::request_refusal))]
 fn check_request(
     days: &Days,
@@ -97,6 +93,9 @@ fn check_request(
         return Err(PeriodRefusal::NotExtendable);
     }
     if !grant_fits(row.period().is_in_hours(), request.grant) {
+        return Err(PeriodRefusal::WrongGrant);
+    }
+    if !fits_end(&now, request.grant) {
         return Err(PeriodRefusal::WrongGrant);
     }
     if !is_grant_length(request.grant) {
@@ -178,32 +177,66 @@ fn is_instant_before(now: Instant, then: &Shown) -> bool
     }
 }
 
-/// Whether the second end is no later than the first.
-fn is_no_later(now: &Shown, then: &Shown) -> bool
-    ensures { result ≡ is_no_later now.now then.now }
+/// Whether the extension is of the kind of the end as it is, which is another than the period's where an order set it: by days or to a
+/// date from a last day, and by hours from an instant.
+fn fits_end(now: &Shown, grant: Grant) -> bool
+    ensures { result ≡ fits_end now.now grant }
 {
     match *now {
-        Shown::Last { day, act } => is_no_later_day(day, act, then),
-        Shown::Until(instant) => is_no_later_instant(instant, then),
+        Shown::Last { .. } => grant_fits(false, grant),
+        Shown::Until(_) => grant_fits(true, grant),
+        Shown::Beyond => true,
+    }
+}
+
+/// Whether the second end is no later than the first. A last day and a time of day are compared by their days.
+fn is_no_later(clock: &Clock, now: &Shown, then: &Shown) -> bool
+    ensures { result ≡ is_no_later clock.now now.now then.now }
+{
+    match *now {
+        Shown::Last { day, act } => is_no_later_day(clock, day, act, then),
+        Shown::Until(instant) => is_no_later_instant(clock, instant, then),
         Shown::Beyond => false,
     }
 }
 
-fn is_no_later_day(now: Day, _act: Act, then: &Shown) -> bool
-    ensures { result ≡ is_no_later (Shown.Last now _act) then.now }
+fn is_no_later_day(clock: &Clock, now: Day, _act: Act, then: &Shown) -> bool
+    ensures { result ≡ is_no_later clock.now (Shown.Last now _act) then.now }
 {
     match *then {
         Shown::Last { day, .. } => day.number() <= now.number(),
-        _ => false,
+        Shown::Until(instant) => is_by_day(clock, now, instant),
+        Shown::Beyond => false,
     }
 }
 
-fn is_no_later_instant(now: Instant, then: &Shown) -> bool
-    ensures { result ≡ is_no_later (Shown.Until now) then.now }
+fn is_no_later_instant(clock: &Clock, now: Instant, then: &Shown) -> bool
+    ensures { result ≡ is_no_later clock.now (Shown.Until now) then.now }
 {
     match *then {
+        Shown::Last { day, .. } => is_after_day(clock, day, now),
         Shown::Until(instant) => instant.seconds() <= now.seconds(),
-        _ => false,
+        Shown::Beyond => false,
+    }
+}
+
+/// Whether the court's clock shows the day or an earlier one at the instant.
+fn is_by_day(clock: &Clock, day: Day, instant: Instant) -> bool
+    ensures { result ≡ is_by_day day (civil_of clock.now.zone instant) }
+{
+    match clock.civil_of(instant) {
+        Some((shown, _)) => shown.number() <= day.number(),
+        None => false,
+    }
+}
+
+/// Whether it shows a later day.
+fn is_after_day(clock: &Clock, day: Day, instant: Instant) -> bool
+    ensures { result ≡ is_after_day day (civil_of clock.now.zone instant) }
+{
+    match clock.civil_of(instant) {
+        Some((shown, _)) => day.number() < shown.number(),
+        None => false,
     }
 }
 

@@ -1,6 +1,6 @@
 //! Extensions of time.
 
-ghost use Rattle.std.specs.Prelude.{◌≡◌, true};
+ghost use Rattle.std.specs.Prelude.{◌≡◌, Bool, true};
 ghost use Rattle.rule_periods.specs.Grant.{grant_fits, is_certain, is_grant_length, is_order};
 
 use crate::event::Event;
@@ -15,10 +15,9 @@ pub enum Grant {
     ByHours(u32),
     /// Until that day, a date certain, which isn't rolled. It is for a period in days.
     Until(Day),
-    /// To that day, which an order sets in place of the end so far, sooner or later. It isn't rolled. It is for a period that
-    /// ends with a day.
+    /// To that day, which an order sets in place of the end so far, sooner or later. It isn't rolled. It is for any period.
     Reset(Day),
-    /// To that minute of a day, in the same way. It is for a period that ends at an instant.
+    /// To that minute of a day by the court's clock, in the same way. It is for any period.
     ResetAt(Event),
 }
 
@@ -27,6 +26,7 @@ impl Grant {
     pub fn is_order(self) -> bool
         ensures value { result ≡ is_order self }
         ensures length { result ≡ true → is_grant_length self ≡ true }
+        ensures fits { result ≡ true → (hours : Bool) → grant_fits hours self ≡ true }
     {
         match self {
             Grant::ByDays(_) | Grant::ByHours(_) | Grant::Until(_) => false,
@@ -66,8 +66,9 @@ pub(crate) fn grant_fits(hours: bool, grant: Grant) -> bool
     ensures { result ≡ grant_fits hours grant }
 {
     match grant {
-        Grant::ByDays(_) | Grant::Until(_) | Grant::Reset(_) => !hours,
-        Grant::ByHours(_) | Grant::ResetAt(_) => hours,
+        Grant::ByDays(_) | Grant::Until(_) => !hours,
+        Grant::ByHours(_) => hours,
+        Grant::Reset(_) | Grant::ResetAt(_) => true,
     }
 }
 

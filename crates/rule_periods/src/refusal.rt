@@ -32,8 +32,8 @@ pub enum PeriodRefusal {
     /// 14: the deadline wouldn't be later.
     #[error("the deadline wouldn't be later")]
     NotLonger,
-    /// 28: an extension by days or to a date of a period that ends at an instant, or by hours or to a time of one that ends with
-    /// a day.
+    /// 28: an extension by days or to a date of a period that ends at an instant, or by hours of one that ends with a day; or either
+    /// where an order set an end of the other kind.
     #[error("the extension is of another kind than the period")]
     WrongGrant,
 }

@@ -1,6 +1,6 @@
 //! Stored calls of the desk, one after another, over one disk in memory.
 
-ghost use Rattle.std.specs.Prelude.{◌≡◌, ◌<◌, ◌≤◌, false, length};
+ghost use Rattle.std.specs.Prelude.{◌≡◌, ◌<◌, ◌≤◌, false, length, OnOk};
 ghost use Rattle.program_streams.specs.Words.{has_failed};
 
 use crate::calendar::{first_instant, push_ending};
@@ -11,12 +11,12 @@ use desk_entries::{Docketed, standing_file};
 use desk_journal::{Stamp, stamped_in};
 use desk_program::{
     Desk, DeskFault, LogChoice, OpenFault, OutputFault, RowCorrection, all_taken, ask,
-    checked_rows, court_of, ended_by, write_cases, write_count, write_log, write_rows,
-    write_struck,
+    checked_rows, court_of, earlier_entry, ended_by, write_cases, write_count, write_log,
+    write_rows, write_struck,
 };
 use desk_session::Tally;
 use program_main::today_by;
-use program_streams::Watched;
+use program_streams::{Watched, write_all};
 use program_words::{Correcting, LogAsked, Task, asked_of};
 use sqlite_disk::Memory;
 use std::alloc::{AllocError, Global};
@@ -183,7 +183,11 @@ fn opened(
         }
         Task::Ask(_, _, _) => asked(alloc, entries, input, writer),
         Task::Struck(_, _) => listed(write_struck(alloc, entries, writer)),
-        Task::Check(_) => checked(alloc, entries, writer),
+        Task::Check(_) => {
+            let disk = desk.into_disk();
+            let ended = checked(alloc, disk.bytes(), entries, writer);
+            return (ended, disk);
+        }
         _ => listed(write_rows(alloc, desk.standing(), desk.moved(), entries, writer)),
     };
     (ended, desk.into_disk())
@@ -234,15 +238,41 @@ fn asked(
     }
 }
 
-// Decides all rows again, and writes how many there are.
+// Writes which entry of a journal's file is of an earlier time than the one before it, if one is.
+fn checked_times(
+    alloc: Global,
+    file: &[u8],
+    entries: &[Vec<u8>],
+    writer: &mut Watched<Vec<u8>>,
+) -> Result<(), DeskFault>
+    requires { has_failed writer.old ≡ false }
+    ensures { OnOk result (has_failed writer.new ≡ false) }
+{
+    let (kept, stamps) = match stamped_in(alloc, file) {
+        Ok(found) => found,
+        Err(fault) => return Err(DeskFault::Open(OpenFault::from(fault))),
+    };
+    drop(kept);
+    match earlier_entry(alloc, entries, &stamps)? {
+        None => Ok(()),
+        Some(line) => match write_all(writer, line.as_bytes()) {
+            Ok(()) => Ok(()),
+            Err(_) => Err(DeskFault::Output(OutputFault::Write)),
+        },
+    }
+}
+
+// Looks at the times of all entries, decides all rows again, and writes how many there are.
 fn checked(
     alloc: Global,
+    file: &[u8],
     entries: &[Vec<u8>],
     writer: &mut Watched<Vec<u8>>,
 ) -> Result<(), DeskFault>
     requires works { has_failed writer.old ≡ false }
     requires few { length entries.now ≤ 1000000 }
 {
+    checked_times(alloc, file, entries, writer)?;
     match checked_rows(alloc, entries) {
         Ok(count) => listed(write_count(alloc, count, writer)),
         Err(fault) => Err(DeskFault::Open(OpenFault::from(fault))),

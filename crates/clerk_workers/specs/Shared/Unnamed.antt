@@ -9,4 +9,5 @@ no_court = record {
   days = record { from = pos 0; to = pos 0; federal = []; state = []; outages = [] };
   judges = [];
   rooms = [];
+  periods = record { texts = []; cites = []; triggers = []; shorts = [] };
 }

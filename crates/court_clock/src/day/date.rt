@@ -33,7 +33,7 @@ impl Day {
     }
 
     /// The date of this day.
-    fn date(self) -> Date
+    pub(crate) fn date(self) -> Date
         ensures date { epoch_day result ≡ self }
         ensures day { IsDayNumber self }
     {

@@ -4,7 +4,7 @@ use Rattle.court_file_text.specs.declared.fault.CourtFault.{CourtFault}
 use Rattle.court_file_text.specs.declared.fault.CourtFault.TheVariants.{BadZone, NotToml}
 use Rattle.court_file_text.specs.declared.key.Key.TheVariants as key
 use Rattle.court_days.specs.Court.{CourtFile, CourtView, IsSameCourt, court_in, court_of, days_at, file_of, hours_at, zone_at}
-use Rattle.court_file_text.specs.Words.{◌>>=◌, names_at, text_at, toml_of}
+use Rattle.court_file_text.specs.Words.{◌>>=◌, names_at, no_period_names, text_at, toml_of}
 use Rattle.court_clock.specs.Words.{TextsNameClocks, Zone, zone_of_text, zone_view}
 use Rattle.court_days.specs.Days.{DaysView}
 
@@ -25,7 +25,7 @@ read_zone members zone e = by (text_at key.Zone members) e
     by (Err fault) e = absurd (cc e)
 
 abbrev court : Zone → ℕ × ℕ → DaysView → List (List ℕ) → List (List ℕ) → CourtFile
-court zone hours days judges rooms = record { zone = zone; opens = hours.0; closes = hours.1; efiling_until = None; days = days; judges = judges; rooms = rooms }
+court zone hours days judges rooms = record { zone = zone; opens = hours.0; closes = hours.1; efiling_until = None; days = days; judges = judges; rooms = rooms; periods = no_period_names }
 
 read_court : (members : _) (file : CourtFile) → court_of members ≡ Ok file → IsNamed file.zone
 unfolding court_of
@@ -66,4 +66,5 @@ same_court clocks bytes file said a b one other =
       days = ap (λ f. f.days) same;
       judges = ap (λ f. f.judges) same;
       rooms = ap (λ f. f.rooms) same;
+      periods = ap (λ f. f.periods) same;
     }

@@ -4,7 +4,7 @@ use Rattle.court_file_text.specs.declared.fault.CourtFault.{CourtFault}
 use Rattle.court_file_text.specs.declared.fault.CourtFault.TheVariants.{BadSpan, NotToml}
 use Rattle.court_file_text.specs.declared.key.Key.TheVariants as key
 use Rattle.court_days.specs.Court.{CourtFile, court_in, court_of, days_at, hours_at, is_span, zone_at}
-use Rattle.court_file_text.specs.Words.{◌>>=◌, date_at, must, names_at, toml_of}
+use Rattle.court_file_text.specs.Words.{◌>>=◌, date_at, must, names_at, no_period_names, toml_of}
 use Rattle.court_days.specs.Court.Reading.{dates_at}
 use Rattle.court_days.specs.Days.{DaysView}
 
@@ -33,7 +33,7 @@ read_court members file e =
     let days = steps (days_at members) _ file hours.2 in
     let judges = steps (names_at key.Judges members) _ file days.2 in
     let rooms = steps (names_at key.Rooms members) _ file judges.2 in
-    let read : CourtFile = record { zone = zone.0; opens = hours.0.0; closes = hours.0.1; efiling_until = None; days = days.0; judges = judges.0; rooms = rooms.0 } in
+    let read : CourtFile = record { zone = zone.0; opens = hours.0.0; closes = hours.0.1; efiling_until = None; days = days.0; judges = judges.0; rooms = rooms.0; periods = no_period_names } in
     let same : read ≡ file = cc rooms.2 in
     sym (ap (λ (f : CourtFile). f.days.outages) same) ∙ read_days members days.0 days.1
 

@@ -1,15 +1,14 @@
 //! Faults of a list of names.
 
 ghost use Rattle.std.specs.Prelude.{◌≡◌, ◌||◌, ◌++◌, [], Some, OnOk};
-ghost use Rattle.std.specs.List.{list_all};
 ghost use Rattle.std.specs.Str.{bytes_eq};
 ghost use Rattle.toml.specs.View.{table_view, view, items_view};
-ghost use Rattle.court_file_text.specs.Words.{and_name, is_name, is_name_byte, is_named};
+ghost use Rattle.court_file_text.specs.Words.{and_desk_name, is_named};
 ghost use Rattle.court_file_check.specs.Faults.{and_good, each_name, faulty, names_faults};
 ghost use Rattle.court_file_check.specs.Inside.Names.{texts_of};
 
 use crate::faults::{Fault, Faults, What};
-use court_file_text::{CourtFault, Key, list_at};
+use court_file_text::{CourtFault, Key, is_desk_name, list_at};
 use std::alloc::{AllocError, Global};
 use toml::{Table, Value};
 
@@ -49,7 +48,7 @@ fn check_items(
 }
 
 /// Adds that of one item, or else its name to the good ones.
-#[tactic(auto, unfolding(court_file_text::specs::Reading::and_name))]
+#[tactic(auto, unfolding(court_file_text::specs::Reading::and_desk_name))]
 fn check_item(
     alloc: Global,
     value: &Value,
@@ -58,14 +57,14 @@ fn check_item(
     names: &mut Vec<String>,
     faults: &mut Faults,
 ) -> Result<(), AllocError>
-    ensures faults { OnOk result (faults.new ≡ faults.old ++ faulty key (Some number) (and_name key (texts_of names.old.items) (view value.now))) }
-    ensures names { OnOk result (texts_of names.new.items ≡ and_good (texts_of names.old.items) (and_name key (texts_of names.old.items) (view value.now))) }
+    ensures faults { OnOk result (faults.new ≡ faults.old ++ faulty key (Some number) (and_desk_name key (texts_of names.old.items) (view value.now))) }
+    ensures names { OnOk result (texts_of names.new.items ≡ and_good (texts_of names.old.items) (and_desk_name key (texts_of names.old.items) (view value.now))) }
 {
     let item = Some(number);
     let Some(text) = value.as_str() else {
         return faults.add_read(key, item, CourtFault::WrongKind(key));
     };
-    if !is_name(text) {
+    if !is_desk_name(text) {
         let what = What::BadName(String::from_str(alloc, text)?);
         return faults.add(Fault { key, item, what });
     }
@@ -93,24 +92,4 @@ fn is_same_or(found: bool, text: &str, name: &str) -> bool
     ensures { result ≡ (found || bytes_eq text.now name.now) }
 {
     found || text == name
-}
-
-/// Whether a text may name a judge or a room.
-pub fn is_name(text: &str) -> bool
-    ensures { result ≡ is_name text.now }
-{
-    let length = text.len();
-    1 <= length && length <= 32 && are_name_bytes(text.as_bytes())
-}
-
-fn are_name_bytes(text: &[u8]) -> bool
-    ensures { result ≡ list_all is_name_byte text.now }
-{
-    text.iter().all(|b| is_name_byte(*b))
-}
-
-fn is_name_byte(b: u8) -> bool
-    ensures { result ≡ is_name_byte b }
-{
-    b.is_ascii_alphabetic() || b.is_ascii_digit() || b == b'-' || b == b'_' || b == b'.'
 }

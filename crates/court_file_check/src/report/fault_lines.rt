@@ -6,6 +6,7 @@ use crate::report::near_key::near_key;
 use crate::report::sheet::Sheet;
 use crate::{Fault, What};
 use court_clock::{Day, minute_from_text};
+use court_days::Court;
 use court_file_text::{CourtFault, Key, NumberedFault};
 use std::alloc::{AllocError, Global};
 use toml::{Table, Value};
@@ -20,24 +21,34 @@ pub(crate) fn push_faults(
     for fault in faults {
         push_fault(alloc, sheet, file, fault)?;
     }
-    match faults.first() {
-        Some(first) => {
+    let Some(first) = faults.first() else {
+        return Ok(());
+    };
+    match office_fault(alloc, file)? {
+        Some(fault) => sheet.end_faults("clerk_office", fault.as_str()),
+        None => {
             let told = told(alloc, first)?;
-            sheet.end_faults(teller(first.key), told.as_str())
+            sheet.end_faults("docket", told.as_str())
         }
-        None => Ok(()),
     }
 }
 
-/// The program that refuses a file whose first fault is at this key: the key that the desk alone reads, or another one.
-fn teller(key: Key) -> &'static str {
-    match key {
-        Key::EfilingUntil => "docket",
-        _ => "clerk_office",
+/// The fault for which clerk_office refuses a document, as it is told, if it does: it reads no key of the desk's, and takes fewer names.
+pub(crate) fn office_fault(alloc: Global, file: &Table) -> Result<Option<String>, AllocError> {
+    match Court::from_table(alloc, file) {
+        Ok(court) => {
+            drop(court);
+            Ok(None)
+        }
+        Err(CourtFault::OutOfMemory) => Err(AllocError),
+        Err(fault) => {
+            let numbered = NumberedFault { fault: &fault };
+            Ok(Some(format!(in alloc; "{numbered}")?))
+        }
     }
 }
 
-/// The fault as it is told.
+/// The fault as it is said.
 fn told(alloc: Global, fault: &Fault) -> Result<String, AllocError> {
     match &fault.what {
         What::Read(fault) => {
@@ -205,9 +216,7 @@ fn push_too_many(sheet: &mut Sheet<'_>, key: Key) -> Result<(), AllocError> {
 fn push_bad_name(sheet: &mut Sheet<'_>, key: Key, item: Option<usize>) -> Result<(), AllocError> {
     let shown = sheet.fault_at(key, item)?;
     write!(sheet.text, "{shown} is no name that rows can use")?;
-    sheet.end(
-        "; a name has 1 to 32 of the letters A to Z and a to z, digits, - _ and . and no blanks, as OBrien or Smith-Jones",
-    )
+    sheet.end("; a name has 1 to 128 bytes, with no comma, no plus and no control character")
 }
 
 fn push_twice(

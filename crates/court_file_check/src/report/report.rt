@@ -1,6 +1,6 @@
 //! The whole text.
 
-use crate::report::fault_lines::push_faults;
+use crate::report::fault_lines::{office_fault, push_faults};
 use crate::report::sheet::Sheet;
 use crate::report::syntax_lines::push_syntax;
 use crate::report::warning_lines::push_warnings;
@@ -41,7 +41,11 @@ pub fn report_of(
         }
         Checked::Taken(file, warnings) => {
             push_warnings(&mut sheet, file, asked, warnings)?;
-            sheet.end_warnings()?;
+            let office = office_fault(alloc, file)?;
+            match &office {
+                Some(fault) => sheet.end_warnings(Some(fault.as_str()))?,
+                None => sheet.end_warnings(None)?,
+            }
             Ok(sheet.taken())
         }
     }

@@ -160,8 +160,16 @@ impl<'a> Sheet<'a> {
         )
     }
 
-    /// The last line of a file without faults.
-    pub fn end_warnings(&mut self) -> Result<(), AllocError> {
+    /// The last line of a file without faults, which `clerk_office` refuses for this fault, or takes.
+    pub fn end_warnings(&mut self, office: Option<&str>) -> Result<(), AllocError> {
+        match office {
+            Some(fault) => self.end_taken_by_docket(fault),
+            None => self.end_taken(),
+        }
+    }
+
+    /// The same where both programs take it.
+    fn end_taken(&mut self) -> Result<(), AllocError> {
         let count = self.count;
         self.text.push_str(self.name)?;
         if count == 0 {
@@ -171,6 +179,25 @@ impl<'a> Sheet<'a> {
         write!(
             self.text,
             ": no fault, {count} {warnings}. clerk_office takes the file as it is: see that each of them is meant.\n"
+        )
+    }
+
+    /// The same where `docket` alone does.
+    fn end_taken_by_docket(&mut self, fault: &str) -> Result<(), AllocError> {
+        let count = self.count;
+        self.text.push_str(self.name)?;
+        if count == 0 {
+            self.text.push_str(": nothing found")?;
+        } else {
+            let warnings = if count == 1 { "warning" } else { "warnings" };
+            write!(
+                self.text,
+                ": no fault, {count} {warnings}: see that each of them is meant"
+            )?;
+        }
+        write!(
+            self.text,
+            ". docket takes the file, and clerk_office refuses the file with: court fault {fault}\n"
         )
     }
 

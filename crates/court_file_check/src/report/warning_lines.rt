@@ -2,7 +2,9 @@
 
 use crate::places::{Mark, Part};
 use crate::report::near_key::near_key;
+use crate::report::period_lines::{push_periods, push_triggers};
 use crate::report::sheet::{Sheet, item_after, item_of};
+use crate::report::short_lines::push_short_names;
 use crate::review::{Due, due_on};
 use crate::{Alike, Asked, Slip, Warnings, ZoneDoubt};
 use court_clock::Day;
@@ -46,7 +48,10 @@ pub(crate) fn push_warnings(
     push_slips(sheet, Key::Federal, &warnings.federal_slips)?;
     push_slips(sheet, Key::State, &warnings.state_slips)?;
     push_alike(sheet, Key::Judges, &warnings.judges_alike)?;
-    push_alike(sheet, Key::Rooms, &warnings.rooms_alike)
+    push_alike(sheet, Key::Rooms, &warnings.rooms_alike)?;
+    push_periods(sheet, file)?;
+    push_triggers(sheet, file)?;
+    push_short_names(sheet, file)
 }
 
 /// Those of the zone, the hours and the span.

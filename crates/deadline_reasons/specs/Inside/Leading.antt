@@ -1,9 +1,11 @@
 -- Where a derivation stands after a part of its reasons.
-use Rattle.std.specs.Prelude.{ℤ, List, [], Option, Some, None}
+use Rattle.std.specs.Prelude.{ℤ, Bool, true, false, ◌&&◌, List, [], Option, Some, None}
 use Rattle.court_clock.specs.Words.{ClockView}
 use Rattle.court_days.specs.Words.{DaysView}
+use Rattle.rule_periods.specs.declared.expiry.Expiry.{Expiry}
+use Rattle.rule_periods.specs.declared.expiry.Expiry.TheVariants.{OnDay, AtInstant}
 use Rattle.rule_periods.specs.declared.grant.Grant.{Grant}
-use Rattle.rule_periods.specs.Words.{DeadlineRowView}
+use Rattle.rule_periods.specs.Words.{DeadlineRowView, goes_on_from_day, goes_on_from_instant, grant_fits, is_certain}
 use Rattle.deadline_reasons.specs.declared.look.Look.{Look}
 use Rattle.deadline_reasons.specs.declared.reason.Reason.{Reason}
 use Rattle.deadline_reasons.specs.Derivation.{Lead}
@@ -26,6 +28,27 @@ with_day None rest = Nowhere rest.grants
 abbrev pub with_instant : Option ℤ → List Grant → Standing
 with_instant (Some end) grants = RunsUntil end grants
 with_instant None grants = Nowhere grants
+
+-- where it stands with an end of either kind, or with none
+abbrev pub with_end : Option Expiry → List Grant → Standing
+with_end (Some (OnDay last)) grants = Runs last (record { three = false; grants = grants })
+with_end (Some (AtInstant end)) grants = RunsUntil end grants
+with_end None grants = Nowhere grants
+
+-- the extension, or the order, leads on from that end, in a period that is in hours, or isn't
+abbrev pub leads : Bool → Option Expiry → Grant → Bool
+leads hours (Some (OnDay last)) g = goes_on_from_day hours g
+leads hours (Some (AtInstant end)) g = goes_on_from_instant hours g
+leads hours None g = is_certain g && grant_fits hours g
+
+-- the last day from which a period in days is extended by days, and the instant from which one in hours is by hours
+abbrev pub last_day : Bool → Option Expiry → Option ℤ
+last_day false (Some (OnDay last)) = Some last
+last_day hours end = None
+
+abbrev pub last_instant : Bool → Option Expiry → Option ℤ
+last_instant true (Some (AtInstant end)) = Some end
+last_instant hours end = None
 
 -- where it stands with an instant, or none, to which an outage moved the time
 abbrev pub moved_to : Option ℤ → Standing

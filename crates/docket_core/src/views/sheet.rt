@@ -46,12 +46,13 @@ fn sheet_deadline<S: Sight>(
     let row = row.row();
     let shown = shown_now(rules, sight, row);
     let state = state_of(rules.clock(), &shown, row.filed());
+    let acted = row.filed().is_some();
     Ok(SheetDeadline {
         number,
         row: row.copy(alloc)?,
         shown,
         state,
-        ended: ending_in(facts, number),
+        ended: ending_in(facts, number, acted),
     })
 }
 

@@ -7,6 +7,8 @@ use Rattle.docket_rows.specs.declared.fact.Fact.{Fact}
 use Rattle.docket_rows.specs.declared.fact.Fact.TheVariants.{Ended, Resumed, Closed, Reopened, Ruled, Assigned, Titled, Labelled}
 use Rattle.docket_rows.specs.Words.{CourtSetup, Rows, DocketedFact, AreSound, AreLawful, parts_of, hearing_of, if_ahead, is_case, end_checks, resume_checks, close_checks, reopen_checks, rule_checks, assign_checks, title_checks, label_checks, end_refusal, resume_refusal, close_refusal, reopen_refusal, rule_refusal, assign_refusal, title_refusal, label_refusal, refusal, with_fact, without_hearing, hearings_until, is_kept, rows_after}
 use Rattle.docket_laws.proofs.MadeLemmas.{none_of, when-not-None}
+use Rattle.rule_periods.specs.Words.{anew_if}
+use Rattle.docket_laws.proofs.LawfulLemmas.DeadlineLemmas.{sound_changed, lawful_deadlines}
 use Rattle.docket_laws.proofs.LawfulLemmas.HearingLemmas.{sound_without, lawful_without}
 use Rattle.docket_laws.proofs.LawfulLemmas.SeenLemmas.{IsOpen, is_open_of}
 
@@ -14,9 +16,9 @@ use Rattle.docket_laws.proofs.LawfulLemmas.SeenLemmas.{IsOpen, is_open_of}
 fact_open : (setup : CourtSetup) (rows : Rows) (case : ℕ) (fact : Fact) → refusal setup (parts_of rows) (command.Fact case fact) ≡ None → IsOpen rows case
 unfolding end_refusal resume_refusal close_refusal reopen_refusal rule_refusal assign_refusal title_refusal label_refusal
 fact_open setup rows case (Ended deadline why dated) h =
-    is_open_of rows case (when-not-None _ _ (none_of (end_checks (parts_of rows) case deadline dated) h).0)
-fact_open setup rows case (Resumed deadline dated) h =
-    is_open_of rows case (when-not-None _ _ (none_of (resume_checks setup (parts_of rows) case deadline dated) h).0)
+    is_open_of rows case (when-not-None _ _ (none_of (end_checks (parts_of rows) case deadline why dated) h).0)
+fact_open setup rows case (Resumed deadline day dated) h =
+    is_open_of rows case (when-not-None _ _ (none_of (resume_checks setup (parts_of rows) case deadline day dated) h).0)
 fact_open setup rows case (Closed why dated) h =
     is_open_of rows case (when-not-None _ _ (none_of (close_checks (parts_of rows) case dated) h).0)
 fact_open setup rows case (Reopened dated) h =
@@ -77,8 +79,8 @@ lawful_until setup rows case motion day l = by (is_some (if_ahead day (hearing_o
 pub sound_fact : (setup : CourtSetup) (rows : Rows) (case : ℕ) (fact : Fact) → AreSound setup rows → refusal setup (parts_of rows) (command.Fact case fact) ≡ None → AreSound setup (rows_after rows (command.Fact case fact))
 sound_fact setup rows case (Ended deadline why dated) s h =
     sound_recorded setup rows case (Ended deadline why dated) s (fact_open setup rows case (Ended deadline why dated) h)
-sound_fact setup rows case (Resumed deadline dated) s h =
-    sound_recorded setup rows case (Resumed deadline dated) s (fact_open setup rows case (Resumed deadline dated) h)
+sound_fact setup rows case (Resumed deadline day dated) s h =
+    sound_changed setup (with_fact case (Resumed deadline day dated) rows) case deadline (λ row. anew_if row day) (sound_recorded setup rows case (Resumed deadline day dated) s (fact_open setup rows case (Resumed deadline day dated) h))
 sound_fact setup rows case (Closed why dated) s h =
     sound_recorded setup rows case (Closed why dated) s (fact_open setup rows case (Closed why dated) h)
 sound_fact setup rows case (Reopened dated) s h =
@@ -93,7 +95,7 @@ sound_fact setup rows case (Labelled counted number) s h =
 
 pub lawful_fact : (setup : CourtSetup) (rows : Rows) (case : ℕ) (fact : Fact) → AreLawful setup rows → AreLawful setup (rows_after rows (command.Fact case fact))
 lawful_fact setup rows case (Ended deadline why dated) l = lawful_recorded setup rows case (Ended deadline why dated) l
-lawful_fact setup rows case (Resumed deadline dated) l = lawful_recorded setup rows case (Resumed deadline dated) l
+lawful_fact setup rows case (Resumed deadline day dated) l = lawful_deadlines setup (with_fact case (Resumed deadline day dated) rows) _ (lawful_recorded setup rows case (Resumed deadline day dated) l)
 lawful_fact setup rows case (Closed why dated) l = lawful_recorded setup rows case (Closed why dated) l
 lawful_fact setup rows case (Reopened dated) l = lawful_recorded setup rows case (Reopened dated) l
 lawful_fact setup rows case (Ruled motion how dated) l =

@@ -1,5 +1,5 @@
 -- The deadlines on the sheet of a case.
-use Rattle.std.proofs.Common.{◌≡◌, ℕ, true, map, filter, find, get_or, Option, Some, None, option_map, refl, ap, sym, ◌∙◌}
+use Rattle.std.proofs.Common.{◌≡◌, ℕ, true, is_some, map, filter, find, get_or, Option, Some, None, option_map, refl, ap, sym, ◌∙◌}
 use Rattle.std.specs.Option.{option_map_or}
 use Rattle.std.proofs.lemmas.Bool.{eqb-true}
 use Rattle.std.proofs.lemmas.Simd.{map-map}
@@ -20,7 +20,7 @@ same_sheet a b h = cc
 -- a deadline of the case, as its sheet shows it
 of_its_case : (setup : CourtSetup) (rows : Rows) (case : ℕ) (d : DocketedDeadline) → is_deadline_in case d ≡ true → sheet_deadline setup (parts_of rows) (facts_of rows case) (deadline_shown d) ≡ deadline_on_sheet setup rows d
 unfolding parts_of
-of_its_case setup rows case d here = ap (λ (n : ℕ). record (deadline_on_sheet setup rows d) { ended = ending_in (facts_of rows n) d.number }) (sym (eqb-true d.case case here))
+of_its_case setup rows case d here = ap (λ (n : ℕ). record (deadline_on_sheet setup rows d) { ended = ending_in (facts_of rows n) d.number (is_some d.row.filed) }) (sym (eqb-true d.case case here))
 
 -- a sheet that is shown is that of a case of the rows
 sheet_shown : (setup : CourtSetup) (rows : Rows) (case : ℕ) (refused : Option Refusal) (c : Option DocketedCase) (sheet : Sheet) → find (is_case case) rows.cases ≡ c → option_map_or view.Refused refused (option_map_or (λ (r : CaseRecordView). view.Sheet (sheet_of setup (parts_of rows) case r)) (option_map (case_shown rows) c) (view.Refused NoSuchCase)) ≡ view.Sheet sheet → sheet.deadlines ≡ map (deadline_on_sheet setup rows) (filter (is_deadline_in case) rows.deadlines)

@@ -1,7 +1,7 @@
 //! Changes of a case, in place.
 
 ghost use Rattle.std.specs.Prelude.{◌≡◌, ◌<◌, ◌==◌, ◌+◌, true, None, length, find, map, is_ok, option_map, IfSome, IfOk, if◌then◌else◌};
-ghost use Rattle.rule_periods.specs.Words.{grant_fits, is_grant_length, is_in_hours, with_grant, with_filing};
+ghost use Rattle.rule_periods.specs.Words.{anew, grant_fits, is_grant_length, is_in_hours, with_grant, with_filing};
 ghost use Rattle.docket_rows.specs.Cases.{NumberedDeadline, NumberedMotion, numbered_deadlines, numbered_motions};
 ghost use Rattle.docket_rows.specs.Facts.{add_fact, is_kept, keep_fact};
 ghost use Rattle.docket_rows.specs.Limits.{most_deadlines, most_facts, most_motions};
@@ -16,6 +16,9 @@ use hearing_slots::Need;
 use rule_periods::{DocketRow, Grant};
 use rule6::Filing;
 use std::alloc::{AllocError, Global};
+
+// The types inside a fact. The checker finds them only where they have names, so a function that keeps one has a variable of this type.
+type FactTypes = Option<(Option<Day>, Option<u8>)>;
 
 impl CaseRecord {
     /// Adds a deadline. An error leaves the case as it was.
@@ -33,6 +36,13 @@ impl CaseRecord {
         ensures { self.new ≡ change_deadline deadline (λ row. with_filing row filing) self.old }
     {
         record_act(&mut self.deadlines, deadline, filing);
+    }
+
+    /// Lets the deadline run anew from a day. It takes no memory.
+    pub fn run_anew(&mut self, deadline: u32, day: Day)
+        ensures { self.new ≡ change_deadline deadline (λ row. anew row day) self.old }
+    {
+        run_anew(&mut self.deadlines, deadline, day);
     }
 
     /// Adds an extension, which may be granted, of the deadline. An error leaves the case as it was.
@@ -82,6 +92,7 @@ impl CaseRecord {
         requires { length self.old.facts < most_facts }
         ensures { self.new ≡ (if is_ok result then keep_fact fact self.old else self.old) }
     {
+        let _types: FactTypes = None;
         self.facts.push(fact)?;
         Ok(())
     }
@@ -109,6 +120,18 @@ fn record_act(rows: &mut Vec<DocketRow>, number: u32, filing: Filing)
     }
     let row = &mut rows[(number - 1) as usize];
     row.set_filed(filing);
+}
+
+/// Lets the deadline of that number run anew from a day, in a list that is numbered from 1.
+fn run_anew(rows: &mut Vec<DocketRow>, number: u32, day: Day)
+    ensures count { length rows.new.items ≡ length rows.old.items }
+    ensures rows { numbered_deadlines 1 rows.new.items ≡ map (λ (d : NumberedDeadline). if d.number == number then record d { row = anew d.row day } else d) (numbered_deadlines 1 rows.old.items) }
+{
+    if number == 0 || rows.len() < number as usize {
+        return;
+    }
+    let row = &mut rows[(number - 1) as usize];
+    row.run_anew(day);
 }
 
 /// Adds the extension to the deadline of that number, in a list that is numbered from 1.

@@ -162,7 +162,7 @@ module _ (judge : Option ℕ) (case motion : ℕ) where
   made_ends setup rows row before sound ends (Holiday day list) free = ends
   made_ends setup rows row before sound ends (Inaccessible day from to) free = ends
   made_ends setup rows row before sound ends (Fact of (Ended deadline why dated)) free = ends
-  made_ends setup rows row before sound ends (Fact of (Resumed deadline dated)) free = ends
+  made_ends setup rows row before sound ends (Fact of (Resumed deadline day dated)) free = ends
   made_ends setup rows row before sound ends (Fact of (Closed why dated)) free = ends
   made_ends setup rows row before sound ends (Fact of (Reopened dated)) free = ends
   made_ends setup rows row before sound ends (Fact of (Ruled of_motion how dated)) free =

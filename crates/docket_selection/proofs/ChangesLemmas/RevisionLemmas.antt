@@ -185,7 +185,12 @@ made_keeps setup rows case row sound (Cancel of of_motion) free other =
 made_keeps setup rows case row sound (Holiday day list) free other = absurd (false≢true (sym other))
 made_keeps setup rows case row sound (Inaccessible day from to) free other = absurd (false≢true (sym other))
 made_keeps setup rows case row sound (Fact of (Ended deadline why dated)) free other = recorded_elsewhere rows case of (Ended deadline why dated) other
-made_keeps setup rows case row sound (Fact of (Resumed deadline dated)) free other = recorded_elsewhere rows case of (Resumed deadline dated) other
+made_keeps setup rows case row sound (Fact of (Resumed deadline day dated)) free other = record {
+  days = refl;
+  deadlines = other_deadline case of deadline _ other rows.deadlines;
+  hearings = λ motion. refl;
+  facts = (recorded_elsewhere rows case of (Resumed deadline day dated) other).facts;
+}
 made_keeps setup rows case row sound (Fact of (Closed why dated)) free other = recorded_elsewhere rows case of (Closed why dated) other
 made_keeps setup rows case row sound (Fact of (Reopened dated)) free other = recorded_elsewhere rows case of (Reopened dated) other
 made_keeps setup rows case row sound (Fact of (Ruled of_motion how dated)) free other =

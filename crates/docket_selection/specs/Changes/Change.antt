@@ -30,7 +30,7 @@ hearing_change command = option_and_then order_made (order_of command)
 -- what a fact of a case changes of what calendars show: its deadlines, also what they are called, or the judges before whom they are
 abbrev pub fact_change : (case : ℕ) → FactOf → Change
 fact_change case (Ended deadline why dated) = Deadline case
-fact_change case (Resumed deadline dated) = Deadline case
+fact_change case (Resumed deadline day dated) = Deadline case
 fact_change case (Closed why dated) = Deadline case
 fact_change case (Reopened dated) = Deadline case
 fact_change case (Ruled motion how dated) = Deadline case

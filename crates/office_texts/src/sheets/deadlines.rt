@@ -2,7 +2,7 @@
 
 ghost use Rattle.std.specs.Prelude.{◌≡◌, ◌<◌, ◌++◌, OnOk, IfSome};
 ghost use Rattle.office_texts.specs.Added.{AddsText};
-ghost use Rattle.office_texts.specs.Sheets.{act_done_text, and_ended_text, deadline_line, ended_text, means_text, state_text, state_word};
+ghost use Rattle.office_texts.specs.Sheets.{act_done_text, and_ended_text, deadline_line, ended_text, means_text, state_text, state_word, suspended_text};
 
 use crate::numbers::push_minute;
 use crate::periods::push_period;
@@ -70,7 +70,18 @@ pub fn push_ended(text: &mut String, why: Ending) -> Result<(), AllocError>
     ensures { OnOk result (AddsText text.old text.new (ended_text why)) }
 {
     text.push_str("ended ")?;
-    text.push_str(why.word())
+    text.push_str(why.word())?;
+    push_suspended(text, why.suspended_by())
+}
+
+/// Adds by which motion a deadline is suspended, where that is known.
+fn push_suspended(text: &mut String, motion: Option<u32>) -> Result<(), AllocError>
+    ensures { OnOk result (AddsText text.old text.new (suspended_text motion)) }
+{
+    match motion {
+        None => Ok(()),
+        Some(motion) => write!(text, " by motion {motion}"),
+    }
 }
 
 /// Adds why a deadline is due no more after what is said of it, if it was ended. `Err` says that memory ran out.

@@ -1,5 +1,5 @@
 -- What a reader is warned of: what is docketed is lawful, and may be a mistake. No deadline depends on a note.
-use Rattle.std.specs.Prelude.{ℕ, ◌==◌, ◌&&◌, ℤ, pos, ◌+ℤ◌, int_lt, int_le, List, [], ◌++◌, Option, Some, None, codes, if◌then◌else◌}
+use Rattle.std.specs.Prelude.{ℕ, ◌==◌, ◌&&◌, Bool, true, false, ℤ, pos, ◌+ℤ◌, int_lt, int_le, List, [], ◌++◌, Option, Some, None, codes, if◌then◌else◌}
 use Rattle.court_clock.specs.declared.direction.Direction.{Direction}
 use Rattle.court_clock.specs.declared.direction.Direction.TheVariants.{After, Before}
 use Rattle.court_clock.specs.Words.{ClockView, day_text}
@@ -8,7 +8,12 @@ use Rattle.rule6.specs.declared.timeliness.Filing.{Filing}
 use Rattle.rule6.specs.declared.timeliness.Shown.{Shown}
 use Rattle.rule_periods.specs.declared.grant.Grant.{Grant}
 use Rattle.rule_periods.specs.declared.grant.Request.{Request}
+use Rattle.rule_periods.specs.declared.mark.Mark.{Mark}
+use Rattle.rule_periods.specs.declared.mark.Mark.TheVariants.{Rule50b, Rule50d, Rule52b, Rule59b as Mark59b, Rule59e as Mark59e}
 use Rattle.rule_periods.specs.declared.period.Period.{Period}
+use Rattle.rule_periods.specs.declared.period.Period.TheVariants.{Rule as OfRule, Entered as OfText}
+use Rattle.rule_periods.specs.declared.rule.RulePeriod.{RulePeriod}
+use Rattle.rule_periods.specs.declared.rule.RulePeriod.TheVariants.{Rule59b, Rule59e}
 use Rattle.rule_periods.specs.Words.{DeadlineRowView, direction_of, is_asked_in_time, is_in_hours, is_order, is_set, runs_from}
 use Rattle.reason_texts.specs.Words.{course_of, note_line}
 use Rattle.reason_notes.specs.Margins.Words.{end_day}
@@ -93,8 +98,37 @@ before_start direction start act = []
 abbrev pub early_act : Period → (start : ℤ) → (act : Option Filing) → List ℕ
 early_act period start act = if is_set period then [] else before_start (direction_of period) start act
 
+-- A motion under one of these Rules gives the time for an appeal another beginning (Fed. R. App. P. 4(a)(4)): a period of the Rules, and
+-- the mark of one that is entered. 50(d) is the time of a losing party's motion under Rule 59.
+abbrev pub is_of_judgment : RulePeriod → Bool
+is_of_judgment Rule59b = true
+is_of_judgment Rule59e = true
+is_of_judgment rule = false
+
+abbrev pub marks_judgment : Mark → Bool
+marks_judgment Rule50b = true
+marks_judgment Rule50d = true
+marks_judgment Rule52b = true
+marks_judgment Mark59b = true
+marks_judgment Mark59e = true
+marks_judgment other = false
+
+abbrev pub moves_appeal : Period → Bool
+moves_appeal (OfRule rule) = is_of_judgment rule
+moves_appeal (OfText entered) = marks_judgment entered.mark
+
+-- such a motion that was made
+abbrev pub appeal_begins : Period → (act : Option Filing) → List ℕ
+appeal_begins p None = []
+appeal_begins p (Some filing) =
+    if moves_appeal p then note (Some filing.day) (codes "if timely, the time to appeal moves: FRAP 4(a)(4)") else []
+
+-- the notes on an act, if there is one
+abbrev pub notes_of_act : Period → (start : ℤ) → (act : Option Filing) → List ℕ
+notes_of_act p start act = early_act p start act ++ appeal_begins p act
+
 abbrev pub act_notes : DeadlineRowView → List ℕ
-act_notes row = early_act row.period (runs_from row) row.filed
+act_notes row = notes_of_act row.period (runs_from row) row.filed
 
 -- the notes on a day that an order sets
 unfoldable pub set_notes : DaysView → (filed set : ℤ) → List ℕ

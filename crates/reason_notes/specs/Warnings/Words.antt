@@ -1,4 +1,5 @@
 -- The words of clauses and definitions, for the crates above, from one place.
 unfoldable pub use Rattle.reason_notes.specs.Warnings.Holidays.{lists_no_more}
-pub use Rattle.reason_notes.specs.Warnings.Notes.{early_act, note}
+unfoldable pub use Rattle.reason_notes.specs.Appeal.{moved_note}
+pub use Rattle.reason_notes.specs.Warnings.Notes.{note, notes_of_act}
 unfoldable pub use Rattle.reason_notes.specs.Warnings.Notes.{deadline_notes, extension_notes, hearing_notes, start_notes}

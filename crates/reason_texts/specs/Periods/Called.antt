@@ -14,7 +14,7 @@ rule_called row rule =
     codes "Rule " ++ rule_section rule ++ codes ": " ++ rule_words rule ++ codes ", " ++ length_text (Days (terms_of rule (runs_from row)).days)
 
 -- Of a period of the Rules the section that sets it, with what is to be done and its length, and the day and the event from which
--- it runs. Of an entered period how it is entered with what comes behind that, and what its mark names.
+-- it runs. Of an entered period how it is entered with what comes after that, and what its mark names.
 abbrev pub called_of : (back : List ℕ) → DeadlineRowView → Period → List ℕ
 called_of back row (period.Rule rule) =
     note_line None (rule_called row rule) (rule_section rule) ++ note_line (Some (runs_from row)) (event_words rule) (rule_section rule)

@@ -66,7 +66,8 @@ event_words Rule12a3 = codes "from service on officer and US attorney, the later
 event_words Rule59b = codes "from the entry of judgment"
 event_words Rule59e = codes "from the entry of judgment"
 
--- the section that a mark names, and that such a period is entered where it has none
+-- The section that a mark names, and that such a period is entered where it has none. The mark 60b stands on the periods of other sections
+-- that no court extends, as a notice of appeal, since 60(b) itself counts no days: so it says why the time isn't extended.
 abbrev pub mark_section : Mark → List ℕ
 mark_section mark.Plain = codes "entered"
 mark_section mark.Rule50b = codes "50(b)"
@@ -75,9 +76,9 @@ mark_section mark.Rule52b = codes "52(b)"
 mark_section mark.Rule59b = codes "59(b)"
 mark_section mark.Rule59d = codes "59(d)"
 mark_section mark.Rule59e = codes "59(e)"
-mark_section mark.Rule60b = codes "60(b)"
+mark_section mark.Rule60b = codes "6(b)(2)"
 
--- what is to be done within the time of that section
+-- what is to be done within the time of that section, or that it isn't extended
 abbrev pub mark_words : Mark → List ℕ
 mark_words mark.Plain = []
 mark_words mark.Rule50b = codes "a renewed motion for judgment as a matter of law"
@@ -86,7 +87,7 @@ mark_words mark.Rule52b = codes "a motion to amend or add findings"
 mark_words mark.Rule59b = codes "a motion for a new trial"
 mark_words mark.Rule59d = codes "a new trial on the court's own initiative"
 mark_words mark.Rule59e = codes "a motion to alter or amend a judgment"
-mark_words mark.Rule60b = codes "a motion for relief from a judgment"
+mark_words mark.Rule60b = codes "not extended, as a motion under 60(b)"
 
 abbrev pub is_plain : Mark → Bool
 is_plain mark.Plain = true

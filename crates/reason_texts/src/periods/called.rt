@@ -12,7 +12,7 @@ use rule_periods::{DeadlineRow, Entered, Length, Period, RulePeriod, runs_from};
 use std::alloc::{AllocError, Global};
 
 /// Adds the lines that come before the reasons of a deadline, with its period called by its Rule: the section, what is to be
-/// done, how long the period is, and from which event it runs. `back` comes behind how an entered period is entered. `Err` says
+/// done, how long the period is, and from which event it runs. `back` comes after how an entered period is entered. `Err` says
 /// that memory ran out.
 #[tactic(auto, unfolding(crate::specs::Periods::Called::called_lines))]
 pub fn push_period_called(

@@ -61,7 +61,7 @@ pub fn event_words(rule: RulePeriod) -> &'static str
     }
 }
 
-/// The section that a mark names.
+/// The section that a mark names, or for 60b, which stands on periods of other sections, that by which a court must not extend them.
 pub(crate) fn mark_section(mark: Mark) -> &'static str
     ensures { result.now ≡ mark_section mark }
 {
@@ -73,11 +73,11 @@ pub(crate) fn mark_section(mark: Mark) -> &'static str
         Mark::Rule59b => "59(b)",
         Mark::Rule59d => "59(d)",
         Mark::Rule59e => "59(e)",
-        Mark::Rule60b => "60(b)",
+        Mark::Rule60b => "6(b)(2)",
     }
 }
 
-/// What is to be done within the time of that section.
+/// What is to be done within the time of that section, or that it isn't extended.
 pub(crate) fn mark_words(mark: Mark) -> &'static str
     ensures { result.now ≡ mark_words mark }
 {
@@ -89,7 +89,7 @@ pub(crate) fn mark_words(mark: Mark) -> &'static str
         Mark::Rule59b => "a motion for a new trial",
         Mark::Rule59d => "a new trial on the court's own initiative",
         Mark::Rule59e => "a motion to alter or amend a judgment",
-        Mark::Rule60b => "a motion for relief from a judgment",
+        Mark::Rule60b => "not extended, as a motion under 60(b)",
     }
 }
 

@@ -1,11 +1,11 @@
 //! Items of what is due, with the numbers of their deadlines and motions.
 ghost use Rattle.std.specs.Prelude.{◌≡◌, map};
 ghost use Rattle.docket_rows.specs.declared.command.Counted.{Counted as CountedOf};
-ghost use Rattle.report_texts.specs.Selected.{counted_in, numbered_item};
+ghost use Rattle.report_texts.specs.Selected.{counted_in, numbered_item, numbered_matter};
 
 use desk_numbers::MovedNumbers;
 use docket_rows::Counted;
-use docket_selection::{DueItem, DueTypes, Matter};
+use docket_selection::{DueDeadline, DueItem, DueTypes, Matter};
 
 /// What the number of an item is the number of.
 pub fn counted_in(matter: &Matter) -> Counted
@@ -22,6 +22,20 @@ pub fn number_item(moved: &MovedNumbers, item: &mut DueItem)
     ensures { item.new ≡ numbered_item moved.now item.old }
 {
     item.number = moved.number_at(item.case, counted_in(&item.matter), item.number);
+    item.matter = number_matter(moved, item.case, item.matter);
+}
+
+// What there is, with the number of the motion that suspends its deadline.
+fn number_matter(moved: &MovedNumbers, case: u32, matter: Matter) -> Matter
+    ensures { result ≡ numbered_matter moved.now case matter }
+{
+    match matter {
+        Matter::Deadline(due) => {
+            let ended = moved.number_ended(case, due.ended);
+            Matter::Deadline(DueDeadline { ended, ..due })
+        }
+        Matter::Hearing(set) => Matter::Hearing(set),
+    }
 }
 
 /// Gives items, which have the places of their deadlines and motions, the numbers of those.

@@ -1,5 +1,6 @@
 -- Fields that say one of a few words.
 use Rattle.std.specs.Prelude.{ℕ, Bool, true, false, List, [], ◌∷◌, codes, Option, Some, None, option_map, if◌then◌else◌}
+use Rattle.std.specs.Option.{option_and_then}
 use Rattle.std.specs.Str.{bytes_eq}
 use Rattle.court_days.specs.declared.holiday_list.HolidayList.{HolidayList}
 use Rattle.court_days.specs.declared.holiday_list.HolidayList.TheVariants.{Federal, State}
@@ -12,9 +13,11 @@ use Rattle.docket_rows.specs.declared.command.Counted.TheVariants.{Deadline, Mot
 use Rattle.docket_rows.specs.declared.fact.Closing.{Closing}
 use Rattle.docket_rows.specs.declared.fact.Closing.TheVariants as closing
 use Rattle.docket_rows.specs.declared.fact.Ending.{Ending}
-use Rattle.docket_rows.specs.declared.fact.Ending.TheVariants.{Moot, Vacated, Stayed, Suspended, Withdrawn}
+use Rattle.docket_rows.specs.declared.fact.Ending.TheVariants.{Moot, Vacated, Stayed, Suspended, SuspendedBy, Withdrawn}
 use Rattle.docket_rows.specs.declared.fact.Ruling.{Ruling}
 use Rattle.docket_rows.specs.declared.fact.Ruling.TheVariants as ruling
+use Rattle.row_forms.specs.Fields.Cut.{cut_at}
+use Rattle.row_forms.specs.Fields.Numbers.{number_of}
 
 -- the kind of service, by its letter in Rule 5(b)(2)
 unfoldable pub kind_of : List ℕ → Option ServiceKind
@@ -40,6 +43,11 @@ means_of text = if bytes_eq text (codes "electronic") then Some Electronic else 
 unfoldable pub list_of : List ℕ → Option HolidayList
 list_of text = if bytes_eq text (codes "federal") then Some Federal else if bytes_eq text (codes "state") then Some State else None
 
+-- that a motion suspends it: the word, a colon, and the motion's number
+unfoldable pub suspension_of : List ℕ → Option Ending
+suspension_of text =
+    option_and_then (λ (cut : List ℕ × List ℕ). if bytes_eq cut.0 (codes "suspended") then option_map SuspendedBy (number_of cut.1) else None) (cut_at 58 text)
+
 -- why a deadline is due no more
 unfoldable pub ending_of : List ℕ → Option Ending
 ending_of text =
@@ -48,7 +56,7 @@ ending_of text =
     else if bytes_eq text (codes "stayed") then Some Stayed
     else if bytes_eq text (codes "suspended") then Some Suspended
     else if bytes_eq text (codes "withdrawn") then Some Withdrawn
-    else None
+    else suspension_of text
 
 -- how a case was closed
 unfoldable pub closing_of : List ℕ → Option Closing

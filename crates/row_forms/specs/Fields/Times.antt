@@ -14,11 +14,6 @@ unfoldable pub minute_or_midnight : List ℕ → Option ℕ
 minute_or_midnight [] = Some 0
 minute_or_midnight (b ∷ field) = minute_of_text (b ∷ field)
 
--- The day on which a deadline that is resumed begins anew: its days are as before, so the field is empty.
-unfoldable pub day_anew : List ℕ → Option (Option ℤ)
-day_anew [] = Some None
-day_anew (b ∷ field) = None
-
 -- the minute at which something ends, which may be `24:00`
 unfoldable pub ending_minute : List ℕ → Option ℕ
 ending_minute field = if bytes_eq field (codes "24:00") then Some 1440 else minute_of_text field

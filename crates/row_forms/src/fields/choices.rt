@@ -1,8 +1,10 @@
 //! Fields that say one of a few words.
 
 ghost use Rattle.std.specs.Prelude.{◌≡◌};
-ghost use Rattle.row_forms.specs.Fields.Choices.{closing_of, counted_of, ending_of, is_so, kind_if_given, kind_of, list_of, means_of, ruling_of};
+ghost use Rattle.row_forms.specs.Fields.Choices.{closing_of, counted_of, ending_of, is_so, kind_if_given, kind_of, list_of, means_of, ruling_of, suspension_of};
 
+use crate::fields::cut::cut_at;
+use crate::fields::numbers::number_of;
 use court_days::HolidayList;
 use docket_rows::{Closing, Counted, Ending, Ruling};
 use rule6::{Means, ServiceKind};
@@ -90,7 +92,7 @@ pub fn ruling_of(text: &str) -> Option<Ruling>
     }
 }
 
-/// Why a deadline is due no more.
+/// Why a deadline is due no more: a word, and for what a motion suspends the motion's number may follow, as `suspended:3`.
 #[tactic(auto, unfolding(crate::specs::Fields::Choices::ending_of))]
 pub fn ending_of(text: &str) -> Option<Ending>
     ensures { result ≡ ending_of text.now }
@@ -101,8 +103,20 @@ pub fn ending_of(text: &str) -> Option<Ending>
         "stayed" => Some(Ending::Stayed),
         "suspended" => Some(Ending::Suspended),
         "withdrawn" => Some(Ending::Withdrawn),
-        _ => None,
+        _ => suspension_of(text),
     }
+}
+
+// That the motion of a number suspends it.
+#[tactic(auto, unfolding(crate::specs::Fields::Choices::suspension_of))]
+fn suspension_of(text: &str) -> Option<Ending>
+    ensures { result ≡ suspension_of text.now }
+{
+    let (word, number) = cut_at(text, ':')?;
+    if word == "suspended" {
+        return Some(Ending::SuspendedBy(number_of(number)?));
+    }
+    None
 }
 
 /// Whether a deadline or a motion is meant.

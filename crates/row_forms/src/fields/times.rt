@@ -1,7 +1,7 @@
 //! Days and times of day.
 
 ghost use Rattle.std.specs.Prelude.{◌≡◌, ◌≤◌, ◌<◌, IfSome};
-ghost use Rattle.row_forms.specs.Fields.Times.{day_anew, day_if_given, ending_minute, minute_or_midnight, slot_at};
+ghost use Rattle.row_forms.specs.Fields.Times.{day_if_given, ending_minute, minute_or_midnight, slot_at};
 
 use court_clock::{Day, minute_from_text};
 
@@ -27,14 +27,6 @@ pub fn minute_or_midnight(field: &str) -> Option<u16>
     } else {
         minute_from_text(field)
     }
-}
-
-/// The day on which a deadline that is resumed begins anew: its days are as before, so the field is empty.
-#[tactic(auto, unfolding(crate::specs::Fields::Times::day_anew))]
-pub fn day_anew(field: &str) -> Option<Option<Day>>
-    ensures { result ≡ day_anew field.now }
-{
-    if field.is_empty() { Some(None) } else { None }
 }
 
 /// The minute at which something ends, counted from midnight: at the latest `24:00`, the end of the day.

@@ -3,7 +3,6 @@
 ghost use Rattle.std.specs.Prelude.{◌≡◌};
 ghost use Rattle.csv.specs.Records.{fields_of};
 ghost use Rattle.row_forms.specs.Forms.Settings.{setting_in};
-ghost use Rattle.row_forms.specs.CourtNames.{names_of};
 
 use crate::columns::{column, day_in, number_in};
 use crate::fault::RowCause;
@@ -16,7 +15,7 @@ use docket_rows::Setting;
 /// The columns `CASE,MOTION,JUDGE,ROOM,DATE,TIME,SLOTS,NOTICE`, which are those from 3 to 10. Any text is read as a room.
 #[tactic(auto, unfolding(crate::specs::Forms::Settings::setting_in))]
 pub fn setting_in(court: &Court, fields: &StringRecord) -> Result<Setting, RowCause>
-    ensures { result ≡ setting_in (names_of court.now) (fields_of fields.now) }
+    ensures { result ≡ setting_in court.now.judges court.now.rooms (fields_of fields.now) }
 {
     let case = number_in(fields, 3)?;
     let motion = number_in(fields, 4)?;

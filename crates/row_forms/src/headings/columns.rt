@@ -60,13 +60,13 @@ pub enum Column {
     Notice,
     /// What has to be done in time.
     Act,
-    /// The day of an order.
+    /// The day of an order or of another paper.
     Dated,
     /// Why a deadline is due no more.
     Why,
     /// How a case was closed.
     Closing,
-    /// The day on which a deadline that is resumed begins anew, which is empty.
+    /// The day from which a deadline that is resumed runs anew, or nothing.
     ResumeDay,
     /// How a motion was ruled on.
     Ruling,

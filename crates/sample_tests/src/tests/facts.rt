@@ -24,10 +24,20 @@ fn end(rt: &impl Abort) -> Command {
     })
 }
 
-/// Resumes the deadline of case 1.
+/// Resumes the deadline of case 1, on its days as before.
 fn resume(rt: &impl Abort) -> Command {
     recorded(Fact::Resumed {
         deadline: 1,
+        from: None,
+        dated: day(rt, "2025-03-10"),
+    })
+}
+
+/// Resumes the deadline of case 1 anew from the day on which it ended.
+fn resume_anew(rt: &impl Abort) -> Command {
+    recorded(Fact::Resumed {
+        deadline: 1,
+        from: Some(day(rt, "2025-03-24")),
         dated: day(rt, "2025-03-10"),
     })
 }
@@ -58,6 +68,13 @@ fn ends_and_resumes(rt: &impl Abort, alloc: Global, docket: &mut Docket) -> Resu
     gives(rt, alloc, docket, &start(rt), &started(rt))?;
     ends_once(rt, alloc, docket)?;
     resumes_once(rt, alloc, docket)
+}
+
+/// Ends the deadline of case 1, and resumes it anew: no extension counts any more.
+fn runs_anew(rt: &impl Abort, alloc: Global, docket: &mut Docket) -> Result<(), Fail> {
+    let anew = Answer::Resumed(last(rt, "2025-04-14"));
+    gives(rt, alloc, docket, &end(rt), &Answer::Ended)?;
+    gives(rt, alloc, docket, &resume_anew(rt), &anew)
 }
 
 /// Closes case 1.
@@ -196,7 +213,8 @@ fn an_earlier_assignment_takes_no_later_ones_place(rt: HostRuntime) -> Result<()
 #[test]
 fn a_deadline_is_ended_and_resumed(rt: HostRuntime) -> Result<(), Fail> {
     let mut docket = opening(rt.alloc())?;
-    ends_and_resumes(&rt, rt.alloc(), &mut docket)
+    ends_and_resumes(&rt, rt.alloc(), &mut docket)?;
+    runs_anew(&rt, rt.alloc(), &mut docket)
 }
 
 /// Grants the motion by an order of that day.

@@ -1,12 +1,9 @@
-use Rattle.std.proofs.Common.{◌≡◌, ◌∙◌, ◌+◌, ◌<◌, ◌++◌, ◌∷◌, ℕ, List, [], ap, length, map, sym, subst, arith, take}
+use Rattle.std.proofs.Common.{◌≡◌, ◌∙◌, ◌+◌, ◌<◌, ◌++◌, ◌∷◌, ℕ, List, [], ap, length, map, sym, subst, arith, take, take_all}
 use Rattle.desk_journal.specs.Words.{batch_of}
 use Rattle.row_forms.specs.declared.numbered.NumberedRow.{NumberedRow}
-use Rattle.desk_numbers.specs.Words.{TextsView}
 use Rattle.desk_register.specs.Words.{Change, StandsAt, change_as, change_in, note_in}
-use Rattle.desk_entries.specs.Called.{called_as, called_standing}
 use Rattle.desk_entries.specs.Review.{changes_by}
 use Rattle.desk_entries.specs.Reported.{rows_standing, standing_as}
-use Rattle.desk_entries.proofs.CalledLemmas.{called_standing-more, none_called}
 use Rattle.desk_entries.proofs.ReviewLemmas.{changes_by-more, none_first}
 use Rattle.desk_register.proofs.CallerLemmas.{begun_batch, some_first, take_batch}
 use Rattle.desk_entries.proofs.ReportedLemmas.{none_standing, rows_standing-more}
@@ -20,7 +17,6 @@ loop-place-init c =
       stands = subst (StandsAt c.args.under.now c.in_ok-register.register) (sym is) (c.in_ok-register.ensures.stands first);
       rows = c.new-rows.ensures.items ∙ sym (ap (rows_standing c.args.under.now) is ∙ none_standing c.args.under.now first);
       changes = ap (map change_in) c.new-differences.ensures.items ∙ sym (ap (changes_by c.args.under.now) is ∙ none_first c.args.under.now first);
-      called = c.new-called.ensures ∙ sym (ap (called_standing c.args.under.now) is ∙ none_called c.args.under.now first);
     }
 
 pub loop-place-preserved : goal.loop-place-preserved
@@ -34,7 +30,7 @@ loop-place-preserved c =
     record {
       begun = omega arith;
       stands = subst (StandsAt c.args.under.now c.decide_entry.new.register) taken (c.in_ok-decide_entry.ensures.stands kept c.loop-place.invariant.stands);
-      rows = c.in_ok-push_standing.ensures.rows kept c.loop-place.invariant.stands
+      rows = c.in_ok-push_standing.ensures kept c.loop-place.invariant.stands
           ∙ ap (λ (l : List NumberedRow). l ++ standing_as (note_in c.deref.result.now) c.args.under.now kept c.deref.result.now) c.loop-place.invariant.rows
           ∙ sym (rows_standing-more c.args.under.now kept c.deref.result.now begun)
           ∙ ap (rows_standing c.args.under.now) read;
@@ -42,8 +38,9 @@ loop-place-preserved c =
           ∙ ap (λ (l : List Change). l ++ change_as (note_in c.deref-in-loop-place.result.now) c.args.under.now kept c.deref-in-loop-place.result.now) c.loop-place.invariant.changes
           ∙ sym (changes_by-more c.args.under.now kept c.deref-in-loop-place.result.now begun)
           ∙ ap (changes_by c.args.under.now) taken;
-      called = c.in_ok-push_standing.ensures.called kept c.loop-place.invariant.stands
-          ∙ ap (λ (t : TextsView). called_as (note_in c.deref.result.now) c.args.under.now kept t c.deref.result.now) c.loop-place.invariant.called
-          ∙ sym (called_standing-more c.args.under.now kept c.deref.result.now begun)
-          ∙ ap (called_standing c.args.under.now) read;
     }
+
+pub returns-clause-called : goal.returns-clause-called
+returns-clause-called c =
+    let whole : batch_of (take c.loop-place.place c.args.entries.now) ≡ batch_of c.args.entries.now = ap batch_of (take_all c.loop-place.place c.args.entries.now (omega (arith, c.loop-place-test.false))) in
+    c.into_called-called.ensures c.args.under.now (batch_of c.args.entries.now) (subst (StandsAt c.args.under.now c.loop-place.register) whole c.loop-place.invariant.stands)

@@ -1,7 +1,6 @@
 use Rattle.std.proofs.Common.{◌≡◌, ◌≤◌, map, take}
 use Rattle.desk_journal.specs.Words.{batch_of}
 use Rattle.desk_register.specs.Words.{StandsAt, change_in}
-use Rattle.desk_entries.specs.Called.{called_standing}
 use Rattle.desk_entries.specs.Review.{changes_by}
 use Rattle.desk_entries.specs.Reported.{rows_standing}
 use Rattle.desk_entries.proofs.reported.standing_rows.Given as goal
@@ -13,5 +12,4 @@ invariant-loop-place l = record {
   stands : StandsAt l.under l.register (batch_of (take l.place l.entries));
   rows : l.rows.items ≡ rows_standing l.under (batch_of (take l.place l.entries));
   changes : map change_in l.differences.items ≡ changes_by l.under (batch_of (take l.place l.entries));
-  called : l.called ≡ called_standing l.under (batch_of (take l.place l.entries));
 }

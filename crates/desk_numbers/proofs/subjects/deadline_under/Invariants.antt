@@ -1,8 +1,8 @@
 use Rattle.std.proofs.Common.{◌≡◌, drop}
-use Rattle.desk_numbers.specs.Subjects.{found_among, is_pending_under}
+use Rattle.desk_numbers.specs.Subjects.{deadline_number, found_among, is_pending_under}
 use Rattle.desk_numbers.proofs.SubjectLemmas.{found_after, numbers_of}
 use Rattle.desk_numbers.proofs.subjects.deadline_under.Given as goal
 
 -- what is found with those that are left
 abbrev pub invariant-list : goal.invariant-list
-invariant-list l = found_after l.found (numbers_of (is_pending_under l.rule) (drop l.deadline-index l.deadlines)) ≡ found_among (numbers_of (is_pending_under l.rule) l.deadlines)
+invariant-list l = found_after l.found (numbers_of deadline_number (is_pending_under l.rule) (drop l.deadline-index l.deadlines)) ≡ found_among (numbers_of deadline_number (is_pending_under l.rule) l.deadlines)

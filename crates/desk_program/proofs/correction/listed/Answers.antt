@@ -6,6 +6,7 @@ use Rattle.desk_program.specs.Changed.{ChangedRowView, changes_between}
 use Rattle.desk_program.specs.ChangedText.{changes_text}
 use Rattle.desk_program.specs.Correction.{head_text, shown_at}
 use Rattle.desk_program.specs.Inside.Changed.{walked}
+use Rattle.desk_program.specs.Leave.{asking_of}
 use Rattle.desk_program.proofs.ChangedLemmas.{changed_between}
 use Rattle.desk_program.proofs.TextLemmas.{three_more}
 use Rattle.desk_program.proofs.correction.listed.Goals as goal
@@ -31,5 +32,5 @@ returns-clause-count c = λ now_is after_is.
     let after = c.args.after.now in
     let kept : List (List ℕ) = batch_of c.args.entries.now in
     c.in_ok-count.ensures.count
-    ∙ ap (λ (l : List ChangedRowView). length l)
+    ∙ ap (λ (l : List ChangedRowView). length (asking_of now.corrections l))
     (changed_between now after kept c.next_number.result (map change_in c.deref.result.now) (map change_in c.deref-2.result.now) (c.next_number.ensures after kept after_is.stands) (ap (map change_in) c.deref.ensures.value ∙ now_is.changes) (ap (map change_in) c.deref-2.ensures.value ∙ after_is.changes))

@@ -24,7 +24,7 @@ pub returns-then-is_struck-clause-stands : goal.returns-then-is_struck-clause-st
 returns-then-is_struck-clause-stands c = λ kept stands.
     let none = none_if (note_in c.args.entry.now) (sym c.is_row.ensures ∙ c.if-not-is_row.false) in
     let struck : is_struck c.args.under.now.corrections (next_number kept) ≡ true = ap (is_struck c.args.under.now.corrections) (sym stands.number) ∙ sym c.is_struck.ensures ∙ c.if-is_struck.true in
-    stands_past_struck c.args.under.now c.args.register.now c.pass_struck.new.self kept c.args.entry.now stands c.requires.room none struck c.pass_struck.ensures.docket c.in_ok-pass_struck.ensures.numbers c.in_ok-pass_struck.ensures.cases c.in_ok-pass_struck.ensures.number c.in_ok-pass_struck.ensures.count
+    stands_past_struck c.args.under.now c.args.register.now c.pass_struck.new.self kept c.args.entry.now stands c.requires.room none struck c.pass_struck.ensures.docket c.in_ok-pass_struck.ensures.numbers c.in_ok-pass_struck.ensures.cases c.pass_struck.ensures.called c.in_ok-pass_struck.ensures.number c.in_ok-pass_struck.ensures.count
 
 pub returns-then-is_struck-clause-changes : goal.returns-then-is_struck-clause-changes
 returns-then-is_struck-clause-changes c = λ kept stands.

@@ -1,29 +1,40 @@
-use Rattle.std.proofs.Common.{◌≡◌, ◌∙◌, List, Some, ap, subst, sym}
+use Rattle.std.proofs.Common.{◌≡◌, ◌∙◌, List, None, Some, subst, sym}
 use Rattle.case_numbers.specs.Words.{CasesView}
 use Rattle.csv.specs.Records.{fields_of}
 use Rattle.docket_rows.specs.Words.{setup_of}
 use Rattle.row_forms.specs.Words.{names_of}
 use Rattle.row_forms.specs.Line.Words.{fields_read}
-use Rattle.desk_numbers.specs.declared.moved.Moved.{Moved}
 use Rattle.desk_register.specs.CaseLines.{IsRead}
 use Rattle.desk_register.specs.Cases.{cases_of}
 use Rattle.desk_register.specs.Rows.{cased_at, found_at}
 use Rattle.desk_register.specs.Run.{docketed_by}
-use Rattle.desk_register.specs.Subjects.{found_for, named_in}
-use Rattle.desk_register.proofs.NextLineLemmas.{named_lacks, reads_some}
+use Rattle.desk_register.specs.Subjects.{named_in}
+use Rattle.desk_register.proofs.NextLineLemmas.{found_alike, named_lacks, reads_none, reads_some}
 use Rattle.desk_register.proofs.next_line.read_next.Goals as goal
 
 pub returns-in_ok-said-in-Some : goal.returns-in_ok-said-in-Some
-returns-in_ok-said-in-Some c = λ kept cases_are moved_are holds.
+returns-in_ok-said-in-Some c = λ kept cases_are numbers_are called_are holds.
     let under = c.args.under.now in
     let names = names_of under.court in
     let line = c.args.line.now in
     let text = (cased_at under kept line).text in
     let before = fields_of c.read_named.new.fields in
     let read : IsRead names (cases_of under kept) line before (c.in_ok-said.said, c.in_ok-said.name) = subst (λ (k : CasesView). IsRead names k line before (c.in_ok-said.said, c.in_ok-said.name)) cases_are c.in_ok-said.ensures in
-    let named : named_in names text ≡ Some c.in-Some.named = sym (c.in_ok-named.ensures text read.said (λ is. read.lacking_are 4 is)) ∙ c.in-Some.is in
-    let fields : before ≡ fields_read text = read.lacking_are 4 (read.said ∙ named_lacks names text c.in-Some.named named) in
-    let there : c.in_ok-found-in-Some.found ≡ found_at under kept c.in-Some.named =
-    c.in_ok-found-in-Some.ensures (setup_of under.court) (docketed_by under kept) holds ∙ ap (λ (m : List Moved). found_for (setup_of under.court) (docketed_by under kept) m c.in-Some.named) moved_are in
+    let named : named_in names text ≡ Some c.in-Some.named = sym (c.in_ok-named.ensures text read.said read.lacking_are) ∙ c.in-Some.is in
+    let (place, lacks) = named_lacks names text c.in-Some.named named in
+    let fields : before ≡ fields_read text = read.lacking_are place (read.said ∙ lacks) in
+    let there : c.in_ok-found-in-Some.found ≡ found_at under kept text c.in-Some.named =
+    c.in_ok-found-in-Some.ensures (setup_of under.court) (docketed_by under kept) holds
+    ∙ found_alike under kept c.args.numbers.now c.args.called.now c.in-Some.named before text numbers_are called_are fields in
     reads_some under kept line (fields_of c.said_with.new.fields) c.in_ok-said-in-Some.said c.in_ok-said.name c.in-Some.named c.in_ok-found-in-Some.found named there
     (c.in_ok-said-in-Some.ensures.said text read.said fields) (c.in_ok-said-in-Some.ensures.fields text read.said fields) read.name
+
+pub returns-in-None : goal.returns-in-None
+returns-in-None c = λ kept cases_are numbers_are called_are holds.
+    let under = c.args.under.now in
+    let names = names_of under.court in
+    let line = c.args.line.now in
+    let before = fields_of c.read_named.new.fields in
+    let read : IsRead names (cases_of under kept) line before (c.in_ok-said.said, c.in_ok-said.name) = subst (λ (k : CasesView). IsRead names k line before (c.in_ok-said.said, c.in_ok-said.name)) cases_are c.in_ok-said.ensures in
+    let none : named_in names (cased_at under kept line).text ≡ None = sym (c.in_ok-named.ensures (cased_at under kept line).text read.said read.lacking_are) ∙ c.in-None.is in
+    reads_none under kept line before (c.in_ok-said.said, c.in_ok-said.name) read none

@@ -8,5 +8,5 @@ use Rattle.desk_warnings.proofs.warnings.warnings_on.Goals as goal
 pub returns : goal.returns
 returns c = λ docketed holds.
     c.in_ok-push_warnings_on.ensures holds.setup_is
-    ∙ ap (λ (t : List ℕ). t ++ warnings_on c.args.court.now c.args.moved.now c.args.cases.now.named (parts_held c.args.docket.now) c.args.today c.args.work.now) c.new-text.ensures.bytes
-    ∙ warned_on c.args.court.now c.args.moved.now c.args.cases.now.named (parts_held c.args.docket.now) (parts_of docketed) holds.stands c.args.today c.args.work.now
+    ∙ ap (λ (t : List ℕ). t ++ warnings_on c.args.court.now c.args.moved.now c.args.cases.now.named (parts_held c.args.docket.now) c.args.held_back.now c.args.name.now c.args.work.now) c.new-text.ensures.bytes
+    ∙ warned_on c.args.court.now c.args.moved.now c.args.cases.now.named (parts_held c.args.docket.now) (parts_of docketed) holds.stands c.args.held_back.now c.args.name.now c.args.work.now

@@ -40,6 +40,9 @@ returns-in-Memo-clause-task c = rw c.in-Memo.is (c.memo.ensures.task c.args.name
 pub returns-in-Sheet-clause-task : goal.returns-in-Sheet-clause-task
 returns-in-Sheet-clause-task c = rw c.in-Sheet.is (c.sheet.ensures.task c.args.name.now)
 
+pub returns-in-Case-clause-task : goal.returns-in-Case-clause-task
+returns-in-Case-clause-task c = rw c.in-Case.is (c.one_case.ensures.task c.args.name.now)
+
 pub returns-in-CourtCheck-clause-task : goal.returns-in-CourtCheck-clause-task
 returns-in-CourtCheck-clause-task c = rw c.in-CourtCheck.is (c.check.ensures.task c.args.name.now)
 

@@ -93,6 +93,18 @@ returns-in-Err-days_option-clause-taken c all =
     let memory = rw (c.get_str-7.ensures ∙ first_value-rows found (codes "days")) at c.in-Err-days_option.ensures.taken in
     memory (each_taken (rows_of found) all).6
 
+pub returns-in-Err-said_option-3-clause-faults : goal.returns-in-Err-said_option-3-clause-faults
+returns-in-Err-said_option-3-clause-faults c =
+    let found = found_of c.args.given.now in
+    let given = rows_of found in
+    fault_of_one (is_said_taken (first_of (codes "on") given)) (are_given_taken given) c.in-Err-said_option-3.fault (λ all. (each_taken given all).7) (rw (c.get_str-8.ensures ∙ first_value-rows found (codes "on")) at c.in-Err-said_option-3.ensures.faults)
+
+pub returns-in-Err-said_option-3-clause-taken : goal.returns-in-Err-said_option-3-clause-taken
+returns-in-Err-said_option-3-clause-taken c all =
+    let found = found_of c.args.given.now in
+    let memory = rw (c.get_str-8.ensures ∙ first_value-rows found (codes "on")) at c.in-Err-said_option-3.ensures.taken in
+    memory (each_taken (rows_of found) all).7
+
 pub returns-clause-asked : goal.returns-clause-asked
 returns-clause-asked c =
     let found = found_of c.args.given.now in
@@ -106,10 +118,13 @@ returns-clause-asked c =
       from = c.first_said.ensures ∙ ap₂ first_said last from;
       to = c.last_said.ensures ∙ ap₂ last_said last to;
       of = rw (c.get_str-3.ensures ∙ first_value-rows found (codes "of")) at c.in-Ok-said_option-2.ensures.day;
+      on = rw (c.get_str-8.ensures ∙ first_value-rows found (codes "on")) at c.in-Ok-said_option-3.ensures.day;
       today = rw (c.get_str-4.ensures ∙ first_value-rows found (codes "today")) at c.in-Ok-day_option.ensures.day;
       stamp = rw (c.get_str-5.ensures ∙ first_value-rows found (codes "stamp")) at c.in-Ok-stamp_read.ensures.stamp;
       lines = flag_held (one_of (codes "lines") (rows_of found)) c.get_flag.result (λ none. c.get_flag.ensures.none (one_text-rows found (codes "lines") ∙ none)) (λ some. c.get_flag.ensures.value (one_text-rows found (codes "lines") ∙ some)) (λ some. c.get_flag.ensures.other (one_text-rows found (codes "lines") ∙ some));
       overdue = flag_held (one_of (codes "overdue") (rows_of found)) c.get_flag-2.result (λ none. c.get_flag-2.ensures.none (one_text-rows found (codes "overdue") ∙ none)) (λ some. c.get_flag-2.ensures.value (one_text-rows found (codes "overdue") ∙ some)) (λ some. c.get_flag-2.ensures.other (one_text-rows found (codes "overdue") ∙ some));
+      page = flag_held (one_of (codes "page") (rows_of found)) c.get_flag-3.result (λ none. c.get_flag-3.ensures.none (one_text-rows found (codes "page") ∙ none)) (λ some. c.get_flag-3.ensures.value (one_text-rows found (codes "page") ∙ some)) (λ some. c.get_flag-3.ensures.other (one_text-rows found (codes "page") ∙ some));
+      csv = flag_held (one_of (codes "csv") (rows_of found)) c.get_flag-4.result (λ none. c.get_flag-4.ensures.none (one_text-rows found (codes "csv") ∙ none)) (λ some. c.get_flag-4.ensures.value (one_text-rows found (codes "csv") ∙ some)) (λ some. c.get_flag-4.ensures.other (one_text-rows found (codes "csv") ∙ some));
     }
 
 pub returns-clause-faults : goal.returns-clause-faults
@@ -123,4 +138,5 @@ returns-clause-faults c =
     let stamp = taken_of (is_instant_taken (first_of (codes "stamp") given)) (rw (c.get_str-5.ensures ∙ first_value-rows found (codes "stamp")) at c.in-Ok-stamp_read.ensures.faults) in
     let case = taken_of (is_case_taken (first_of (codes "case") given)) (rw (c.get_str-6.ensures ∙ first_value-rows found (codes "case")) at c.in-Ok-case_option.ensures.faults) in
     let days = taken_of (is_count_taken (first_of (codes "days") given)) (rw (c.get_str-7.ensures ∙ first_value-rows found (codes "days")) at c.in-Ok-days_option.ensures.faults) in
-    ap faults_unless (and_from (is_said_taken (first_of (codes "from") given)) _ from (and_from (is_said_taken (first_of (codes "to") given)) _ to (and_from (is_said_taken (first_of (codes "of") given)) _ of (and_from (is_day_taken (first_of (codes "today") given)) _ today (and_from (is_instant_taken (first_of (codes "stamp") given)) _ stamp (and_from (is_case_taken (first_of (codes "case") given)) (is_count_taken (first_of (codes "days") given)) case days))))))
+    let on = taken_of (is_said_taken (first_of (codes "on") given)) (rw (c.get_str-8.ensures ∙ first_value-rows found (codes "on")) at c.in-Ok-said_option-3.ensures.faults) in
+    ap faults_unless (and_from (is_said_taken (first_of (codes "from") given)) _ from (and_from (is_said_taken (first_of (codes "to") given)) _ to (and_from (is_said_taken (first_of (codes "of") given)) _ of (and_from (is_day_taken (first_of (codes "today") given)) _ today (and_from (is_instant_taken (first_of (codes "stamp") given)) _ stamp (and_from (is_case_taken (first_of (codes "case") given)) _ case (and_from (is_count_taken (first_of (codes "days") given)) (is_said_taken (first_of (codes "on") given)) days on)))))))

@@ -14,3 +14,9 @@ returns-in-Ics c = λ docketed holds. rw c.in-Ics.is (c.ics_text.ensures dockete
 
 pub returns-in-Sheet : goal.returns-in-Sheet
 returns-in-Sheet c = λ docketed holds. rw c.in-Sheet.is (c.sheet_text.ensures docketed holds)
+
+pub returns-in-Pending : goal.returns-in-Pending
+returns-in-Pending c = λ docketed holds. rw c.in-Pending.is (c.pending_text.ensures docketed holds)
+
+pub returns-in-Case : goal.returns-in-Case
+returns-in-Case c = λ docketed holds. rw c.in-Case.is (c.case_text.ensures docketed holds)

@@ -11,4 +11,5 @@ returns c =
     let page_is = shape_made _ _ _ _ _ refl week_is c.choosing.ensures c.in_ok-page.ensures in
     let ics_is = shape_made _ _ _ _ _ refl page_is c.ics.ensures c.in_ok-ics.ensures in
     let json_is = shape_made _ _ _ _ _ refl ics_is c.json.ensures c.in_ok-json.ensures in
-    IfOk-weaker c.with_subcommand-6.result _ _ (λ whole adds. shape_made _ whole _ _ _ refl json_is c.sourced.ensures adds) c.with_subcommand-6.ensures
+    let sql_is = shape_made _ _ _ _ _ refl json_is c.sourced.ensures c.in_ok-sql.ensures in
+    IfOk-weaker c.with_subcommand-7.result _ _ (λ whole adds. shape_made _ whole _ _ _ refl sql_is c.pending.ensures adds) c.with_subcommand-7.ensures

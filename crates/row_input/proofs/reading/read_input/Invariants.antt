@@ -10,11 +10,12 @@ use Rattle.row_input.proofs.reading.read_input.Given as goal
 abbrev pub invariant-loop-split : goal.invariant-loop-split
 invariant-loop-split l =
     let names = names_of l.court in
+    let own = l.court.periods.triggers in
     let header = option_map fields_of l.reading.header in
     (l.number + length l.rest ≤ length l.input + 1)
-    × (l.reading.rows.items ++ rows_of l.clerks names l.order l.marked header (numbered_from l.number [] l.rest) ≡ rows_of l.clerks names l.order l.marked None (numbered_lines l.input))
-    × (l.reading.placed.items ++ placed_from l.clerks names l.order l.marked header [] l.rest ≡ placed_from l.clerks names l.order l.marked None [] l.input)
-    × (map faulty_in l.reading.faulty.items ++ faulty_of l.clerks names l.order l.marked header (numbered_from l.number [] l.rest) ≡ faulty_of l.clerks names l.order l.marked None (numbered_lines l.input))
+    × (l.reading.rows.items ++ rows_of l.clerks names own l.order l.marked header (numbered_from l.number [] l.rest) ≡ rows_of l.clerks names own l.order l.marked None (numbered_lines l.input))
+    × (l.reading.placed.items ++ placed_from l.clerks names own l.order l.marked l.joined header [] l.rest ≡ placed_from l.clerks names own l.order l.marked l.joined None [] l.input)
+    × (map faulty_in l.reading.faulty.items ++ faulty_of l.clerks names own l.order l.marked header (numbered_from l.number [] l.rest) ≡ faulty_of l.clerks names own l.order l.marked None (numbered_lines l.input))
 
 abbrev pub decreases-loop-split : goal.decreases-loop-split
 decreases-loop-split l = length l.rest

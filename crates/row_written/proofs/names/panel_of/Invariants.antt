@@ -6,4 +6,4 @@ use Rattle.row_written.specs.Names.{names_after}
 use Rattle.row_written.proofs.names.panel_of.Given as goal
 
 abbrev pub invariant-loop-i : goal.invariant-loop-i
-invariant-loop-i l = names_after (names_of l.court).judges (string_bytes l.names) (drop l.i (fields_of l.pieces)) ≡ names_after (names_of l.court).judges [] (fields_of l.pieces)
+invariant-loop-i l = names_after (names_of l.court).shorts (names_of l.court).judges (string_bytes l.names) (drop l.i (fields_of l.pieces)) ≡ names_after (names_of l.court).shorts (names_of l.court).judges [] (fields_of l.pieces)

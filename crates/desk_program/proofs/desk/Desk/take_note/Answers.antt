@@ -9,8 +9,8 @@ pub returns-in-Err-clause-crash : goal.returns-in-Err-clause-crash
 returns-in-Err-clause-crash g c = λ entries keeps x left.
     one_more x entries (batch_of c.deref.result.now) c.args.entry.items (ap batch_of c.deref.ensures.value ∙ c.in_ok-batch.ensures) (c.append.ensures.crash entries keeps.kept x left)
 
-pub returns-in-Ok-clause-kept : goal.returns-in-Ok-clause-kept
-returns-in-Ok-clause-kept g c = λ entries keeps stands short some comes.
+pub returns-clause-kept : goal.returns-clause-kept
+returns-clause-kept g c = λ entries keeps stands short some comes.
     let entry : List ℕ = c.args.entry.items in
     record {
       kept = subst (λ (b : List (List ℕ)). IsKept g.D.Disk (entries ++ b) c.append.new.self) (ap batch_of c.deref.ensures.value ∙ c.in_ok-batch.ensures) (c.in-Ok.ensures.kept entries keeps.kept);
@@ -19,6 +19,6 @@ returns-in-Ok-clause-kept g c = λ entries keeps stands short some comes.
           (c.pass_note.ensures c.args.standing entries entry stands short some));
     }
 
-pub returns-in-Ok-clause-crash : goal.returns-in-Ok-clause-crash
-returns-in-Ok-clause-crash g c = λ entries keeps x left.
+pub returns-clause-crash : goal.returns-clause-crash
+returns-clause-crash g c = λ entries keeps x left.
     one_more x entries (batch_of c.deref.result.now) c.args.entry.items (ap batch_of c.deref.ensures.value ∙ c.in_ok-batch.ensures) (c.append.ensures.crash entries keeps.kept x left)

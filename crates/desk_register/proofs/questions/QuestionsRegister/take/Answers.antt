@@ -16,8 +16,8 @@ returns-in-Blank-clause-taken c = λ kept stands.
     let under = c.args.under.now in
     let is = sym (c.in_ok-said.ensures.said kept stands).said ∙ c.in-Blank.is in
     line_asked under (record { register = c.heard.new.self }) kept c.args.line.now (batch_of c.args._batch.now.items) c.args.text.now.items says.Blank is
-    (as_it_was under c.args.self.now.register c.heard.new.self kept stands c.heard.ensures.docket c.heard.ensures.numbers c.heard.ensures.cases c.heard.ensures.number c.heard.ensures.count) c.args.text.now.items
-    (sym (append-nil c.args.text.now.items) ∙ shown_plain under kept c.args.line.now c.args.text.now.items says.Blank is refl refl)
+    (as_it_was under c.args.self.now.register c.heard.new.self kept stands c.heard.ensures.docket c.heard.ensures.numbers c.heard.ensures.cases c.heard.ensures.called c.heard.ensures.number c.heard.ensures.count) c.args.text.now.items
+    (sym (append-nil c.args.text.now.items) ∙ shown_plain under kept c.args.line.now c.args.text.now.items says.Blank is refl refl refl)
 
 pub returns-in-Blank-clause-came : goal.returns-in-Blank-clause-came
 unfolding came_shown
@@ -28,7 +28,7 @@ returns-in_ok-push_cause-in-Fault-clause-taken c = λ kept stands.
     let under = c.args.under.now in
     let line = c.args.line.now in
     let text = c.args.text.now.items in
-    let before = as_it_was under c.args.self.now.register c.heard.new.self kept stands c.heard.ensures.docket c.heard.ensures.numbers c.heard.ensures.cases c.heard.ensures.number c.heard.ensures.count in
+    let before = as_it_was under c.args.self.now.register c.heard.new.self kept stands c.heard.ensures.docket c.heard.ensures.numbers c.heard.ensures.cases c.heard.ensures.called c.heard.ensures.number c.heard.ensures.count in
     line_asked under (record { register = c.heard.new.self }) kept line (batch_of c.args._batch.now.items) text (says.Fault c.in-Fault.cause) (sym (c.in_ok-said.ensures.said kept stands).said ∙ c.in-Fault.is)
     before c.push_cause.new.text.items
     (c.in_ok-push_cause-in-Fault.ensures
@@ -44,13 +44,13 @@ pub returns-in_ok-push_command-in-Command-clause-taken : goal.returns-in_ok-push
 returns-in_ok-push_command-in-Command-clause-taken c = λ kept stands.
     let under = c.args.under.now in
     let text = c.args.text.now.items in
-    let before = as_it_was under c.args.self.now.register c.heard.new.self kept stands c.heard.ensures.docket c.heard.ensures.numbers c.heard.ensures.cases c.heard.ensures.number c.heard.ensures.count in
+    let before = as_it_was under c.args.self.now.register c.heard.new.self kept stands c.heard.ensures.docket c.heard.ensures.numbers c.heard.ensures.cases c.heard.ensures.called c.heard.ensures.number c.heard.ensures.count in
     let is = sym (c.in_ok-said.ensures.said kept stands).said ∙ c.in-Row.is in
     line_asked under (record { register = c.heard.new.self }) kept c.args.line.now (batch_of c.args._batch.now.items) text (says.Row c.in-Row.row) is
     before c.push_command.new.text.items
     (c.in_ok-push_command-in-Command.ensures ∙ ap (λ (n : ℕ). text ++ command_text n) (c.next_number-in-Command.ensures under kept before)
     ∙ ap (λ (w : Work). text ++ shown_for under kept c.in-Row.row w) (sym c.in-Command.is)
-    ∙ shown_plain under kept c.args.line.now text (says.Row c.in-Row.row) is refl refl)
+    ∙ shown_plain under kept c.args.line.now text (says.Row c.in-Row.row) is refl refl refl)
 
 pub returns-in_ok-push_command-in-Command-clause-came : goal.returns-in_ok-push_command-in-Command-clause-came
 unfolding came_shown
@@ -60,13 +60,13 @@ pub returns-in_ok-show-in-Query-clause-taken : goal.returns-in_ok-show-in-Query-
 returns-in_ok-show-in-Query-clause-taken c = λ kept stands.
     let under = c.args.under.now in
     let text = c.args.text.now.items in
-    let before = as_it_was under c.args.self.now.register c.heard.new.self kept stands c.heard.ensures.docket c.heard.ensures.numbers c.heard.ensures.cases c.heard.ensures.number c.heard.ensures.count in
+    let before = as_it_was under c.args.self.now.register c.heard.new.self kept stands c.heard.ensures.docket c.heard.ensures.numbers c.heard.ensures.cases c.heard.ensures.called c.heard.ensures.number c.heard.ensures.count in
     let is = sym (c.in_ok-said.ensures.said kept stands).said ∙ c.in-Row.is in
     line_asked under (record { register = c.show.new.self }) kept c.args.line.now (batch_of c.args._batch.now.items) text (says.Row c.in-Row.row) is
     (c.in_ok-show-in-Query.ensures.stands kept before) c.show.new.text.items
     (c.in_ok-show-in-Query.ensures.told kept before
     ∙ ap (λ (w : Work). text ++ shown_for under kept c.in-Row.row w) (sym c.in-Query.is)
-    ∙ shown_plain under kept c.args.line.now text (says.Row c.in-Row.row) is refl refl)
+    ∙ shown_plain under kept c.args.line.now text (says.Row c.in-Row.row) is refl refl refl)
 
 pub returns-in_ok-show-in-Query-clause-came : goal.returns-in_ok-show-in-Query-clause-came
 unfolding came_shown

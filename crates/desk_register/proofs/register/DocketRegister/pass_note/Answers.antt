@@ -8,4 +8,4 @@ pub returns : goal.returns
 returns c = λ under kept entry stands room some.
     let below : c.args.self.now.count < most_entries = omega (arith, stands.count, room) in
     let counted : c.saturating_add-self.result ≡ c.args.self.now.count + 1 = grind (arith, common_steps) in
-    stands_past_note under c.args.self.now _ kept entry stands below some refl refl refl refl counted
+    stands_past_note under c.args.self.now _ kept entry stands below some refl refl refl refl refl counted

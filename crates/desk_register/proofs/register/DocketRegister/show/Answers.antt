@@ -29,4 +29,4 @@ returns-clause-told c = λ kept stands.
 
 pub returns-clause-stands : goal.returns-clause-stands
 returns-clause-stands c = λ kept stands.
-    stands_asked c.args.under.now c.args.self.now c.replied.new.self kept c.args.row.now.work stands c.requires (c.in_ok-reply.ensures.docket kept stands) c.replied.ensures.numbers c.replied.ensures.cases c.replied.ensures.number c.replied.ensures.count
+    stands_asked c.args.under.now c.args.self.now c.replied.new.self kept c.args.row.now.work stands c.requires (c.in_ok-reply.ensures.docket kept stands) c.replied.ensures.numbers c.replied.ensures.cases c.replied.ensures.called c.replied.ensures.number c.replied.ensures.count

@@ -1,0 +1,2 @@
+-- What only proofs rest on, and no reader has to believe.
+pub mod Cases

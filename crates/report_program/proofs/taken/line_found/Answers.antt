@@ -1,0 +1,10 @@
+use Rattle.std.proofs.Common.{◌≡◌, Result, string_bytes, subst, sym}
+use Rattle.std.specs.Prelude.{IsErrAnd}
+use Rattle.report_program.specs.declared.chosen.Chosen.{Chosen}
+use Rattle.report_program.specs.declared.chosen.Missing.{Missing}
+use Rattle.report_program.specs.Calendar.{missing_line}
+use Rattle.report_program.proofs.taken.line_found.Goals as goal
+
+pub returns-clause-found : goal.returns-clause-found
+returns-clause-found c = λ past rows is.
+    subst (λ (found : Result Chosen Missing). IsErrAnd found (λ missing. string_bytes c.in_ok-line.line ≡ missing_line c.args.court.now c.args.labels.now.cases c.args.asked.now missing)) (sym is) c.in_ok-line.ensures

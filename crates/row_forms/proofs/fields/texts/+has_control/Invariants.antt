@@ -1,5 +1,0 @@
-use Rattle.std.proofs.Common.{length}
-use Rattle.row_forms.proofs.fields.texts.+has_control.Given as goal
-
-abbrev pub decreases-has_control : goal.decreases-has_control
-decreases-has_control l = length l.text.now
