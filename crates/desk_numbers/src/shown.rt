@@ -3,7 +3,9 @@ ghost use Rattle.std.specs.Prelude.{◌≡◌, map};
 ghost use Rattle.desk_numbers.specs.Numbered.{numbered_booking, numbered_deadline, numbered_ended, numbered_ending, numbered_motion, numbered_sheet};
 
 use crate::moved::MovedNumbers;
-use docket_rows::{Counted, Ending, Sheet, SheetDeadline, SheetDeadlines, SheetMotion, SheetMotions};
+use docket_rows::{
+    Counted, Ending, Sheet, SheetDeadline, SheetDeadlines, SheetMotion, SheetMotions,
+};
 use hearing_slots::{Booking, Bookings};
 
 impl MovedNumbers {

@@ -86,13 +86,7 @@ fn newest_of(motions: &[SheetMotion]) -> Found
 }
 
 // Whether a deadline or a motion of a case is called so.
-fn is_called(
-    called: &CalledTexts,
-    case: u32,
-    counted: Counted,
-    label: &str,
-    number: u32,
-) -> bool
+fn is_called(called: &CalledTexts, case: u32, counted: Counted, label: &str, number: u32) -> bool
     ensures { result ≡ is_called called.now case counted label.now number }
 {
     called.label_of(case, counted, number) == label

@@ -191,8 +191,12 @@ const FORFEITURE_FRONTS: [&str; 7] = [
     "fedrcivpsuppr",
 ];
 
-const SOCIAL_SECURITY_FRONTS: [&str; 4] =
-    ["suppsocsec", "supprsocsec", "supprulesfor405g", "socsec"];
+const SOCIAL_SECURITY_FRONTS: [&str; 4] = [
+    "suppsocsec",
+    "supprsocsec",
+    "supprulesfor405g",
+    "socsec",
+];
 
 const APPELLATE_FRONTS: [&str; 2] = ["frap", "fedrappp"];
 
