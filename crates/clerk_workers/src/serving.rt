@@ -126,7 +126,7 @@ fn take_row<L: NamesOffice, K: Notes<L>, R: Wait, G: Gate>(
     ensures stopped { (start : SeatView) (rows : List Row) → IsNoted K.hold L.setup start rows notes.old seat.old → OnErr result (HasLeft L.setup start (rows ++ row.now ∷ []) seat.new) }
 {
     let clerk = seat.number();
-    if row.clerk != clerk {
+    if row.clerk != u16::from(clerk) {
         return Ok(());
     }
     let answer = answer(rt, alloc, seat, number, &row.work, gate)?;

@@ -18,7 +18,7 @@ use std::alloc::{AllocError, Global};
 use std::io::{Read, Write};
 
 // How many clerks may enter rows.
-const MOST_CLERKS: u8 = 64;
+const MOST_CLERKS: u16 = 64;
 
 /// All of an input.
 pub fn whole<R: Read + Drop>(alloc: Global, reader: R) -> Result<Vec<u8>, DeskFault>

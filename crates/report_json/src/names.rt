@@ -54,7 +54,7 @@ pub(crate) fn push_judges(out: &mut JsonWriter, court: &Court) -> Result<(), All
 }
 
 /// Writes the names of this number of judges, from the first on.
-fn push_numbered(out: &mut JsonWriter, court: &Court, count: u8) -> Result<(), AllocError>
+fn push_numbered(out: &mut JsonWriter, court: &Court, count: u16) -> Result<(), AllocError>
     ensures { OnOk result (Adds out.old out.new (flat_map json_tokens (names_from court.now.judges 0 count))) }
 {
     for judge in 0..count {

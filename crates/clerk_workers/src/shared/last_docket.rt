@@ -55,7 +55,7 @@ impl Closing for LastDocket {
         alloc: Global,
         text: &mut String,
         court: &Court,
-        judge: u8,
+        judge: u16,
     ) -> Result<(), AllocError> {
         let bookings = listed(alloc, calendar(&self.board, judge))?;
         push_calendar(text, court, judge, &bookings)

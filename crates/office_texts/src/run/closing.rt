@@ -30,7 +30,7 @@ pub trait Closing {
         alloc: Global,
         text: &mut String,
         court: &Court,
-        judge: u8,
+        judge: u16,
     ) -> Result<(), AllocError>
         requires { judge < (setup self.now).judges }
         ensures { OnOk result (AddsText text.old text.new (calendar_lines court.now judge ((parts self.now).judge judge))) };
@@ -52,7 +52,7 @@ impl Closing for Docket {
         _alloc: Global,
         text: &mut String,
         court: &Court,
-        judge: u8,
+        judge: u16,
     ) -> Result<(), AllocError> {
         match self.calendar(judge) {
             Some(calendar) => push_calendar(text, court, judge, calendar.all()),
@@ -111,8 +111,8 @@ fn push_calendars<D: Closing>(
     text: &mut String,
     court: &Court,
     docket: &D,
-    first: u8,
-    count: u8,
+    first: u16,
+    count: u16,
 ) -> Result<(), AllocError>
     requires court { D.setup docket.now ≡ setup_of court.now }
     requires numbers { first + count ≤ length court.now.judges }
