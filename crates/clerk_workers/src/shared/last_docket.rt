@@ -46,6 +46,10 @@ impl Closing for LastDocket {
 
     ghost parts = { λ d. parts_of (rows_of d.parts d.trail.log) };
 
+    fn last_sheet(&self, court: &Court) -> u32 {
+        court.limits().cases
+    }
+
     fn sheet(&self, alloc: Global, case: u32) -> Result<View, AllocError> {
         show(alloc, &self.board, &Query::Sheet(case))
     }
