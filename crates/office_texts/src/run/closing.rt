@@ -3,8 +3,8 @@
 ghost use Rattle.std.specs.Prelude.{◌≡◌, ◌+◌, ◌<◌, ◌≤◌, length, IfOk, OnOk};
 ghost use Rattle.docket_rows.specs.declared.query.Query.TheVariants as query;
 ghost use Rattle.docket_rows.specs.Words.{setup_of, most_names, seen_by};
-ghost use Rattle.office_texts.specs.Words.{AddsText, calendar_lines};
 ghost use Rattle.docket_core.specs.Words.{parts_held};
+ghost use Rattle.office_texts.specs.Words.{AddsText, calendar_lines};
 ghost use Rattle.office_texts.specs.Run.Text.{calendars_from, closing_text, sheet_shown, sheets_from};
 
 use crate::{push_calendar, push_sheet};
@@ -70,6 +70,14 @@ impl Closing for Docket {
             None => unreachable!(),
         }
     }
+}
+
+/// How many cases a docket of the court holds at most.
+pub fn most_cases(court: &Court) -> u32
+    ensures value { result ≡ court.now.limits.cases }
+    ensures most { result ≤ 1_000_000 }
+{
+    court.limits().cases
 }
 
 /// The number after which no case of a docket is open.
