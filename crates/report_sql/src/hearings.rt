@@ -140,7 +140,7 @@ fn push_judges(
     court: &Court,
     case: u32,
     motion: u32,
-    judges: &[u8],
+    judges: &[u16],
 ) -> Result<(), AllocError>
     ensures { OnOk result (out.new ≡ out.old ++ numbered (judge_row court.now case motion) 1 judges.now) }
 {

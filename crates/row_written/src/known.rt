@@ -15,7 +15,7 @@ use row_forms::{Line, Work, read_line};
 use std::alloc::{AllocError, Global};
 
 // Whether all numbers are below this one.
-fn are_below(numbers: &[u8], most: u8) -> bool
+fn are_below(numbers: &[u16], most: u16) -> bool
     ensures { result ≡ list_all (λ number. nat_lt number most) numbers.now }
 {
     numbers.iter().all(|number| *number < most)
