@@ -44,9 +44,9 @@ fn takes_two(
     alloc: Global,
     docket: &mut Docket,
     command: &Command,
-    answers: &[Answer; 2],
+    first: &Answer,
+    second: &Answer,
 ) -> Result<(), Fail> {
-    let [first, second] = answers;
     let full = Answer::Refused(Refusal::Full);
     gives(rt, alloc, docket, command, first)?;
     gives(rt, alloc, docket, command, second)?;
@@ -72,21 +72,21 @@ fn a_docket_of_two_cases_takes_no_third(rt: HostRuntime) -> Result<(), Fail> {
 
 /// Starts two deadlines of case 1, and a third in vain.
 fn takes_two_deadlines(rt: &impl Abort, alloc: Global, docket: &mut Docket) -> Result<(), Fail> {
-    let ends = last(rt, "2025-03-24");
-    let answers = [Answer::Started(1, ends), Answer::Started(2, ends)];
-    takes_two(rt, alloc, docket, &start(rt), &answers)
+    let first = Answer::Started(1, last(rt, "2025-03-24"));
+    let second = Answer::Started(2, last(rt, "2025-03-24"));
+    takes_two(rt, alloc, docket, &start(rt), &first, &second)
 }
 
 /// Enters two motions of case 1, and a third in vain.
 fn takes_two_motions(rt: &impl Abort, alloc: Global, docket: &mut Docket) -> Result<(), Fail> {
-    let answers = [Answer::MotionEntered(1), Answer::MotionEntered(2)];
-    takes_two(rt, alloc, docket, &motion(rt), &answers)
+    let (first, second) = (Answer::MotionEntered(1), Answer::MotionEntered(2));
+    takes_two(rt, alloc, docket, &motion(rt), &first, &second)
 }
 
 /// Records two facts of case 1, and a third in vain.
 fn takes_two_facts(rt: &impl Abort, alloc: Global, docket: &mut Docket) -> Result<(), Fail> {
-    let answers = [Answer::Assigned, Answer::Assigned];
-    takes_two(rt, alloc, docket, &assign(rt), &answers)
+    let assigned = Answer::Assigned;
+    takes_two(rt, alloc, docket, &assign(rt), &assigned, &assigned)
 }
 
 /// Opens case 1, and fills it.
@@ -105,10 +105,9 @@ fn a_case_that_is_full_takes_no_more(rt: HostRuntime) -> Result<(), Fail> {
 
 /// Opens case 1, and starts this many deadlines of it.
 fn starts(rt: &impl Abort, alloc: Global, docket: &mut Docket, count: u32) -> Result<(), Fail> {
-    let ends = last(rt, "2025-03-24");
     gives(rt, alloc, docket, &open_case(rt), &Answer::Opened)?;
     for number in 1..=count {
-        let started = Answer::Started(number, ends);
+        let started = Answer::Started(number, last(rt, "2025-03-24"));
         gives(rt, alloc, docket, &start(rt), &started)?;
     }
     Ok(())
