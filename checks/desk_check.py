@@ -450,9 +450,9 @@ def check_together(programs, draw):
                  b'line 4 fault 2 UnknownCommand: found "no", expected ' + COMMANDS, b"2 lines have faults", FAULTS),
                 (b"\n# rows\n1,open,1,2025-03-03\n1,sheet,1",
                  b"line 2 fault 3 WrongCount: expected CLERK,COMMAND and what the command takes\n", b"a line has a fault", FAULTS),
-                (b'1,open,1\n65,sheet,1\n1,"calendar","Ames, or Brandt",3/3/2025\n1,start,1,59e,2025-03-03,,,G\n1,sheet,\n1,\xff,1\n',
+                (b'1,open,1\n65536,sheet,1\n1,"calendar","Ames, or Brandt",3/3/2025\n1,start,1,59e,2025-03-03,,,G\n1,sheet,\n1,\xff,1\n',
                  b'line 1 fault 3 WrongCount: expected CLERK,open,CASE,DATE\n'
-                 b'line 2 fault 1 BadClerk: found "65", expected a clerk\'s number, 1 to 64\n'
+                 b'line 2 fault 1 BadClerk: found "65536", expected a clerk\'s number, 1 to 65535\n'
                  b'line 3 fault 4 BadField 4: expected what FORMATS.md has under Rows\n'
                  b'line 4 fault 4 BadField 8: found "G", expected a kind of service, A to F, or nothing\n'
                  b'line 5 fault 4 BadField 3: found nothing, expected a number, as 7, or the number of a case that was opened, as 1:25-cv-01234\n'
