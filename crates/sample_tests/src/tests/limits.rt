@@ -6,20 +6,32 @@ use super::{court, day, sample_court};
 use court_days::{Court, Limits};
 use docket_core::Docket;
 use docket_rows::{Answer, Command, Fact, Refusal};
+use reason_refusals::push_why_refused;
 use std::alloc::Global;
 use std::process::Abort;
 use std::test::Fail;
 
-/// The docket of a court that holds two cases, and of each two deadlines, two motions and two facts.
-fn small(alloc: Global) -> Result<Docket, Fail> {
+/// What is said of the third of each.
+const SAID: &str = "                  the case isn't open; cases are 1 to 2               ours
+                  a case has 2 deadlines at most                      ours
+                  a case has 2 motions at most                        ours
+                  a case has 2 such rows at most                      ours
+";
+
+/// A court whose docket holds two cases, and of each two deadlines, two motions and two facts.
+fn court_of_two(alloc: Global) -> Result<Court, Fail> {
     let two = Limits {
         cases: 2,
         deadlines: 2,
         motions: 2,
         facts: 2,
     };
-    let court = court(alloc)?.limited(two);
-    Ok(Docket::new(alloc, &court)?)
+    Ok(court(alloc)?.limited(two))
+}
+
+/// Its docket before any command.
+fn small(alloc: Global) -> Result<Docket, Fail> {
+    Ok(Docket::new(alloc, &court_of_two(alloc)?)?)
 }
 
 /// Opens the case of that number.
@@ -101,6 +113,25 @@ fn fills_a_case(rt: &impl Abort, alloc: Global, docket: &mut Docket) -> Result<(
 fn a_case_that_is_full_takes_no_more(rt: HostRuntime) -> Result<(), Fail> {
     let mut docket = small(rt.alloc())?;
     fills_a_case(&rt, rt.alloc(), &mut docket)
+}
+
+/// Says why a third case, deadline, motion and fact would be refused.
+fn says(rt: &impl Abort, alloc: Global, court: &Court, docket: &Docket) -> Result<(), Fail> {
+    let mut text = String::new(alloc);
+    let (no_case, full) = (Refusal::NoSuchCase, Refusal::Full);
+    push_why_refused(alloc, &mut text, court, docket, &open(rt, 3), "", &no_case)?;
+    push_why_refused(alloc, &mut text, court, docket, &start(rt), "", &full)?;
+    push_why_refused(alloc, &mut text, court, docket, &motion(rt), "", &full)?;
+    push_why_refused(alloc, &mut text, court, docket, &assign(rt), "", &full)?;
+    assert_eq!(rt; text.as_str(), SAID);
+    Ok(())
+}
+
+#[test]
+fn each_limit_is_said(rt: HostRuntime) -> Result<(), Fail> {
+    let court = court_of_two(rt.alloc())?;
+    let docket = Docket::new(rt.alloc(), &court)?;
+    says(&rt, rt.alloc(), &court, &docket)
 }
 
 /// Opens case 1, and starts this many deadlines of it.
