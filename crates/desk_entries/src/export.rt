@@ -6,9 +6,7 @@ ghost use Rattle.desk_entries.specs.Export.{asked_placed, number_asked, number_i
 use case_numbers::after_name;
 use csv::StringRecord;
 use desk_numbers::{MovedNumbers, is_apart};
-use desk_register::{
-    MOST_CLERKS, RowTypes, Standing, before_number, with_field, with_suspender,
-};
+use desk_register::{MOST_CLERKS, RowTypes, Standing, before_number, with_field, with_suspender};
 use docket_rows::{Command, Fact};
 use row_forms::{Line, Work, push_row_text, read_line};
 use std::alloc::{AllocError, Global};

@@ -146,7 +146,15 @@ impl DocketRegister {
             return Ok(LineCause::TooManyCases);
         }
         let (docket, called) = (&self.docket, &self.called);
-        match unfound_in(alloc, under, docket, &self.numbers, called, &self.cases, line)? {
+        match unfound_in(
+            alloc,
+            under,
+            docket,
+            &self.numbers,
+            called,
+            &self.cases,
+            line,
+        )? {
             Some(why) => Ok(LineCause::NotFound(why)),
             None => Ok(LineCause::Row(cause)),
         }

@@ -284,9 +284,7 @@ fn push_all_sheets(
     ensures { (docketed : Rows) → Holds (setup_of court.now) docket.now docketed → OnOk result (AddsText text.old text.new (shifts court.now docketed moved.now cases.now.named before.now)) }
 {
     let last = docket.last_case();
-    push_sheets(
-        alloc, text, court, docket, moved, cases, before, 1, last,
-    )
+    push_sheets(alloc, text, court, docket, moved, cases, before, 1, last)
 }
 
 // What of a docket is shown otherwise than by the days before, a line for each.

@@ -34,7 +34,7 @@ module _ (court : CourtView) (moved : List Moved) (parts : Parts) (today : Optio
   unfolding seen_by query_refusal
   by_case row is_open None found starts some none = absurd (not_both (is_case_number (setup_of court) case) (rw found at is_open))
   by_case None is_open (Some c) found starts some none = absurd cc (rw starts at none)
-  by_case (Some row) is_open (Some c) found starts some none = 
+  by_case (Some row) is_open (Some c) found starts some none =
       let start : DeadlineRowView = started period event second service in
       rw (some.0, is_open, found) (ap (λ (others : List SheetDeadline). start_notes parts.days court.clock c.filed today start (shown_now (setup_of court) parts start) ++ among moved case start others) (sheet_there (setup_of court) parts case c is_open found))
 

@@ -23,7 +23,7 @@ pub sheets_added : (court : CourtView) (labels : LabelsView) (d : DocketView) (d
 sheets_added court labels d docketed last old new holds few none pushed =
     let within : last ≤ court.limits.cases = rw holds.setup_is at few in
     let unshown : (case : ℕ) → 1 + last ≤ case → IsSheetOf court labels docketed case [] = λ case past.
-        subst (λ (v : View). IsSheetShown court labels (days_docketed labels docketed) (numbered_view labels.moved v) []) (sym (no_view (setup_of court) (parts_held d) docketed case holds.stands (none case (omega (arith, past))))) refl in
+    subst (λ (v : View). IsSheetShown court labels (days_docketed labels docketed) (numbered_view labels.moved v) []) (sym (no_view (setup_of court) (parts_held d) docketed case holds.stands (none case (omega (arith, past))))) refl in
     record { added = pushed.added; is_kind = each_more (IsSheetOf court labels docketed) 1 last court.limits.cases pushed.added within unshown pushed.is_kind; appended = pushed.appended }
 
 pub memo_made : (court : CourtView) (labels : LabelsView) (rows : List NumberedRow) (empty replies sheets whole : List ℕ) (judges : ℕ) → empty ≡ [] → Adds (AreReplies court labels (opening_rows (setup_of court)) rows) empty replies → Adds (AreSheets court labels (docketed_after (setup_of court) (opening_rows (setup_of court)) (rows_of rows)) 1 court.limits.cases) replies sheets → Adds (AreCalendars court labels (docketed_after (setup_of court) (opening_rows (setup_of court)) (rows_of rows)) 0 judges) sheets whole → judges ≡ length court.judges → IsMemo court labels rows whole

@@ -31,9 +31,7 @@ pub use items::{push_matter, push_room, push_span, push_time};
 pub use judges::push_panel;
 pub use labels::Labels;
 pub use other::{push_given, push_reading};
-pub use pending::{
-    kind_words, push_holder, push_pending, push_pending_count, push_pending_title,
-};
+pub use pending::{kind_words, push_holder, push_pending, push_pending_count, push_pending_title};
 pub use pending_csv::push_pending_csv;
 pub use periods::{push_period, unit_words};
 pub use selected::{

@@ -185,10 +185,7 @@ fn push_label(
     ensures { OnOk result (bytes.new.items ≡ bytes.old.items ++ csv_more (motion_label labels.now case motion)) }
 {
     match motion {
-        Some(motion) => push_more(
-            bytes,
-            labels.called.label_of(case, Counted::Motion, motion),
-        ),
+        Some(motion) => push_more(bytes, labels.called.label_of(case, Counted::Motion, motion)),
         None => push_more(bytes, ""),
     }
 }

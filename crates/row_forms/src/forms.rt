@@ -49,12 +49,7 @@ pub fn work_as(
 }
 
 // What a row of that form asks for.
-fn read_as(
-    court: &Court,
-    coded: bool,
-    form: Form,
-    fields: &StringRecord,
-) -> Result<Work, RowCause>
+fn read_as(court: &Court, coded: bool, form: Form, fields: &StringRecord) -> Result<Work, RowCause>
     ensures { result ≡ read_as (names_if coded (names_of court.now)) form (fields_of fields.now) }
 {
     if fields.len() != columns_of_form(form).len() {

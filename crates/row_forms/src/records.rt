@@ -110,7 +110,13 @@ fn office_row_of(clerks: u16, court: &Court, fields: &StringRecord) -> Result<Ro
     requires { list_all is_utf8 (fields_of fields.now) ≡ true }
     ensures { result ≡ office_row_of clerks (names_of court.now) (fields_of fields.now) }
 {
-    row_as(clerks, court, false, office_form_of(column(fields, 2)), fields)
+    row_as(
+        clerks,
+        court,
+        false,
+        office_form_of(column(fields, 2)),
+        fields,
+    )
 }
 
 // The row that a record spells whose command word names this form, if it names one. Its period may be named by the code of a section

@@ -84,11 +84,7 @@ fn nearest_code(alloc: Global, word: &str) -> Result<Option<String>, AllocError>
 
 /// The code of a period, of the Rules or of a section whose period is entered, or the court's name for one, that is nearest to a folded
 /// word, likewise.
-fn nearest_period(
-    alloc: Global,
-    court: &Court,
-    word: &str,
-) -> Result<Option<String>, AllocError> {
+fn nearest_period(alloc: Global, court: &Court, word: &str) -> Result<Option<String>, AllocError> {
     if is_section(alloc, word)? {
         return Ok(None);
     }

@@ -98,12 +98,7 @@ fn push_between(out: &mut Vec<u8>, joined: bool, mark: &[u8]) -> Result<(), Allo
 }
 
 // Adds a row after others of its line.
-fn push_next(
-    out: &mut Vec<u8>,
-    joined: bool,
-    mark: &[u8],
-    row: &Vec<u8>,
-) -> Result<(), AllocError>
+fn push_next(out: &mut Vec<u8>, joined: bool, mark: &[u8], row: &Vec<u8>) -> Result<(), AllocError>
     ensures { OnOk result (out.new.items ≡ out.old.items ++ next_in_place joined mark.now row.now.items) }
 {
     push_between(out, joined, mark)?;

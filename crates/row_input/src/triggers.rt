@@ -33,11 +33,7 @@ fn set_of(word: &str) -> Option<&'static str>
 }
 
 // The text of a set that the court's file has, or else the program, or else the field itself.
-fn set_meant<'a>(
-    alloc: Global,
-    court: &'a Court,
-    field: &'a str,
-) -> Result<&'a str, AllocError>
+fn set_meant<'a>(alloc: Global, court: &'a Court, field: &'a str) -> Result<&'a str, AllocError>
     ensures { IfOk result (λ text. text.now ≡ set_meant court.now.periods.triggers field.now) }
 {
     let word = folded(alloc, field)?;
@@ -126,12 +122,7 @@ fn label_if(alloc: Global, text: String) -> Result<String, AllocError>
 }
 
 // What the deadline of a period of a set is called.
-fn label_for(
-    alloc: Global,
-    court: &Court,
-    field: &str,
-    period: &str,
-) -> Result<String, AllocError>
+fn label_for(alloc: Global, court: &Court, field: &str, period: &str) -> Result<String, AllocError>
     ensures { IfOk result (λ label. string_bytes label ≡ label_for court.now.periods.triggers field.now period.now) }
 {
     let mut label = set_word(alloc, court, field)?;

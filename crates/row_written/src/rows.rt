@@ -19,7 +19,7 @@ use crate::fault::{Fault, Flaw, fault_at};
 use crate::fields::field_said;
 use crate::headings::{headings_of, index_of, names_columns, word_at};
 use crate::known::{names_known, stays};
-use crate::labels::{label_at, row_of_label, made_by, push_others};
+use crate::labels::{label_at, made_by, push_others, row_of_label};
 use court_clock::Day;
 use court_days::Court;
 use csv::StringRecord;

@@ -76,11 +76,7 @@ fn label_said(alloc: Global, text: &str) -> Result<Said<String>, AllocError>
 }
 
 // A Rule's number, or what a deadline is called where the field is none.
-fn rule_or_label(
-    alloc: Global,
-    said: Said<String>,
-    text: &str,
-) -> Result<Said<String>, AllocError>
+fn rule_or_label(alloc: Global, said: Said<String>, text: &str) -> Result<Said<String>, AllocError>
     ensures { IfOk result (λ then. said_map string_bytes then ≡ rule_or_label (said_map string_bytes said) text.now) }
 {
     match said {

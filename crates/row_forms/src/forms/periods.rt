@@ -42,8 +42,7 @@ pub fn measured_from(
     requires few { first ≤ 200 }
     ensures { result ≡ measured_from (names_if coded (names_of court.now)) (fields_of fields.now) first }
 {
-    let period =
-        period_in(court, coded, column(fields, first)).ok_or(RowCause::BadField(first))?;
+    let period = period_in(court, coded, column(fields, first)).ok_or(RowCause::BadField(first))?;
     let day = day_in(fields, first + 1)?;
     let minute = minute_or_midnight(column(fields, first + 2)).ok_or(RowCause::BadField(
         first + 2,
