@@ -5,9 +5,8 @@
 
 FOLDER/court.toml and FOLDER/rows are written. N cases are filed a year, each before one of the judges and by its court's number; each
 is open for a year to three, gets --rows rows in each year, and is then closed. The rows are in the order of their days and end with the
-last year, so that the cases of the last years are open. Without options it is as large as the program takes: 400 cases a year for
-ten years, 32 judges. --whole is a large district as it is: 20,000 cases a year and 70 judges, of which the program refuses what is
-too much. It needs Python 3.8 or later.
+last year, so that the cases of the last years are open. Without options it is a small one: 400 cases a year for ten years, 32
+judges. --whole is a large district as it is: 20,000 cases a year and 70 judges. It needs Python 3.8 or later.
 """
 import argparse
 import datetime

@@ -55,7 +55,7 @@ NOT_TOGETHER = "error: the argument '--days <N>' cannot be used with '--from <DA
 A_DAY = "write a day as 2025-09-15, today, tomorrow, yesterday, monday to sunday, +7d or -3d"
 WEEKDAYS = ["monday", "tuesday", "wednesday", "thursday", "friday", "saturday", "sunday"]
 A_COUNT = "write a number of days, 1 or more"
-A_CASE = "write a case as its number, 1 to 4096, or as 1:25-cv-01234-ABC"
+A_CASE = "write a case as its number, 1 to 1000000, or as 1:25-cv-01234-ABC"
 NO_TIMES = [
     (["due", "--from", "2025-13-45"], "from <DAY>", A_DAY),
     (["page", "--to", "2025-02-29"], "to <DAY>", A_DAY),

@@ -231,7 +231,7 @@ def spoiled():
     way("an empty name", put('"Ames"', '""'))
     way("a name twice", put('"Calloway"', '"Ames"'))
     way("a name in another case", put('"Calloway"', '"AMES"'))
-    way("too many judges", put('"Ames"', ", ".join('"J{}"'.format(n) for n in range(40))))
+    way("too many judges", put('"Ames"', ", ".join('"J{}"'.format(n) for n in range(1001))))
     return ways
 
 

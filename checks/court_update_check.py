@@ -122,7 +122,7 @@ def refused_names(place):
     """Names and hours that a court's file can't have."""
     for data, line, said in (("Ames\nO'Brien, Mary\n", 2, "O'Brien, Mary"), ("Ames+Brandt", 1, "Ames+Brandt"), ("\n\nAmes\nBrandt\nAmes\n", 5, "Ames"),
                              ("x" * 129, 1, "x" * 129), (b"N\xfa\xf1ez\n", 1, ""), ("Mary Ames\n Mary Ames\n", 2, "Mary Ames"),
-                             ("\n".join("J{}".format(n) for n in range(40)), 33, "J32"), ("Am\x1bes", 1, "Am\\x1bes")):
+                             ("\n".join("J{}".format(n) for n in range(1010)), 1001, "J1000"), ("Am\x1bes", 1, "Am\\x1bes")):
         ended = place.written("hawaii", "--judges", place.put("names.txt", data))
         assert ended.status == COURT and not ended.output, (data, ended)
         errors = ended.errors.decode()

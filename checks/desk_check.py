@@ -450,9 +450,9 @@ def check_together(programs, draw):
                  b'line 4 fault 2 UnknownCommand: found "no", expected ' + COMMANDS, b"2 lines have faults", FAULTS),
                 (b"\n# rows\n1,open,1,2025-03-03\n1,sheet,1",
                  b"line 2 fault 3 WrongCount: expected CLERK,COMMAND and what the command takes\n", b"a line has a fault", FAULTS),
-                (b'1,open,1\n65,sheet,1\n1,"calendar","Ames, or Brandt",3/3/2025\n1,start,1,59e,2025-03-03,,,G\n1,sheet,\n1,\xff,1\n',
+                (b'1,open,1\n65536,sheet,1\n1,"calendar","Ames, or Brandt",3/3/2025\n1,start,1,59e,2025-03-03,,,G\n1,sheet,\n1,\xff,1\n',
                  b'line 1 fault 3 WrongCount: expected CLERK,open,CASE,DATE\n'
-                 b'line 2 fault 1 BadClerk: found "65", expected a clerk\'s number, 1 to 64\n'
+                 b'line 2 fault 1 BadClerk: found "65536", expected a clerk\'s number, 1 to 65535\n'
                  b'line 3 fault 4 BadField 4: expected what FORMATS.md has under Rows\n'
                  b'line 4 fault 4 BadField 8: found "G", expected a kind of service, A to F, or nothing\n'
                  b'line 5 fault 4 BadField 3: found nothing, expected a number, as 7, or the number of a case that was opened, as 1:25-cv-01234\n'
@@ -538,8 +538,8 @@ FAULTS_OF_CLERKS = [
     (b"2,open,1\n", b"2 2 fault 3 WrongCount\n"),
     (b"7\n", b"2 7 fault 3 WrongCount\n"),
     (b"x\n", b"2 - fault 3 WrongCount\n"),
-    (b"64,no,row\n", b"2 64 fault 2 UnknownCommand\n"),
-    (b"65,no,row\n", b"2 - fault 1 BadClerk\n"),
+    (b"65535,no,row\n", b"2 65535 fault 2 UnknownCommand\n"),
+    (b"65536,no,row\n", b"2 - fault 1 BadClerk\n"),
     (b"0,sheet,1\n", b"2 - fault 1 BadClerk\n"),
     (b"02,sheet,1\n", b"2 - fault 1 BadClerk\n"),
     (b",sheet,1\n", b"2 - fault 1 BadClerk\n"),
@@ -566,31 +566,24 @@ def check_clerks(programs):
     return "a fault names the clerk of its line"
 
 
-# How many cases a folder holds, and what is said of one more.
-MOST_CASES = 4096
-TOO_MANY = b"fault 7 TooManyCases: the folder holds 4096 cases, and takes no more: open another folder for this case\n"
+# How many cases clerk_office has; a folder holds more.
+CASES_OF_OFFICE = 4096
 
 
 def check_cases(programs):
-    """A folder is filled with cases, and one more by a number of the court has words of its own."""
+    """A folder takes more cases than clerk_office, and numbers of cases up to the greatest."""
     with tempfile.TemporaryDirectory() as parent:
         desk = Desk(programs, parent, SHORT_COURT)
-        desk.enter([b"1,open,25-cv-%05d,2025-03-03\n" % number for number in range(1, MOST_CASES + 1)])
-        more = b"1,open,25-cv-%05d,2025-03-03\n" % (MOST_CASES + 1)
-        whole = desk.journal.read_bytes()
-        for words in (("enter",), ("try",), ("ask",), ("enter", "--warn")):
-            ended = desk.call(*words, given=more)
-            assert (ended.status, ended.output) == (FAULTY, b"4097 1 " + TOO_MANY), (words, ended)
-        ended = desk.call("enter", TOGETHER, given=b"1,sheet,1\n" + more)
-        assert (ended.status, ended.output, told_of(ended)[0]) == (FAULTS, b"", b"line 2 " + TOO_MANY), ended
-        # No other row gets these words.
-        others = [(b"1,sheet,25-cv-05000\n", b"4097 1 fault 4 BadField 3\n"), (b"1,open,25-cv-1x,2025-03-03\n", b"4097 1 fault 4 BadField 3\n"),
-                  (b"1,open,25-cv-09999\n", b"4097 1 fault 3 WrongCount\n")]
+        desk.enter([b"1,open,25-cv-%05d,2025-03-03\n" % number for number in range(1, CASES_OF_OFFICE + 2)])
+        count = CASES_OF_OFFICE + 1
+        # No case has such a number, and such rows have their own faults.
+        others = [(b"1,sheet,25-cv-05000\n", b"4098 1 fault 4 BadField 3\n"), (b"1,open,25-cv-1x,2025-03-03\n", b"4098 1 fault 4 BadField 3\n"),
+                  (b"1,open,25-cv-09999\n", b"4098 1 fault 3 WrongCount\n")]
         ended = desk.call("enter", given=b"".join(row for row, _ in others))
         assert ended.output == b"".join(answer for _, answer in others), ended
-        assert desk.journal.read_bytes() == whole
-        assert desk.enter([b"1,open,25-cv-00001,2025-03-03\n"]) == b"4097 1 refused 2 CaseIsOpen\n"
-    return "a folder takes {} cases, and says so of one more".format(MOST_CASES)
+        assert desk.enter([b"1,open,25-cv-%05d,2025-03-03\n" % count]) == b"4098 1 refused 2 CaseIsOpen\n"
+        assert desk.enter([b"1,open,1000001,2025-03-03\n", b"1,open,1000000,2025-03-03\n"]) == b"4099 1 refused 1 NoSuchCase\n4100 1 opened\n"
+    return "a folder takes {} cases, and the case 1,000,000".format(count)
 
 
 def check_numbers(programs):

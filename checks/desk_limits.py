@@ -7,10 +7,9 @@ A file that may grow no further, and a small disk that is full (a tmpfs, which n
 every row that it answered is kept, and with room again it goes on. A folder that can't be written to is read, and otherwise refused,
 and the journal is as it was. A day of ROWS rows (100,000 without it), which are written one after another to a pipe while the answers
 are read from another: the memory of the desk grows by less than 4 MB after its first 10,000 rows. A folder with twice as many rows, more than an input may have: each report must say of it what
-it says of those rows alone that change the docket, and the answers must be there, each once. A journal is filled with rows up to
-ENTRIES entries (999,000 without it, after which none is kept). A command after the last is refused, a question is answered and isn't
-kept, the journal is opened again, and there is room for a strike, a restore and another court's file. A journal of ROWS rows with a
-hundredth as many strikes at random places is written here; it must be opened in two seconds of a processor at most (the aim is one),
+it says of those rows alone that change the docket, and the answers must be there, each once. A journal gets rows up to ENTRIES entries
+(1,000,000 without it). It is opened again, and takes a row more, a strike, a restore and another court's file. A journal of ROWS rows
+with a hundredth as many strikes at random places is written here; it must be opened in two seconds of a processor at most (the aim is one),
 and the sheets must have what isn't struck, with its numbers. A shorter one that is written so must be one to `docket check`. It needs
 Linux and Python 3.8 or later.
 """
@@ -28,8 +27,8 @@ import tempfile
 import threading
 import time
 
-from lib.desk import Desk, FAULTY, REFUSED, SHORT_COURT, drawn_rows
-from lib.journal import MOST_ROWS, STRIKE_MARK, packed, rows_of, struck_in, with_said
+from lib.desk import Desk, REFUSED, SHORT_COURT, drawn_rows
+from lib.journal import STRIKE_MARK, packed, rows_of, struck_in, with_said
 from lib.kept_numbers import given_by
 from lib.programs import programs_of
 
@@ -213,32 +212,29 @@ def check_many(programs, draw, count):
     return "a folder of {:,} rows: each report says of it what it says of the rows, in {:.1f} s".format(count, seconds)
 
 
-def check_full_journal(programs, count):
-    """A journal is filled with rows and opened again; questions are answered, and corrections still have room."""
-    opens, row, command = b"1,open,1,2025-03-03\n", b"1,compute,59e,2025-08-04,,,\n", b"1,open,2,2025-03-03\n"
+def check_long_journal(programs, count):
+    """A journal of very many rows is opened again; it takes a row more, questions and corrections."""
+    opens, row = b"1,open,1,2025-03-03\n", b"1,compute,59e,2025-08-04,,,\n"
     with tempfile.TemporaryDirectory() as parent:
         desk = Desk(programs, parent, SHORT_COURT)
-        ended = desk.call("enter", given=opens + row * (count - 2) + command + row * 2)
-        *_, last, beyond, asked, again = ended.output.splitlines()
-        said = b" 1 last 2025-09-02"
-        assert ended.status == FAULTY and last == b"%d" % (count - 1) + said and beyond == b"%d 1 fault 6 TooManyRows" % count, (last, beyond)
-        assert asked == again == b"%d" % count + said, (asked, again)
+        ended = desk.call("enter", given=opens + row * (count - 2))
+        said = b"%d 1 last 2025-09-02\n"
+        assert ended.status == 0 and ended.output.endswith(b"\n" + said % (count - 1)) and len(desk.read().entries) == count, ended.errors
         began = time.monotonic()
         ended = desk.call("check")
         seconds = time.monotonic() - began
         assert ended.status == 0, ended
         ended = desk.call("enter", given=row)
-        assert ended.status == 0 and ended.output == asked + b"\n" and len(desk.read().entries) == count, ended
+        assert ended.status == 0 and ended.output == said % count and len(desk.read().entries) == count + 1, ended
         size = desk.journal.stat().st_size
         ended = desk.call("ask", given=b"1,sheet,1\n")
-        assert ended.status == 0 and ended.output.startswith(b"%d 1 sheet\ncase 1 " % count), ended
+        assert ended.status == 0 and ended.output.startswith(b"%d 1 sheet\ncase 1 " % (count + 1)), ended
         for word, struck in (("strike", {1}), ("restore", set())):
             ended = desk.call(word, 1, "--reason", "twice", "--accept")
             assert ended.status == 0 and struck_in(desk.read()) == struck, ended
         assert desk.take_court(SHORT_COURT).status == 0
-        assert len(desk.read().entries) == count + 3
-    return "a journal of {:,} entries and {:,} bytes takes no row more, and is opened in {:.1f} s; questions and corrections have room".format(
-        count, size, seconds)
+        assert len(desk.read().entries) == count + 4
+    return "a journal of {:,} entries and {:,} bytes is opened in {:.1f} s, and goes on".format(count, size, seconds)
 
 
 def rows_to_strike(draw, count):
@@ -323,10 +319,10 @@ def check_strikes(programs, draw, count):
 def main(words):
     programs, draw = programs_of(words[:2]), random.Random(1)
     rows = int(words[2]) if len(words) > 2 else 100_000
-    entries = int(words[3]) if len(words) > 3 else MOST_ROWS
+    entries = int(words[3]) if len(words) > 3 else 1_000_000
     for check in (lambda: check_read_only(programs, draw), lambda: check_short_file(programs, draw), lambda: check_full_disk(programs, draw),
                   lambda: check_day(programs, draw, rows), lambda: check_many(programs, draw, 2 * rows), lambda: check_strikes(programs, draw, rows),
-                  lambda: check_full_journal(programs, entries)):
+                  lambda: check_long_journal(programs, entries)):
         print(check(), flush=True)
 
 

@@ -15,9 +15,9 @@ VERSION = 3
 FIRST_CHECKSUM = first_checksum(VERSION)
 # What comes between a latch and the content: two numbers of four bytes, and a checksum.
 HEAD = 4 + 4 + 32
-MOST_ENTRIES = 1_000_000
+MOST_ENTRIES = 100_000_000
 # After how many entries no row is taken: the others are for court's files, strikes and restores.
-MOST_ROWS = 999_000
+MOST_ROWS = 99_900_000
 # How many bytes the time of a stamp has.
 TIME = 8
 # With what the line begins that comes before a later court's file in its entry.
@@ -41,7 +41,7 @@ class Damaged(Exception):
 
 
 class TooMany(Exception):
-    """More than 1,000,000 entries follow one another."""
+    """More than 100,000,000 entries follow one another."""
 
 
 class Stamp(NamedTuple):

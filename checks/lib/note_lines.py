@@ -7,7 +7,7 @@ from lib.derivation_steps import time_text
 from lib.legal_names import legal_name
 from lib.period_words import right_from
 from reference.civil import civil, day_of_text, day_text, instant_at, minute_text, weekday
-from reference.docket import (DATES, DEADLINES, FACTS, GRANTS, MOTIONS, OUTAGES, STEPS, deadline_of, hearing_of, motion_of, opening,
+from reference.docket import (DATES, GRANTS, OUTAGES, STEPS, deadline_of, hearing_of, motion_of, opening,
                               step)
 from reference.periods import granted, is_in_range, is_order, is_set, shown
 from reference.rule6 import AFTER, BEFORE, BEYOND, ELECTRONIC, FILING, PAPER, Filing, day_end, is_timely, permitted
@@ -254,6 +254,11 @@ def alone(what, section):
     return lambda court, rows, command, answer: [(None, what, section)]
 
 
+def limited(what, section):
+    """A line with the limits of the court's docket."""
+    return lambda court, rows, command, answer: [(None, what.format(court.limits), section)]
+
+
 def by_grant(asked, ordered, section):
     """A line on an extension that was asked for, or on what an order sets."""
     return lambda court, rows, command, answer: [(None, ordered if is_order(command[3].grant) else asked, section)]
@@ -315,7 +320,7 @@ def span(words):
 def by_command(lines_by_word):
     def lines(court, rows, command, answer):
         what = lines_by_word.get(command[0])
-        return [] if what is None else [(None, what, "ours")]
+        return [] if what is None else [(None, what.format(court.limits), "ours")]
     return lines
 
 
@@ -346,22 +351,18 @@ HEARING = "a hearing is 15 minutes or more, on one day"
 LENGTHS = {"start": PERIOD, "compute": PERIOD, "extend": "an extension is 1 to 3650 days or 1 to 8760 hours",
            "motion": "a notice is 1 to 365 days", "book": HEARING, "move": HEARING,
            "inaccessible": "an outage ends after it begins, on one day"}
-MOST = {"start": "a case has {} deadlines at most".format(DEADLINES),
+FACTS = "a case has {0.facts} such rows at most"
+MOST = {"start": "a case has {0.deadlines} deadlines at most",
         "extend": "a deadline has {} extensions at most".format(GRANTS),
-        "motion": "a case has {} motions at most".format(MOTIONS),
-        "end": "a case has {} such rows at most".format(FACTS),
-        "resume": "a case has {} such rows at most".format(FACTS),
-        "close": "a case has {} such rows at most".format(FACTS),
-        "reopen": "a case has {} such rows at most".format(FACTS),
-        "rule": "a case has {} such rows at most".format(FACTS),
-        "assign": "a case has {} such rows at most".format(FACTS),
+        "motion": "a case has {0.motions} motions at most",
+        "end": FACTS, "resume": FACTS, "close": FACTS, "reopen": FACTS, "rule": FACTS, "assign": FACTS,
         "holiday": "a list of holidays has {} dates at most".format(DATES),
         "inaccessible": "the docket has {} outages at most".format(OUTAGES)}
 PANEL = "a panel is one to three judges, each once"
 PANELS = {"book": PANEL, "move": PANEL, "assign": "the case is referred to the judge who has it"}
 
 REFUSED = {
-    1: alone("the case isn't open; cases are 1 to 4096", "ours"),
+    1: limited("the case isn't open; cases are 1 to {0.cases}", "ours"),
     2: alone("the case is open already", "ours"),
     3: alone("the case has no deadline of this number", "ours"),
     4: alone("the case has no motion of this number", "ours"),

@@ -135,7 +135,7 @@ def spoiled():
     way("a case number in place of a judge", "1,calendar,1:25-cv-01234,2025-10-07")
     way("a case number in place of a deadline", put(file, ",3,", ",1:25-cv-01234,"))
     way("rows by case numbers", "clerk,command,case,date,rule", "1,open,1:25-CV-1234-abc,2025-09-02,", "1,start,1:25-cv-01234,2025-09-02,59(e)", "1,sheet,1:25-cv-1234,,")
-    for name, clerk in [("0", "0"), ("65", "65"), ("a name", "Jo"), ("nothing", ""), ("a leading zero", "01")]:
+    for name, clerk in [("0", "0"), ("65536", "65536"), ("a name", "Jo"), ("nothing", ""), ("a leading zero", "01")]:
         way(name + " as a clerk", put(start, "1,start", clerk + ",start"))
     way("a deadline that is no number", put(file, ",3,", ",three,"))
     for name, rule in [("a Rule's number", "59(E)"), ("a Rule that sets two", "12(a)(1)(A)(ii)"), ("a misspelt Rule", "59(ee)"), ("a Rule that is entered", "50(b)"),

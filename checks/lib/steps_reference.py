@@ -6,7 +6,7 @@ that read. No world is ever changed in place, so that lists of steps that begin 
 """
 from collections import namedtuple
 
-from reference.docket import CASES, hearing_of, opening, step
+from reference.docket import hearing_of, opening, step
 from reference.text_out import answer_lines
 
 World = namedtuple("World", "rows length versions hands")
@@ -45,7 +45,7 @@ def wanted(court, command, rows):
         return ["court"] + ["judge {}".format(judge) for judge in range(len(court.judges))]
     if word == "inaccessible":
         return ["court"]
-    if not 1 <= command[1] <= CASES:
+    if not 1 <= command[1] <= court.limits.cases:
         return []
     if word == "book":
         return [case_part(command), "court"] + calendars(court, command[3], command[4])

@@ -44,7 +44,7 @@ def subject_in(text):
 
 def case_in(text):
     """A case's number, or its case number."""
-    if number_in(text, 1, 4096):
+    if number_in(text, 1, 1000000):
         return text.strip()
     name = read(passed_over(text))
     return name and name[1]

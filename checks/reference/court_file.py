@@ -14,8 +14,11 @@ try:
 except ImportError:
     tomllib = None
 
-# A court, and the periods to which its file gives names: the text of each, and where it is from.
-Court = namedtuple("Court", "clock days judges rooms periods cites", defaults=({}, {}))
+# How many cases a docket holds at most, and of each how many deadlines, motions and facts: clerk_office and the desk.
+Limits = namedtuple("Limits", "cases deadlines motions facts")
+OFFICE_LIMITS, DESK_LIMITS = Limits(4096, 64, 64, 512), Limits(1000000, 4096, 4096, 16384)
+# A court, the periods to which its file gives names, with the text of each and where it is from, and how much its docket holds.
+Court = namedtuple("Court", "clock days judges rooms periods cites limits", defaults=({}, {}, OFFICE_LIMITS))
 
 NUMBERS = {"NotToml": 1, "Missing": 2, "WrongKind": 3, "BadDate": 4, "BadZone": 5, "BadHours": 6, "BadSpan": 7,
            "BadName": 8, "TwiceNamed": 9, "TooMany": 10}
@@ -66,7 +69,7 @@ def court_of(data, at_desk=False):
     until = minute_at(table, "efiling_until") if at_desk and "efiling_until" in table else None
     periods = table_in(table, "periods") if at_desk else {}
     return Court(Clock(zone, opens, closes, until), Days(first, last, federal, state, []), judges, rooms, named_texts(periods),
-                 named_texts(table_in(periods, "cite")))
+                 named_texts(table_in(periods, "cite")), DESK_LIMITS if at_desk else OFFICE_LIMITS)
 
 
 def table_in(table, key):

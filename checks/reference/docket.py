@@ -23,10 +23,7 @@ Ruling = namedtuple("Ruling", "case motion how dated")
 # That a judge has a case, by number, and to which other judge it is referred: None where it is to none. It is one of the facts too
 Assignment = namedtuple("Assignment", "case judge referred dated")
 
-CASES = 4096
-DEADLINES = MOTIONS = 64
 GRANTS = 32
-FACTS = 512
 DATES = 4096
 OUTAGES = 512
 SLOTS = 96
@@ -130,7 +127,7 @@ def replaced(items, old, new):
 
 
 def refuse_no_case(rows, case):
-    refuse(not 1 <= case <= CASES or case_of(rows, case) is None, 1)
+    refuse(case_of(rows, case) is None, 1)
 
 
 def refuse_shut(rows, case):
@@ -143,7 +140,7 @@ def refuse_shut(rows, case):
 
 
 def open_case(court, rows, case, filed):
-    refuse(not 1 <= case <= CASES, 1)
+    refuse(not 1 <= case <= court.limits.cases, 1)
     refuse(not covered(rows.days, filed), 5)
     refuse(case_of(rows, case) is not None, 2)
     return rows._replace(cases=rows.cases + [Case(case, filed)]), ("opened",)
@@ -154,7 +151,7 @@ def start(court, rows, case, period, event, second, kind):
     number = refused_start(rows.days, period, event, second, kind)
     refuse(number is not None, number)
     place = len(deadlines_of(rows, case)) + 1
-    refuse(place > DEADLINES, 25)
+    refuse(place > court.limits.deadlines, 25)
     row = Deadline(period, event, second, kind, [], None)
     now = shown(rows.days, court.clock, row)
     refuse(now == BEYOND, 8)
@@ -195,7 +192,7 @@ def end(court, rows, case, number, why, dated):
     old = deadline_for_fact(rows, case, number, dated, motion=motion)
     refuse(ending_of(rows, case, number) is not None, 33)
     text = word if motion is None else "{} by motion {}".format(word, motion)
-    return with_fact(rows, Fact(case, old.number, text, dated)), ("ended",)
+    return with_fact(court, rows, Fact(case, old.number, text, dated)), ("ended",)
 
 
 def resume(court, rows, case, number, day, dated):
@@ -205,7 +202,7 @@ def resume(court, rows, case, number, day, dated):
     now = shown(rows.days, court.clock, new.row)
     refuse(now == BEYOND, 8)
     rows = rows._replace(deadlines=replaced(rows.deadlines, old, new))
-    return with_fact(rows, Fact(case, old.number, None, dated)), ("resumed", now)
+    return with_fact(court, rows, Fact(case, old.number, None, dated)), ("resumed", now)
 
 
 def deadline_for_fact(rows, case, number, dated, day=None, motion=None):
@@ -225,14 +222,14 @@ def close(court, rows, case, why, dated):
     for of_motion in motions_of(rows, case):
         hearing = hearing_of(rows, case, of_motion.number)
         refuse(hearing is not None and hearing.day > dated, 32, case, of_motion.number)
-    return with_fact(rows, Fact(case, None, why, dated)), ("closed",)
+    return with_fact(court, rows, Fact(case, None, why, dated)), ("closed",)
 
 
 def reopen(court, rows, case, dated):
     refuse_no_case(rows, case)
     refuse(closing_of(rows, case) is None, 31)
     refuse(not covered(rows.days, dated), 5)
-    return with_fact(rows, Fact(case, None, None, dated)), ("reopened",)
+    return with_fact(court, rows, Fact(case, None, None, dated)), ("reopened",)
 
 
 def rule(court, rows, case, number, how, dated):
@@ -240,7 +237,7 @@ def rule(court, rows, case, number, how, dated):
     refuse_shut(rows, case)
     refuse(motion_of(rows, case, number) is None, 4)
     refuse(not covered(rows.days, dated), 5)
-    after = with_fact(rows, Ruling(case, number, how, dated))
+    after = with_fact(court, rows, Ruling(case, number, how, dated))
     old = hearing_of(rows, case, number)
     if old is None or old.day <= dated:
         return after, ("ruled", None)
@@ -252,7 +249,7 @@ def assign(court, rows, case, judge, referred, dated):
     refuse(any(number is not None and number >= len(court.judges) for number in (judge, referred)), 26)
     refuse(judge == referred, 29)
     refuse(not covered(rows.days, dated), 5)
-    return with_fact(rows, Assignment(case, judge, referred, dated)), ("assigned",)
+    return with_fact(court, rows, Assignment(case, judge, referred, dated)), ("assigned",)
 
 
 def title(court, rows, case):
@@ -268,8 +265,8 @@ def label(court, rows, case, of, number):
     return rows, ("labelled",)
 
 
-def with_fact(rows, fact):
-    refuse(sum(other.case == fact.case for other in rows.facts) >= FACTS, 25)
+def with_fact(court, rows, fact):
+    refuse(sum(other.case == fact.case for other in rows.facts) >= court.limits.facts, 25)
     return rows._replace(facts=rows.facts + [fact])
 
 
@@ -281,7 +278,7 @@ def motion(court, rows, case, served, need):
     refuse(not covered(rows.days, served), 5)
     refuse(need is not None and not 1 <= need <= 365, 6)
     place = len(motions_of(rows, case)) + 1
-    refuse(place > MOTIONS, 25)
+    refuse(place > court.limits.motions, 25)
     return rows._replace(motions=rows.motions + [Motion(case, place, served, need)]), ("motion", place)
 
 

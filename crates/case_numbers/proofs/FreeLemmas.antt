@@ -7,27 +7,27 @@ use Rattle.case_numbers.specs.Cases.{first_free}
 use Rattle.case_numbers.specs.Inside.Cases.{AreOpened}
 
 module _ (opened : List ℕ) (number : ℕ) where
-  one_more : number < 4097 → 4097 - number ≡ suc (4097 - (number + 1))
+  one_more : number < 1_000_001 → 1_000_001 - number ≡ suc (1_000_001 - (number + 1))
   one_more there = omega (arith, there)
 
-  pub free_next : number < 4097 → list_any (nat_eq number) opened ≡ true → first_free opened number (4097 - number) ≡ first_free opened (number + 1) (4097 - (number + 1))
+  pub free_next : number < 1_000_001 → list_any (nat_eq number) opened ≡ true → first_free opened number (1_000_001 - number) ≡ first_free opened (number + 1) (1_000_001 - (number + 1))
   unfolding first_free
   free_next there is = ap (first_free opened number) (one_more there) ∙ rw is refl
 
-  pub free_here : number < 4097 → list_any (nat_eq number) opened ≡ false → first_free opened number (4097 - number) ≡ Some number
+  pub free_here : number < 1_000_001 → list_any (nat_eq number) opened ≡ false → first_free opened number (1_000_001 - number) ≡ Some number
   unfolding first_free
   free_here there is = ap (first_free opened number) (one_more there) ∙ rw is refl
 
-  pub free_end : 4097 ≤ number → first_free opened number (4097 - number) ≡ None
+  pub free_end : 1_000_001 ≤ number → first_free opened number (1_000_001 - number) ≡ None
   unfolding first_free
-  free_end past = let e : 4097 - number ≡ zero = omega (arith, past) in ap (first_free opened number) e
+  free_end past = let e : 1_000_001 - number ≡ zero = omega (arith, past) in ap (first_free opened number) e
 
 -- below the first number there is none
 pub none_opened : (opened : List ℕ) → AreOpened opened 1
 none_opened opened = record { from_one = omega arith; within = omega arith; each = λ n one below. absurd (omega (arith, one, below)) }
 
 -- one more was opened, if the next is among them
-pub opened_more : (opened : List ℕ) (first : ℕ) → AreOpened opened first → first < 4097 → list_any (nat_eq first) opened ≡ true → AreOpened opened (first + 1)
+pub opened_more : (opened : List ℕ) (first : ℕ) → AreOpened opened first → first < 1_000_001 → list_any (nat_eq first) opened ≡ true → AreOpened opened (first + 1)
 opened_more opened first are there is = record {
   from_one = omega (arith, are.from_one);
   within = omega (arith, there);
@@ -62,15 +62,15 @@ opened_with opened after number first are inserted = record {
     still n is true = is
     still n is false = any_before (nat_eq n) opened (number ∷ []) is
 
-free_up : (opened : List ℕ) (k first : ℕ) → first ≡ suc k → AreOpened opened first → first_free opened 1 4096 ≡ first_free opened first (4097 - first)
-free_up opened zero first is are = ap (λ (n : ℕ). first_free opened n (4097 - n)) (sym is)
+free_up : (opened : List ℕ) (k first : ℕ) → first ≡ suc k → AreOpened opened first → first_free opened 1 1_000_000 ≡ first_free opened first (1_000_001 - first)
+free_up opened zero first is are = ap (λ (n : ℕ). first_free opened n (1_000_001 - n)) (sym is)
 free_up opened (suc k) first is are =
     let below : AreOpened opened (suc k) = record { from_one = omega arith; within = omega (arith, is, are.within); each = λ n one less. are.each n one (omega (arith, is, less)) } in
-    let there : suc k < 4097 = omega (arith, is, are.within) in
+    let there : suc k < 1_000_001 = omega (arith, is, are.within) in
     let taken : list_any (nat_eq (suc k)) opened ≡ true = are.each (suc k) (omega arith) (omega (arith, is)) in
     let more : suc k + 1 ≡ first = omega (arith, is) in
-    free_up opened k (suc k) refl below ∙ free_next opened (suc k) there taken ∙ ap (λ (n : ℕ). first_free opened n (4097 - n)) more
+    free_up opened k (suc k) refl below ∙ free_next opened (suc k) there taken ∙ ap (λ (n : ℕ). first_free opened n (1_000_001 - n)) more
 
 -- a free number is looked for from there on
-pub free_from_first : (opened : List ℕ) (first : ℕ) → AreOpened opened first → first_free opened 1 4096 ≡ first_free opened first (4097 - first)
+pub free_from_first : (opened : List ℕ) (first : ℕ) → AreOpened opened first → first_free opened 1 1_000_000 ≡ first_free opened first (1_000_001 - first)
 free_from_first opened first are = free_up opened (first - 1) first (omega (arith, are.from_one)) are

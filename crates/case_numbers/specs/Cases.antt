@@ -28,7 +28,7 @@ case_text named number = unwrap_or (name_of named number) (decimal number)
 
 -- the greatest number that a case has
 abbrev pub last_number : ℕ
-last_number = 4096
+last_number = 1_000_000
 
 -- the least of this many numbers, from the first on, that isn't among these
 unfoldable pub first_free : (opened : List ℕ) → (first count : ℕ) → Option ℕ

@@ -32,12 +32,12 @@ fn free_from(opened: &IndexSet<u32>, first: u32) -> u32
     requires { AreOpened opened.now.keys first }
     ensures { AreOpened opened.now.keys result }
 {
-    for number in first..4_097u32 {
+    for number in first..1_000_001u32 {
         if !opened.contains(&number) {
             return number;
         }
     }
-    4_097
+    1_000_001
 }
 
 impl Cases {
@@ -89,7 +89,7 @@ impl Cases {
     pub fn fresh(&self) -> Option<u32>
         ensures { result ≡ fresh self.now }
     {
-        for number in self.first..4_097u32 {
+        for number in self.first..1_000_001u32 {
             if !self.opened.contains(&number) {
                 return Some(number);
             }

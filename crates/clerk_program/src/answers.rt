@@ -31,8 +31,8 @@ impl Report for Answers {
     // There is a text of each input.
     ghost is_missing = { λ answers file input line. ⊥ };
 
-    fn clerks(&self) -> u8 {
-        self.options.clerks
+    fn clerks(&self) -> u16 {
+        u16::from(self.options.clerks)
     }
 
     fn readers(&self) -> u8 {

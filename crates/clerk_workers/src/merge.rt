@@ -8,7 +8,7 @@ use crate::answer::SharedReply;
 use row_forms::Row;
 
 // Takes the last answer of the clerk, who has one.
-fn take_last(lists: &mut Vec<Vec<SharedReply>>, clerk: u8) -> SharedReply
+fn take_last(lists: &mut Vec<Vec<SharedReply>>, clerk: u16) -> SharedReply
     requires from_one { 0 < clerk }
     requires to_last { clerk ≤ length lists.old.items }
     requires some { 0 < length (list_at (clerk - 1) (map (λ list. list.items) lists.old.items)) }

@@ -26,7 +26,8 @@ fn lists_for<L: NamesOffice>(
 {
     let mut lists = Vec::with_capacity(alloc, seats.len())?;
     for seat in seats {
-        let count = rows.iter().filter(|row| row.clerk == seat.number()).count();
+        let clerk = u16::from(seat.number());
+        let count = rows.iter().filter(|row| row.clerk == clerk).count();
         lists.push(Vec::with_capacity(alloc, count)?)?;
     }
     Ok(lists)

@@ -125,12 +125,13 @@ fn take_row<L: NamesOffice, K: Notes<L>, R: Wait, G: Gate>(
     ensures noted { (start : SeatView) (rows : List Row) → IsNoted K.hold L.setup start rows notes.old seat.old → OnOk result (IsNoted K.hold L.setup start (rows ++ row.now ∷ []) notes.new seat.new) }
     ensures stopped { (start : SeatView) (rows : List Row) → IsNoted K.hold L.setup start rows notes.old seat.old → OnErr result (HasLeft L.setup start (rows ++ row.now ∷ []) seat.new) }
 {
-    let clerk = seat.number();
+    let seated = seat.number();
+    let clerk = u16::from(seated);
     if row.clerk != clerk {
         return Ok(());
     }
     let answer = answer(rt, alloc, seat, number, &row.work, gate)?;
-    gate.after_answer(clerk, number);
+    gate.after_answer(seated, number);
     notes.add(answer)
 }
 

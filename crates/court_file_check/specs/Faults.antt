@@ -69,7 +69,7 @@ names_faulty k (Ok items) = each_name k 0 [] items
 names_faulty k (Err e) = faulty {A = Items} k None (Err e)
 
 unfoldable pub names_faults : Key → Members → List FaultView
-names_faults k file = names_faulty k (list_at k 32 file)
+names_faults k file = names_faulty k (list_at k 1000 file)
 
 -- that of the minute to which electronic filing runs, if the file has its key
 unfoldable pub efiling_faults : Members → List FaultView

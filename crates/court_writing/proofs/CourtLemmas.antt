@@ -7,7 +7,7 @@ use Rattle.court_file_text.specs.declared.fault.CourtFault.TheVariants.{BadZone}
 use Rattle.court_file_text.specs.declared.key.Key.{Key}
 use Rattle.court_file_text.specs.declared.key.Key.TheVariants as key
 use Rattle.court_file_text.specs.Words.{◌>>=◌, PeriodNamesView, desk_names_at, no_period_names, text_at}
-use Rattle.court_days.specs.Words.{CourtFile, court_by, desk_court_of, with_minute, with_names}
+use Rattle.court_days.specs.Words.{CourtFile, court_by, desk_court_of, desk_limits, office_limits, with_limits, with_minute, with_names}
 use Rattle.court_days.proofs.CallerLemmas.{desk_parts}
 use Rattle.court_days.specs.Court.{days_at, hours_at, zone_at}
 
@@ -30,9 +30,9 @@ there : (o : Option Zone) (fault : CourtFault) (zone : Zone) → ok_or o fault �
 there (Some z) fault zone e = cc e
 there None fault zone e = absurd (cc e)
 
--- what a file keeps beside the minute to which electronic filing runs, and the names of periods
+-- what a file keeps beside the minute to which electronic filing runs, the names of periods, and how much a docket holds
 kept : (minute : Option ℕ) (names : PeriodNamesView) (file : CourtFile)
-    → ((with_names names (with_minute minute file)).zone ≡ file.zone) × ((with_names names (with_minute minute file)).judges ≡ file.judges) × ((with_names names (with_minute minute file)).rooms ≡ file.rooms)
+    → ((with_limits desk_limits (with_names names (with_minute minute file))).zone ≡ file.zone) × ((with_limits desk_limits (with_names names (with_minute minute file))).judges ≡ file.judges) × ((with_limits desk_limits (with_names names (with_minute minute file))).rooms ≡ file.rooms)
 kept None names file = (refl, refl, refl)
 kept (Some minute) names file = (refl, refl, refl)
 
@@ -45,7 +45,7 @@ plain_zone_read members file text e named =
     let days = steps (days_at members) _ file hours.2 in
     let judges = steps (desk_names_at key.Judges members) _ file days.2 in
     let rooms = steps (desk_names_at key.Rooms members) _ file judges.2 in
-    let read : CourtFile = record { zone = zone.0; opens = hours.0.0; closes = hours.0.1; efiling_until = None; days = days.0; judges = judges.0; rooms = rooms.0; periods = no_period_names } in
+    let read : CourtFile = record { zone = zone.0; opens = hours.0.0; closes = hours.0.1; efiling_until = None; days = days.0; judges = judges.0; rooms = rooms.0; periods = no_period_names; limits = office_limits } in
     let same : read ≡ file = cc rooms.2 in
     let written = steps (text_at key.Zone members) (λ t. ok_or (zone_of_text t) BadZone) zone.0 zone.1 in
     let text_is : written.0 ≡ text = cc (sym written.1 ∙ named) in
@@ -66,7 +66,7 @@ plain_names_read members file e =
     let days = steps (days_at members) _ file hours.2 in
     let judges = steps (desk_names_at key.Judges members) _ file days.2 in
     let rooms = steps (desk_names_at key.Rooms members) _ file judges.2 in
-    let read : CourtFile = record { zone = zone.0; opens = hours.0.0; closes = hours.0.1; efiling_until = None; days = days.0; judges = judges.0; rooms = rooms.0; periods = no_period_names } in
+    let read : CourtFile = record { zone = zone.0; opens = hours.0.0; closes = hours.0.1; efiling_until = None; days = days.0; judges = judges.0; rooms = rooms.0; periods = no_period_names; limits = office_limits } in
     let same : read ≡ file = cc rooms.2 in
     (judges.1 ∙ ap (λ (f : CourtFile). Ok f.judges) same, rooms.1 ∙ ap (λ (f : CourtFile). Ok f.rooms) same)
 

@@ -10,11 +10,11 @@ use Rattle.court_writing.specs.declared.names.NamesFault.{NamesFault}
 use Rattle.court_writing.specs.declared.names.NamesFault.TheVariants.{BadName, Twice, TooMany, OutOfMemory}
 
 -- the names so far, and that of the line with this number: it is one that a folder's court's file can take, none before it is the same, and there
--- are 32 at most
+-- are 1,000 at most
 abbrev pub and_new : (number : ℕ) → List (List ℕ) → (name : List ℕ) → Result (List (List ℕ)) NamesFault
 and_new number names name =
     if is_named names name then Err (Twice number)
-    else if nat_le 32 (length names) then Err (TooMany number)
+    else if nat_le 1000 (length names) then Err (TooMany number)
     else Ok (names ++ name ∷ [])
 
 abbrev pub and_name : (number : ℕ) → List (List ℕ) → (name : List ℕ) → Result (List (List ℕ)) NamesFault

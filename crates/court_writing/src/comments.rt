@@ -122,14 +122,14 @@ fn names_note(office: &Office<'_>) -> &'static str {
     }
 }
 
-/// What is said of names that `clerk_office` takes too.
+/// What is said where `clerk_office` takes the names too.
 const NAMES_NOTE: &str =
     "\n# Judges and rooms: at most 32 names each, of letters, digits, `-`, `_` and `.`.\n";
 
-/// What is said where it doesn't take one.
+/// What is said where it doesn't take them all.
 const LONG_NAMES_NOTE: &str = "
-# Judges and rooms: at most 32 names each, of 1 to 128 bytes, with no comma and no plus. clerk_office takes 32 letters, digits,
-# `-`, `_` and `.` at most, and so it refuses this file.
+# Judges and rooms: at most 1,000 names each, of 1 to 128 bytes, with no comma and no plus. clerk_office takes 32 names, each of 32
+# letters, digits, `-`, `_` and `.` at most, and so it refuses this file.
 ";
 
 /// The head of the table of names.

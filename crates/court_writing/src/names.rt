@@ -22,7 +22,7 @@ pub enum NamesFault {
     #[error("the name is there twice: leave one out")]
     Twice(usize),
     /// A line has a name more than a court's file takes.
-    #[error("it is the 33rd name, and a court's file takes 32: leave some out")]
+    #[error("it is the 1001st name, and a court's file takes 1000: leave some out")]
     TooMany(usize),
     /// Memory ran out.
     #[error("out of memory")]
@@ -127,7 +127,7 @@ fn add_new(
     if is_named(names, name) {
         return Err(NamesFault::Twice(number));
     }
-    if names.len() >= 32 {
+    if names.len() >= 1_000 {
         return Err(NamesFault::TooMany(number));
     }
     names.push(String::from_str(alloc, name)?)?;

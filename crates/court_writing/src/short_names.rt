@@ -5,8 +5,11 @@ use crate::own::Office;
 use court_file_text::is_name;
 use std::alloc::{AllocError, Global};
 
-/// Whether `clerk_office` takes each of the names.
+/// Whether `clerk_office` takes the names: at most 32 of them, and each a short one.
 pub(crate) fn are_short(names: &[&str]) -> bool {
+    if names.len() > 32 {
+        return false;
+    }
     for name in names {
         if !is_name(name) {
             return false;

@@ -110,16 +110,16 @@ start_next : (setup : CourtSetup) (rows : Rows) (case : ℕ) (period : Period) (
     → IsNext rows (rows_after rows (Start case period event second service)) (record { case = case; counted = counted.Deadline; number = next_deadline (parts_of rows) case })
 unfolding start_deadline_refusal
 start_next setup rows case period event second service free =
-    let opened = is_open_of rows case (when-not-None _ _ (none_of (start_deadline_checks setup (parts_of rows) case period event second service) free).0) in
+    let opened = is_open_of setup rows case (when-not-None _ _ (none_of (start_deadline_checks setup (parts_of rows) case period event second service) free).0) in
     let d : DocketedDeadline = record { case = case; number = next_deadline (parts_of rows) case; row = started period event second service } in
     let count = ap (λ n. n + 1) (count_deadlines_in rows case opened.stands) in
     record { next = count; there = omega (arith, count, one_more (is_deadline_in case) rows.deadlines d (its_case case)) }
 
-motion_next : (rows : Rows) (case : ℕ) (served : ℤ) (need : Need) → motion_refusal (parts_of rows) case served need ≡ None
+motion_next : (setup : CourtSetup) (rows : Rows) (case : ℕ) (served : ℤ) (need : Need) → motion_refusal setup (parts_of rows) case served need ≡ None
     → IsNext rows (rows_after rows (Motion case served need)) (record { case = case; counted = counted.Motion; number = next_motion (parts_of rows) case })
 unfolding motion_refusal
-motion_next rows case served need free =
-    let opened = is_open_of rows case (when-not-None _ _ (none_of (motion_checks (parts_of rows) case served need) free).0) in
+motion_next setup rows case served need free =
+    let opened = is_open_of setup rows case (when-not-None _ _ (none_of (motion_checks setup (parts_of rows) case served need) free).0) in
     let m : DocketedMotion = record { case = case; number = next_motion (parts_of rows) case; served = served; need = need } in
     let count = ap (λ n. n + 1) (count_motions_in rows case opened.stands) in
     record { next = count; there = omega (arith, count, one_more (is_motion_in case) rows.motions m (its_case case)) }
@@ -146,7 +146,7 @@ gives_next setup rows moved (Command (Motion case served need)) at is = by (refu
     by : (r : Option Refusal) → refusal setup (parts_of rows) command ≡ r
         → given_by (Command command) (Made (option_map_or answer.Refused r (answer_if_made setup (parts_of rows) command))) ≡ Some at
         → IsNext rows (option_map_or (λ refused. rows) r (rows_after rows command)) at
-    by None free made = subst (IsNext rows (rows_after rows command)) (cc made) (motion_next rows case served need free)
+    by None free made = subst (IsNext rows (rows_after rows command)) (cc made) (motion_next setup rows case served need free)
     by (Some r) refused made = absurd cc
 gives_next setup rows moved (Command (OpenCase case filed)) at is = absurd cc
 gives_next setup rows moved (Command (FileAct case deadline filing)) at is = absurd cc

@@ -49,7 +49,7 @@ impl Docketed {
     }
 
     /// Goes on with entries that came after those to which the docket comes, each of which must have the answer that it gets. `false`
-    /// says that a correction is among them, a later court's file, a strike or a restore, or that there are more than 1,000,000
+    /// says that a correction is among them, a later court's file, a strike or a restore, or that there are more than 100,000,000
     /// entries: then nothing is taken, and the docket of all entries is to be made anew, by `of`. So it is after an `Err`, where some
     /// may have been taken.
     pub fn follow(&mut self, alloc: Global, more: &[Vec<u8>]) -> Result<bool, HistoryFault>

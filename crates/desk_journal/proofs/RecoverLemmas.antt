@@ -117,7 +117,7 @@ module _ {D : Type 0} (g : disk.Ghosts D) (file : List ℕ) (entries : List (Vec
     kept = kept;
   }
 
-  pub few_kept : (before : List Frame) → (repaired : IsRepaired g before file entries stamps end disk) → length before + length entries ≤ 1000000
+  pub few_kept : (before : List Frame) → (repaired : IsRepaired g before file entries stamps end disk) → length before + length entries ≤ 100000000
   few_kept before repaired =
       omega (
         arith,
@@ -142,7 +142,7 @@ module _ {D : Type 0} (g : disk.Ghosts D) (before : List Frame) (file : List ℕ
 -- what is read after the frames up to an end, up to the shut latch
 pub found_on : (fs : List Frame) (before : JournalEnd) → IsEndOf fs before → (bytes : List ℕ) (entries : List (Vec ℕ Global)) (stamps : List StampView) (last : List ℕ) (size : ℕ) (rest : List ℕ)
     → IsStampedFrom before.last before.last_size bytes entries stamps last size rest → IsShut rest → (end : JournalEnd) → end.place ≡ before.place + (length bytes - length rest)
-    → end.count ≡ before.count + length entries → end.count ≤ 1000000 → end.last ≡ last → end.last_size ≡ size → end.time ≡ time_after before.time stamps
+    → end.count ≡ before.count + length entries → end.count ≤ 100000000 → end.last ≡ last → end.last_size ≡ size → end.time ≡ time_after before.time stamps
     → IsFound fs (frames first_checksum fs ++ bytes) entries stamps end
 found_on fs before ends bytes entries stamps last size rest walked shut end place count few last_is size_is time = record {
   more = read.fs;

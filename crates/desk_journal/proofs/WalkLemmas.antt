@@ -118,7 +118,7 @@ module _ (file : List ℕ) (count : ℕ) (last rest : List ℕ) (read : IsCounte
     cause = inl (open_here, subst (λ (l : List ℕ). HasNoFrame l rest) read.last_is none);
   }
 
-  pub too_many_here : count ≡ 1000000 → HasTooMany file
+  pub too_many_here : count ≡ 100000000 → HasTooMany file
   too_many_here many = record { fs = read.fs; rest = rest; whole = read.whole; many = sym read.count_is ∙ many; parts = read.parts; some = open_here }
 
 -- frames after a latch that say one number

@@ -18,9 +18,9 @@ taken (entry ∷ entries) = 42 + 209 + length entry + taken entries
 abbrev pub HasLong : List (Vec ℕ Global) → Type 0
 HasLong batch = Any (λ v. 16777216 < length v.items) batch
 
--- a batch is too much after these entries: more than 1,000,000 in all, a long entry, or more bytes than a number holds
+-- a batch is too much after these entries: more than 100,000,000 in all, a long entry, or more bytes than a number holds
 abbrev pub IsTooMuch : List (List ℕ) → List (Vec ℕ Global) → Type 0
-IsTooMuch entries batch = (1000000 < length entries + length batch) ⊎ (HasLong batch ⊎ (2 ^ 64 ≤ taken (entries ++ batch_of batch)))
+IsTooMuch entries batch = (100000000 < length entries + length batch) ⊎ (HasLong batch ⊎ (2 ^ 64 ≤ taken (entries ++ batch_of batch)))
 
 -- a write or a sync has failed
 abbrev pub HasWriteFault : JournalFault → Type 0

@@ -30,7 +30,7 @@ IsUnchanged file end = (front : List ℕ) × (length front ≡ end) × (file ≡
 -- isn't before theirs.
 pub record KeepsFrames {D : Type 0} (g : disk.Ghosts D) (fs : List Frame) (journal : Journal D) : Type 0 where
   pub whole : All IsFrame fs
-  pub few : length fs ≤ 1000000
+  pub few : length fs ≤ 100000000
   pub file : IsDurable g (frames first_checksum fs ++ 45 ∷ 45 ∷ []) journal.disk
   pub end : length (frames first_checksum fs) ≡ journal.end
   pub count : journal.count ≡ length fs

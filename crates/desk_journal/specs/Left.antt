@@ -11,7 +11,7 @@ BeginsWith file fs = (rest : List ℕ) × (file ≡ frames first_checksum fs ++ 
 -- time isn't before its own.
 pub record IsEndOf (fs : List Frame) (end : JournalEnd) : Type 0 where
   pub whole : All IsFrame fs
-  pub few : length fs ≤ 1000000
+  pub few : length fs ≤ 100000000
   pub place : length (frames first_checksum fs) ≡ end.place
   pub count : end.count ≡ length fs
   pub last : end.last ≡ last_checksum first_checksum fs

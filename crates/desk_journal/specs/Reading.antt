@@ -121,11 +121,11 @@ IsWhole file = (number : ℕ) → IsDamaged file number → ⊥
 abbrev pub IsTail : List ℕ → List ℕ → Type 0
 IsTail file tail = ((fs : List Frame) × All IsFrame fs × (0 < length fs) × (file ≡ frames first_checksum fs ++ 45 ∷ 45 ∷ tail)) ⊎ (StandsFor file [] × (tail ≡ []))
 
--- no shut latch follows 1,000,000 entries
+-- no shut latch follows 100,000,000 entries
 pub record HasTooMany (file : List ℕ) : Type 0 where
   pub fs : List Frame
   pub rest : List ℕ
   pub whole : All IsFrame fs
-  pub many : length fs ≡ 1000000
+  pub many : length fs ≡ 100000000
   pub parts : file ≡ frames first_checksum fs ++ rest
   pub some : IsShut rest → ⊥

@@ -14,7 +14,7 @@ pub enum JournalFault {
     /// The file is of an earlier format. It is as it was.
     #[error("the journal is of an earlier format, which this version doesn't read")]
     Older,
-    /// More than 1,000,000 entries, an entry of more than 16,777,216 bytes, or no room for its end in a number.
+    /// More than 100,000,000 entries, an entry of more than 16,777,216 bytes, or no room for its end in a number.
     #[error("the journal is full, or an entry is too long")]
     Full,
     /// The file that is to be opened has no entries, or the journal that is to be resumed had none. The file is as it was.

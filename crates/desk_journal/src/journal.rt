@@ -19,7 +19,7 @@ use sqlite_disk::Disk;
 use std::alloc::Global;
 
 /// The most entries of a journal.
-pub const MOST: usize = 1_000_000;
+pub const MOST: usize = 100_000_000;
 
 /// Entries in one file, each of which has its place for ever.
 #[derive(Drop)]
@@ -65,7 +65,7 @@ fn pack_whole(
 
 // Whether a journal has room for this number of entries more.
 fn has_room(count: u32, more: usize) -> bool
-    ensures { IsTrue result ↔ (count + more ≤ 1000000) }
+    ensures { IsTrue result ↔ (count + more ≤ 100000000) }
 {
     more <= MOST && count as usize + more <= MOST
 }
@@ -98,7 +98,7 @@ impl<D: Disk> Journal<D> {
     fn add(&mut self, batch: &[Vec<u8>]) -> Result<(), JournalFault>
         requires usable { IsTrue (D.Disk.is_usable self.old.disk) }
         requires some { 0 < length batch.now }
-        requires room { self.old.count + length batch.now ≤ 1000000 }
+        requires room { self.old.count + length batch.now ≤ 100000000 }
         ensures kept { (fs : List Frame) → KeepsFrames D.Disk fs self.old
             → OnOk result (KeepsFrames D.Disk (fs ++ frames_of (length fs) self.old.stamp batch.now) self.new) }
         ensures crash { (fs : List Frame) → KeepsFrames D.Disk fs self.old → (c : List ℕ) → D.Disk.may_leave self.new.disk c
@@ -138,7 +138,7 @@ impl<D: Disk> Journal<D> {
     /// Appends a batch, with the journal's stamp at each entry. At `Ok` its entries are kept after those before them. Whatever a crash
     /// leaves at any moment within the call stands for the entries before it, with all of the batch or none of it.
     /// Before a batch is written, the file's end is looked at: at `Changed` it isn't where the journal left it, and nothing is written.
-    /// At `Full` the journal is as it was: there would be more than 1,000,000 entries, or an entry has more than
+    /// At `Full` the journal is as it was: there would be more than 100,000,000 entries, or an entry has more than
     /// 16,777,216 bytes. At another `Err` open it anew.
     pub fn append(&mut self, batch: &[Vec<u8>]) -> Result<(), JournalFault>
         ensures kept { (entries : List (List ℕ)) → IsKept D.Disk entries self.old
@@ -212,7 +212,7 @@ impl<D: Disk> Journal<D> {
             → IfOk result (λ opened. IsTrue (D.Disk.is_clean (disk_of opened.0))
             → (stamp_of opened.0).time ≡ max stamp.time (time_after 0 stamps)) }
         ensures some { IfOk result (λ opened. 0 < length opened.1.items) }
-        ensures few { IfOk result (λ opened. length opened.1.items ≤ 1000000) }
+        ensures few { IfOk result (λ opened. length opened.1.items ≤ 100000000) }
         // Whatever a crash leaves begins with all frames with which the file began.
         ensures begins { (file : List ℕ) (first : List Frame) → IsDurable D.Disk file disk → All IsFrame first → BeginsWith file first → MatchResult result
             (λ opened. IsTrue (D.Disk.is_clean (disk_of opened.0)) → (c : List ℕ) → D.Disk.may_leave (disk_of opened.0) c → BeginsWith c first)
@@ -256,7 +256,7 @@ impl<D: Disk> Journal<D> {
         ensures cause { (file : List ℕ) (fs : List Frame) → IsDurable D.Disk file disk → IsEndOf fs end.now → 0 < length fs → BeginsWith file fs
             → IfErr result (λ e. IsTrue (D.Disk.is_clean e.1) → HasResumeFault (D.Disk.faults disk) (D.Disk.faults e.1) file e.0) }
         ensures few { (file : List ℕ) (fs : List Frame) → IsDurable D.Disk file disk → IsEndOf fs end.now → BeginsWith file fs
-            → IfOk result (λ resumed. IsTrue (D.Disk.is_clean (disk_of resumed.0)) → length fs + length resumed.1.items ≤ 1000000) }
+            → IfOk result (λ resumed. IsTrue (D.Disk.is_clean (disk_of resumed.0)) → length fs + length resumed.1.items ≤ 100000000) }
         ensures stamp { IfOk result (λ resumed. ((stamp_of resumed.0).account ≡ stamp.account) × (stamp.time ≤ (stamp_of resumed.0).time)) }
         // The journal's time is the latest of that of the stamp, that of the end and that of the last entry.
         ensures time { (file : List ℕ) (fs : List Frame) (stamps : List StampView) → IsDurable D.Disk file disk → IsEndOf fs end.now → BeginsWith file fs → HasStamps file stamps

@@ -44,7 +44,7 @@ pub fn read_after(
     ensures found { (fs : List Frame) → IsEndOf fs before.now → IfOk result (λ r. IsFound fs (frames first_checksum fs ++ bytes.now) r.entries.items r.stamps.items r.end) }
     ensures whole { (fs : List Frame) → IsEndOf fs before.now → 2 < length (frames first_checksum fs ++ bytes.now) → OnOk result (IsWhole (frames first_checksum fs ++ bytes.now)) }
     ensures count { IfOk result (λ r. r.end.count ≡ before.now.count + length r.entries.items) }
-    ensures few { before.now.count ≤ 1000000 → IfOk result (λ r. r.end.count ≤ 1000000) }
+    ensures few { before.now.count ≤ 100000000 → IfOk result (λ r. r.end.count ≤ 100000000) }
     ensures fits { IfOk result (λ r. r.end.place + 2 < 2 ^ 64) }
     ensures time { IfOk result (λ r. r.end.time ≡ time_after before.now.time r.stamps.items) }
     ensures cause { (fs : List Frame) → IsEndOf fs before.now → 2 < length (frames first_checksum fs ++ bytes.now) → IfErr result (HasFileFault (frames first_checksum fs ++ bytes.now)) }
@@ -69,14 +69,14 @@ pub fn read_after(
 
 /// The entries of a journal's bytes and the stamp of each, as they are read beside a program that appends to them: nothing is written.
 /// At most two bytes have none. `Damaged` names an entry that is damaged, `Older` says that they are of an earlier format, and
-/// `Full` that more than 1,000,000 entries follow one another.
+/// `Full` that more than 100,000,000 entries follow one another.
 pub fn stamped_in(alloc: Global, bytes: &[u8]) -> Result<(Vec<Vec<u8>>, Vec<Stamp>), JournalFault>
     ensures stamped { IfOk result (λ found. StandsStamped bytes.now (batch_of found.0.items) found.1.items) }
     ensures entries { IfOk result (λ found. StandsFor bytes.now (batch_of found.0.items)) }
     ensures stamps { IfOk result (λ found. HasStamps bytes.now found.1.items) }
     ensures as_many { IfOk result (λ found. length found.1.items ≡ length found.0.items) }
     ensures whole { OnOk result (IsWhole bytes.now) }
-    ensures few { IfOk result (λ found. length found.0.items ≤ 1000000) }
+    ensures few { IfOk result (λ found. length found.0.items ≤ 100000000) }
     ensures cause { IfErr result (HasFileFault bytes.now) }
     ensures older { IsErrOf result (JournalFault.Damaged 1) → IsOlder bytes.now → ⊥ }
 {
@@ -131,7 +131,7 @@ fn read_disk<D: Disk>(alloc: Global, disk: &mut D) -> Result<Option<Recovered>, 
         → Finds file found) }
     ensures durable { (file : List ℕ) → IsDurable D.Disk file disk.old → IsDurable D.Disk file disk.new }
     ensures usable { OnOk result (IsTrue (D.Disk.is_usable disk.new)) }
-    ensures few { IfOk result (λ found. IfSome found (λ r. (length r.entries.items ≤ 1000000) × (r.end.place + 2 < 2 ^ 64))) }
+    ensures few { IfOk result (λ found. IfSome found (λ r. (length r.entries.items ≤ 100000000) × (r.end.place + 2 < 2 ^ 64))) }
     ensures time { IfOk result (λ found. IfSome found (λ r. r.end.time ≡ time_after 0 r.stamps.items)) }
     ensures clean { IsTrue (D.Disk.is_clean disk.new) → IsTrue (D.Disk.is_clean disk.old) }
     ensures faults { OnOk result (D.Disk.faults disk.new ≡ D.Disk.faults disk.old) }
@@ -156,7 +156,7 @@ pub fn recover<D: Disk>(alloc: Global, disk: &mut D) -> Result<Recovered, Journa
     ensures entries { (file : List ℕ) → IsDurable D.Disk file disk.old
         → IfOk result (λ r. IsTrue (D.Disk.is_clean disk.new) → IsRepaired D.Disk [] file r.entries.items r.stamps.items r.end disk.new) }
     ensures some { IfOk result (λ r. 0 < length r.entries.items) }
-    ensures few { IfOk result (λ r. length r.entries.items ≤ 1000000) }
+    ensures few { IfOk result (λ r. length r.entries.items ≤ 100000000) }
     ensures time { IfOk result (λ r. r.end.time ≡ time_after 0 r.stamps.items) }
     ensures crash { (file : List ℕ) (entries : List (List ℕ)) → IsDurable D.Disk file disk.old → StandsFor file entries
         → IsTrue (D.Disk.is_clean disk.new) → (c : List ℕ) → D.Disk.may_leave disk.new c → StandsFor c entries }

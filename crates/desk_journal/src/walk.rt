@@ -54,7 +54,7 @@ pub fn walk_entries<'a>(
 ) -> Result<Walked<'a>, JournalFault>
     ensures read { IfOk result (λ w. IsStampedFrom before.now.last before.now.last_size bytes.now w.entries.items w.stamps.items w.last w.last_size w.rest.now) }
     ensures count { IfOk result (λ w. w.count ≡ before.now.count + length w.entries.items) }
-    ensures few { before.now.count ≤ 1000000 → IfOk result (λ w. w.count ≤ 1000000) }
+    ensures few { before.now.count ≤ 100000000 → IfOk result (λ w. w.count ≤ 100000000) }
     ensures shut { IfOk result (λ w. IsShut w.rest.now) }
     ensures cause { (fs : List Frame) → IsEndOf fs before.now → 2 < length (frames first_checksum fs ++ bytes.now) → IfErr result (HasFileFault (frames first_checksum fs ++ bytes.now)) }
     ensures older { IsErrOf result (JournalFault.Damaged 1) → IsOlder bytes.now → ⊥ }
@@ -95,7 +95,7 @@ pub fn walk_entries<'a>(
 pub fn count_entries<'a>(bytes: &'a [u8]) -> Result<Counted<'a>, JournalFault>
     requires { 2 < length bytes.now }
     ensures read { IfOk result (λ c. IsCountedFrom first_checksum bytes.now c.count c.last c.rest.now) }
-    ensures few { IfOk result (λ c. c.count ≤ 1000000) }
+    ensures few { IfOk result (λ c. c.count ≤ 100000000) }
     ensures shut { IfOk result (λ c. IsShut c.rest.now) }
     ensures cause { IfErr result (HasFileFault bytes.now) }
     ensures older { IsErrOf result (JournalFault.Damaged 1) → IsOlder bytes.now → ⊥ }

@@ -15,7 +15,7 @@ use Rattle.desk_program.specs.Desk.{IsUnopened}
 use Rattle.desk_program.specs.Faults.{history_fault, unresumed_journal}
 
 -- there is room for what a journal keeps
-pub few_room : (before more : List (List ℕ)) → length (before ++ more) ≤ 1000000 → nat_le (length before + length more) most_entries ≡ true
+pub few_room : (before more : List (List ℕ)) → length (before ++ more) ≤ 100000000 → nat_le (length before + length more) most_entries ≡ true
 few_room before more few = le-leb (length before + length more) most_entries (omega (arith, few, length-append before more))
 
 -- where not all were taken, a correction is among them, since there is room
@@ -39,8 +39,8 @@ length_entries [] = refl
 length_entries (f ∷ fs) = ap suc (length_entries fs)
 
 module _ {D : Type 0} (g : disk.Ghosts D) (journal : Journal D) (entries : List (List ℕ)) (kept : IsKept g entries journal) where
-  -- a journal keeps 1,000,000 entries at most
-  pub kept_few : length entries ≤ 1000000
+  -- a journal keeps 100,000,000 entries at most
+  pub kept_few : length entries ≤ 100000000
   kept_few = omega (arith, ap length kept.same, length_entries kept.fs, kept.kept.few)
 
 -- the file isn't the one that was left where the journal says so

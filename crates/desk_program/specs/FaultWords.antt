@@ -100,7 +100,7 @@ not_text = codes "expected text in UTF-8, at most 65535 bytes a line"
 
 -- what is said of a line that is text
 abbrev pub line_words : RowCause → List ℕ → List ℕ
-line_words BadClerk line = found_text 0 line ++ codes "expected a clerk's number, 1 to 64"
+line_words BadClerk line = found_text 0 line ++ codes "expected a clerk's number, 1 to 65535"
 line_words UnknownCommand line = found_text 1 line ++ codes "expected " ++ commands_listed
 line_words WrongCount line = form_words line
 line_words (BadField column) line = field_words column line

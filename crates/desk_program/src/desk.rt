@@ -56,7 +56,7 @@ impl<D: Disk> Desk<D> {
         ensures stamp { IfOk result (λ opened. ((stamp_under opened.0).account ≡ stamp.account) × (stamp.time ≤ (stamp_under opened.0).time)) }
         ensures held { IfOk result (λ opened. held_at opened.0 ≡ Nothing) }
         ensures some { IfOk result (λ opened. 0 < length opened.1.items) }
-        ensures few { IfOk result (λ opened. length opened.1.items ≤ 1000000) }
+        ensures few { IfOk result (λ opened. length opened.1.items ≤ 100000000) }
         ensures crash { (file : List ℕ) (entries : List (List ℕ)) → IsDurable D.Disk file disk → StandsFor file entries
             → IfErr result (λ e. IsTrue (D.Disk.is_clean e.1) → (c : List ℕ) → D.Disk.may_leave e.1 c → StandsFor c entries) }
         ensures cause { (file : List ℕ) → IsDurable D.Disk file disk

@@ -175,7 +175,7 @@ fn push_line_words(text: &mut Vec<u8>, cause: RowCause, line: &str) -> Result<()
     match cause {
         RowCause::BadClerk => {
             push_found(text, line, 0)?;
-            text.extend_from_slice(b"expected a clerk's number, 1 to 64")
+            text.extend_from_slice(b"expected a clerk's number, 1 to 65535")
         }
         RowCause::UnknownCommand => {
             push_found(text, line, 1)?;

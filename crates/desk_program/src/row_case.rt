@@ -26,7 +26,7 @@ type RowTypes = Option<
         Option<Day>,
         Grant,
         Request,
-        (Fact, Ending, Closing, Ruling, Option<u8>, Counted),
+        (Fact, Ending, Closing, Ruling, Option<u16>, Counted),
     ),
 >;
 

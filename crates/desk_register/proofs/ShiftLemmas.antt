@@ -1,5 +1,5 @@
 -- What moves when days change.
-use Rattle.std.proofs.Common.{◌≡◌, ◌∙◌, ◌+◌, ◌-◌, ◌<◌, ℕ, Bool, true, false, List, [], ◌∷◌, ◌++◌, append-nil, map, Option, Some, None, option_map, refl, sym, ap}
+use Rattle.std.proofs.Common.{◌≡◌, ◌∙◌, ◌+◌, ◌-◌, ◌<◌, ◌≤◌, ℕ, Bool, true, false, List, [], ◌∷◌, ◌++◌, append-nil, map, Option, Some, None, option_map, refl, sym, ap, arith}
 use Rattle.std.specs.List.{flat_map, range_with_len}
 use Rattle.std.specs.Option.{option_map_or}
 use Rattle.std.proofs.lemmas.Slice.Eq.{bytes_eq-Decides}
@@ -21,14 +21,18 @@ use Rattle.docket_rows.specs.declared.refusal.Refusal.TheVariants.{NoSuchCase}
 use Rattle.docket_rows.specs.declared.hearing.Hearing.{Hearing}
 use Rattle.docket_rows.specs.declared.sheet.SheetDeadline.{SheetDeadline}
 use Rattle.docket_rows.specs.declared.sheet.SheetMotion.{SheetMotion}
+use Rattle.docket_rows.specs.declared.view.View.{View}
 use Rattle.docket_rows.specs.declared.view.View.TheVariants as view
-use Rattle.docket_rows.specs.Words.{CaseRecordView, CourtSetup, NumberedDeadline, NumberedMotion, Parts, Rows, answer_if_made, answered, ended_answer, last_case, parts_of, query_refusal, refusal, rows_after, seen_by, setup_of, sheet_deadline, sheet_hearing, sheet_motion, sheet_of, step, view_of}
+use Rattle.docket_rows.specs.Words.{CaseRecordView, CourtSetup, NumberedDeadline, NumberedMotion, Parts, Rows, answer_if_made, answered, ended_answer, parts_of, query_refusal, refusal, rows_after, seen_by, setup_of, sheet_deadline, sheet_hearing, sheet_motion, sheet_of, step, view_of}
+use Rattle.docket_laws.proofs.CallerLemmas.{no_view, range_to}
+use Rattle.docket_core.specs.Words.{DocketView, parts_held}
 use Rattle.row_forms.specs.declared.line.line.Line.{Line}
 use Rattle.row_forms.specs.declared.line.line.Line.TheVariants as line
 use Rattle.row_forms.specs.declared.row.Row.{Row}
 use Rattle.row_forms.specs.declared.row.Work.{Work}
 use Rattle.row_forms.specs.declared.row.Work.TheVariants.{Command, Query}
 use Rattle.office_texts.specs.Words.{hearing_text, shown_text}
+use Rattle.office_texts.specs.Run.Words.{Holds}
 use Rattle.office_texts.proofs.RunLemmas.CallerLemmas.{range_more}
 use Rattle.desk_session.specs.declared.outcome.Outcome.TheVariants.{Refused, Taken}
 use Rattle.desk_numbers.specs.declared.moved.Moved.{Moved}
@@ -48,6 +52,15 @@ pub shifts_more : (court : CourtView) (docketed : Rows) (moved : List Moved) (na
 unfolding shifts_from
 shifts_more court docketed moved named before first last less =
     ap (flat_map (λ case. sheet_shifts court before named (numbered_view moved (view_of (setup_of court) docketed (query.Sheet case))))) (range_more first last (last - first) less refl)
+
+-- a case with a number past the last one has no sheet, so that the lines up to there are all of them
+pub shifts_to : (court : CourtView) (d : DocketView) (docketed : Rows) (moved : List Moved) (named : List NamedCase) (before : DaysView) (last : ℕ) → Holds (setup_of court) d docketed → last ≤ d.setup.limits.cases → ((case : ℕ) → last < case → (parts_held d).case case ≡ None)
+    → shifts court docketed moved named before ≡ shifts_from court docketed moved named before 1 last
+unfolding shifts_from
+shifts_to court d docketed moved named before last holds few none =
+    let within : last ≤ court.limits.cases = rw holds.setup_is at few in
+    range_to (λ case. sheet_shifts court before named (numbered_view moved (view_of (setup_of court) docketed (query.Sheet case)))) 1 last court.limits.cases within
+    (λ case past. ap (λ (v : View). sheet_shifts court before named (numbered_view moved v)) (no_view (setup_of court) (parts_held d) docketed case holds.stands (none case (omega (arith, past)))))
 
 -- a row that enters a holiday or an outage opens no case
 pub names_before : (court : CourtView) (docketed before : Rows) (moved : List Moved) (cases : CasesView) (name : Option NameView) (asked : Work)
@@ -116,7 +129,7 @@ unmoved_cases court docketed moved named (case ∷ cases) =
 
 same_days : (court : CourtView) (docketed : Rows) (moved : List Moved) (named : List NamedCase) → shifts court docketed moved named docketed.days ≡ []
 unfolding shifts_from
-same_days court docketed moved named = unmoved_cases court docketed moved named (range_with_len 1 last_case)
+same_days court docketed moved named = unmoved_cases court docketed moved named (range_with_len 1 court.limits.cases)
 
 -- whichever way a time is extended, the row is taken
 ended_taken : (order : Bool) (end : Shown) → came_of (ended_answer order end) ≡ Taken

@@ -10,15 +10,15 @@ use Rattle.desk_numbers.specs.Strikes.Words.{is_among, remark_in, restore_in, sa
 
 -- how many entries a journal has at most
 abbrev pub most_entries : ℕ
-most_entries = 1_000_000
+most_entries = 100_000_000
 
--- After how many entries no row is kept any more: 1,000 are left for later court's files, strikes and restores.
+-- After how many entries no row is kept any more: 100,000 are left for later court's files, strikes and restores.
 abbrev pub most_rows : ℕ
-most_rows = 999_000
+most_rows = 99_900_000
 
 -- how many clerks may enter rows
 abbrev pub most_clerks : ℕ
-most_clerks = 64
+most_clerks = 65_535
 
 -- with what the first line begins before a later court's file; a row never begins so
 abbrev pub court_mark : List ℕ

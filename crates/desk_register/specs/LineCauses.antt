@@ -50,9 +50,9 @@ line_cause_text (Row cause) = cause_text cause
 line_cause_text TooManyCases = codes "7 TooManyCases"
 line_cause_text (NotFound unfound) = codes "4 BadField " ++ decimal unfound.column
 
--- that the folder holds 4,096 cases, and what to do
+-- that the folder holds 1,000,000 cases, and what to do
 unfoldable pub too_many_words : List ℕ
-too_many_words = codes "the folder holds 4096 cases, and takes no more: open another folder for this case"
+too_many_words = codes "the folder holds 1000000 cases, and takes no more: open another folder for this case"
 
 -- why it isn't clear which deadline or motion a row names, and what to do
 abbrev pub none_words : (code : List ℕ) → List ℕ

@@ -13,7 +13,7 @@ use Rattle.docket_rows.specs.declared.sheet.SheetHearing.{SheetHearing}
 use Rattle.docket_rows.specs.declared.sheet.SheetMotion.{SheetMotion}
 use Rattle.docket_rows.specs.declared.view.View.{View}
 use Rattle.docket_rows.specs.declared.view.View.TheVariants as view
-use Rattle.docket_rows.specs.Words.{Rows, last_case, setup_of, sheet_hearing, view_of}
+use Rattle.docket_rows.specs.Words.{Rows, setup_of, sheet_hearing, view_of}
 use Rattle.row_forms.specs.declared.line.line.Line.{Line}
 use Rattle.row_forms.specs.declared.line.line.Line.TheVariants as line
 use Rattle.row_forms.specs.declared.row.Row.{Row}
@@ -60,7 +60,7 @@ shifts_from court docketed moved named before first count =
 -- A line for each deadline of an open case that is shown with another end than by the days before, and for each hearing that is
 -- shown with another last day for affidavits, by the numbers of the cases.
 abbrev pub shifts : CourtView → (docketed : Rows) → List Moved → List NamedCase → (before : DaysView) → List ℕ
-shifts court docketed moved named before = shifts_from court docketed moved named before 1 last_case
+shifts court docketed moved named before = shifts_from court docketed moved named before 1 court.limits.cases
 
 -- a row enters a holiday or an outage
 abbrev pub changes_days : Work → Bool

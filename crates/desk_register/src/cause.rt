@@ -41,7 +41,7 @@ pub struct Unfound {
 pub enum LineCause {
     /// It says no row.
     Row(RowCause),
-    /// 7: It opens a case by the number that the court gives it, and the folder holds 4,096 cases already.
+    /// 7: It opens a case by the number that the court gives it, and the folder holds 1,000,000 cases already.
     TooManyCases,
     /// 4, in the field where its number would be: It isn't clear which deadline or motion it names.
     NotFound(Unfound),
@@ -66,12 +66,12 @@ impl fmt::Display for LineCause {
     }
 }
 
-/// That the folder holds 4,096 cases, and what to do.
+/// That the folder holds 1,000,000 cases, and what to do.
 #[tactic(auto, unfolding(crate::specs::LineCauses::too_many_words))]
 pub fn too_many_words() -> &'static str
     ensures { result.now ≡ too_many_words }
 {
-    "the folder holds 4096 cases, and takes no more: open another folder for this case"
+    "the folder holds 1000000 cases, and takes no more: open another folder for this case"
 }
 
 // What is wrong with a line that says no row for this cause, and that opens a case too many or not.
@@ -145,13 +145,13 @@ fn push_front(
     text.extend_from_slice(fault.as_bytes())
 }
 
-// Adds that the folder holds 4,096 cases, what to do, and the end of the line.
+// Adds that the folder holds 1,000,000 cases, what to do, and the end of the line.
 #[tactic(auto, unfolding(crate::specs::LineCauses::too_many_words))]
 fn push_words(text: &mut Vec<u8>) -> Result<(), AllocError>
     ensures { OnOk result (text.new.items ≡ text.old.items ++ (too_many_words ++ 10 ∷ [])) }
 {
     text.extend_from_slice(
-        b"the folder holds 4096 cases, and takes no more: open another folder for this case\n",
+        b"the folder holds 1000000 cases, and takes no more: open another folder for this case\n",
     )
 }
 

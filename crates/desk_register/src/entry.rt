@@ -70,7 +70,7 @@ pub(crate) fn answer_of(
     court: &Court,
     cases: &Cases,
     number: u32,
-    clerk: u8,
+    clerk: u16,
     reply: &Reply,
 ) -> Result<String, AllocError>
     ensures { IfOk result (λ text. string_bytes text ≡ named_line_of court.now cases.now.named number clerk reply.now) }

@@ -33,13 +33,13 @@ use rule_periods::{Grant, Request};
 use std::alloc::{AllocError, Global};
 
 /// How many clerks may enter rows.
-pub const MOST_CLERKS: u8 = 64;
+pub const MOST_CLERKS: u16 = 65_535;
 
 /// How many entries a journal has at most, and the court's file is the first of them.
-pub const MOST_ENTRIES: u32 = 1_000_000;
+pub const MOST_ENTRIES: u32 = 100_000_000;
 
-/// After how many entries no row is kept any more: 1,000 are left for later court's files, strikes and restores.
-pub const MOST_ROWS: u32 = 999_000;
+/// After how many entries no row is kept any more: 100,000 are left for later court's files, strikes and restores.
+pub const MOST_ROWS: u32 = 99_900_000;
 
 // A row that is done.
 #[derive(Drop)]
@@ -63,7 +63,7 @@ pub type RowTypes = Option<
         Option<Day>,
         Grant,
         Request,
-        (Fact, Ending, Closing, Ruling, Option<u8>, Counted),
+        (Fact, Ending, Closing, Ruling, Option<u16>, Counted),
     ),
 >;
 

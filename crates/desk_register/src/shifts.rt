@@ -19,8 +19,7 @@ use court_days::{Court, Days};
 use desk_numbers::MovedNumbers;
 use docket_core::Docket;
 use docket_rows::{
-    Command, Counted, Hearing, LAST_CASE, Query, Sheet, SheetDeadline, SheetHearing, SheetMotion,
-    View,
+    Command, Counted, Hearing, Query, Sheet, SheetDeadline, SheetHearing, SheetMotion, View,
 };
 use docket_shifts::push_shift;
 use office_texts::{push_hearing, push_shown};
@@ -261,7 +260,7 @@ fn push_sheets(
     first: u32,
     count: u32,
 ) -> Result<(), AllocError>
-    requires numbers { first + count ≤ 5_000 }
+    requires numbers { first + count ≤ 1_000_001 }
     ensures { (docketed : Rows) → Holds (setup_of court.now) docket.now docketed → OnOk result (AddsText text.old text.new (shifts_from court.now docketed moved.now cases.now.named before.now first count)) }
 {
     for case in first..first + count {
@@ -270,6 +269,22 @@ fn push_sheets(
         push_sheet(alloc, text, court, cases, before, &view)?;
     }
     Ok(())
+}
+
+// Adds the lines of all open cases.
+fn push_all_sheets(
+    alloc: Global,
+    text: &mut String,
+    court: &Court,
+    docket: &Docket,
+    moved: &MovedNumbers,
+    cases: &Cases,
+    before: &Days,
+) -> Result<(), AllocError>
+    ensures { (docketed : Rows) → Holds (setup_of court.now) docket.now docketed → OnOk result (AddsText text.old text.new (shifts court.now docketed moved.now cases.now.named before.now)) }
+{
+    let last = docket.last_case();
+    push_sheets(alloc, text, court, docket, moved, cases, before, 1, last)
 }
 
 // What of a docket is shown otherwise than by the days before, a line for each.
@@ -284,9 +299,7 @@ fn shifts_text(
     ensures { (docketed : Rows) → Holds (setup_of court.now) docket.now docketed → IfOk result (λ text. string_bytes text ≡ shifts court.now docketed moved.now cases.now.named before.now) }
 {
     let mut text = String::new(alloc);
-    push_sheets(
-        alloc, &mut text, court, docket, moved, cases, before, 1, LAST_CASE,
-    )?;
+    push_all_sheets(alloc, &mut text, court, docket, moved, cases, before)?;
     Ok(text)
 }
 

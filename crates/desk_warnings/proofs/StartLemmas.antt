@@ -20,19 +20,19 @@ not_both true both = cc
 not_both false both = cc
 
 -- the deadlines of an open case are those that its sheet shows
-sheet_there : (setup : CourtSetup) (parts : Parts) (case : ℕ) (c : CaseRecordView) → has_case parts case ≡ true → parts.case case ≡ Some c
+sheet_there : (setup : CourtSetup) (parts : Parts) (case : ℕ) (c : CaseRecordView) → has_case setup parts case ≡ true → parts.case case ≡ Some c
     → map (sheet_deadline setup parts c.facts) c.deadlines ≡ sheet_deadlines setup parts case
 unfolding seen_by query_refusal
 sheet_there setup parts case c is_open found = rw (is_open, found) refl
 
 module _ (court : CourtView) (moved : List Moved) (parts : Parts) (today : Option ℤ) (case : ℕ) (period : Period) (event : EventView) (second : Option ℤ) (service : Option ServiceKind) where
   -- where the case is open and the period can start
-  by_case : (row : Option DeadlineRowView) → has_case parts case ≡ true → (c : Option CaseRecordView) → parts.case case ≡ c → start_refusal parts.days period event second service ≡ None
+  by_case : (row : Option DeadlineRowView) → has_case (setup_of court) parts case ≡ true → (c : Option CaseRecordView) → parts.case case ≡ c → start_refusal parts.days period event second service ≡ None
       → IfSome row (λ row. (row ≡ started period event second service) × (start_refusal parts.days period event second service ≡ None))
       → IfNone row (is_some (start_refusal parts.days period event second service) ≡ true)
       → on_view court moved parts.days today (seen_by (setup_of court) parts (query.Sheet case)) row ≡ at_start court moved parts today case (parts.case case) (started period event second service)
   unfolding seen_by query_refusal
-  by_case row is_open None found starts some none = absurd (not_both (is_case_number case) (rw found at is_open))
+  by_case row is_open None found starts some none = absurd (not_both (is_case_number (setup_of court) case) (rw found at is_open))
   by_case None is_open (Some c) found starts some none = absurd cc (rw starts at none)
   by_case (Some row) is_open (Some c) found starts some none =
       let start : DeadlineRowView = started period event second service in

@@ -116,7 +116,7 @@ fn push_judge(
     moved: &MovedNumbers,
     cases: &Cases,
     docket: &Docket,
-    judge: u8,
+    judge: u16,
     day: Day,
 ) -> Result<(), AllocError>
     requires judge { judge < length court.now.judges }
@@ -137,7 +137,7 @@ fn push_if_some(
     text: &mut String,
     court: &Court,
     cases: &Cases,
-    judge: u8,
+    judge: u16,
     bookings: &[Booking],
 ) -> Result<(), AllocError>
     ensures { OnOk result (string_bytes text.new ≡ string_bytes text.old ++ hearings_before court.now cases.now.named judge bookings.now) }

@@ -65,7 +65,7 @@ pub(crate) type RowTypes = Option<
         Grant,
         Request,
         RowCause,
-        (Fact, Ending, Closing, Ruling, Option<u8>, Counted),
+        (Fact, Ending, Closing, Ruling, Option<u16>, Counted),
     ),
 >;
 

@@ -125,7 +125,7 @@ fn corrected<D: Disk, W: Write>(
 ) -> Result<(), StrikingFault>
     requires works { has_failed writer.old ≡ false }
     requires some { 0 < length entries.now }
-    requires few { length entries.now ≤ 1000000 }
+    requires few { length entries.now ≤ 100000000 }
     ensures { KeepsDocket D.Disk (batch_of entries.now) desk.old → OnOk result
         (CorrectsRow done (standing_at desk.old) (batch_of entries.now) correcting.now.row (remark_by (done_text done) (standing_at desk.old) account.now correcting.now) correcting.now.accept (W.contents (watched writer.old)) (W.contents (watched writer.new))
         (λ kept. KeepsDocket D.Disk kept desk.new)) }

@@ -90,7 +90,7 @@ fn docketed_beside<H: Threads + Wait + Sync>(
     folder: &str,
     as_of: Option<AsOf>,
 ) -> Result<(Docketed, Vec<Vec<u8>>), Fault>
-    ensures { IfOk result (λ docketed. length docketed.1.items ≤ 1000000) }
+    ensures { IfOk result (λ docketed. length docketed.1.items ≤ 100000000) }
 {
     let entries = entries_beside(rt, folder, as_of)?;
     let docketed = told_while(threads, rt.stderr(), "reading", folder, || {

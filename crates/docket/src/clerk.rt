@@ -17,21 +17,21 @@ const NAME: &str = "DOCKET_CLERK";
 // How many bytes are read at once.
 const CHUNK: usize = 4_096;
 
-// The number of a clerk that a text writes, from 1 to 64.
-fn number_in(text: &str) -> Option<u8> {
-    match text.parse::<u8>() {
-        Ok(number) if number >= 1 && number <= 64 => Some(number),
+// The number of a clerk that a text writes, from 1 to 65535.
+fn number_in(text: &str) -> Option<u16> {
+    match text.parse::<u16>() {
+        Ok(number) if number >= 1 => Some(number),
         _ => None,
     }
 }
 
 // The number that the environment has. One that is no clerk's is said on standard error.
-fn named_clerk(rt: &HostRuntime, text: &str) -> Result<u8, Fault> {
+fn named_clerk(rt: &HostRuntime, text: &str) -> Result<u16, Fault> {
     match number_in(text) {
         Some(number) => Ok(number),
         None => {
             let line = format!(in rt.alloc();
-                "error: {NAME} isn't the number of a clerk: write one from 1 to 64, or leave it out\n"
+                "error: {NAME} isn't the number of a clerk: write one from 1 to 65535, or leave it out\n"
             )?;
             let _ = refused(&mut Watched::new(rt.stderr()), line.as_str());
             Err(Fault::Told(1))
@@ -40,7 +40,7 @@ fn named_clerk(rt: &HostRuntime, text: &str) -> Result<u8, Fault> {
 }
 
 // The clerk of the environment, if it has one.
-fn clerk_around(rt: &HostRuntime) -> Result<Option<u8>, Fault> {
+fn clerk_around(rt: &HostRuntime) -> Result<Option<u16>, Fault> {
     match env::var(rt, NAME) {
         Ok(text) => Ok(Some(named_clerk(rt, text.as_str())?)),
         Err(_) => Ok(None),
@@ -49,7 +49,7 @@ fn clerk_around(rt: &HostRuntime) -> Result<Option<u8>, Fault> {
 
 // Whose rows are that name no clerk: the one of the words, or else the one of the environment. None where each row names its clerk, as in
 // a list that people write.
-fn clerk_of(rt: &HostRuntime, lines: Lines) -> Result<Option<u8>, Fault> {
+fn clerk_of(rt: &HostRuntime, lines: Lines) -> Result<Option<u16>, Fault> {
     match lines {
         Lines::Plain(Some(clerk)) => Ok(Some(clerk)),
         Lines::Plain(None) => clerk_around(rt),
@@ -72,7 +72,7 @@ pub struct OfClerk<R> {
 
 impl<R: Read + Drop> OfClerk<R> {
     /// The lines of a reader, as those of that clerk; as they are where there is none.
-    pub fn new(alloc: Global, inner: R, clerk: Option<u8>) -> Result<OfClerk<R>, AllocError> {
+    pub fn new(alloc: Global, inner: R, clerk: Option<u16>) -> Result<OfClerk<R>, AllocError> {
         let number = match clerk {
             Some(clerk) => format!(in alloc; "{clerk},")?,
             None => String::new(alloc),

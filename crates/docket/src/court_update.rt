@@ -51,7 +51,7 @@ fn updated<D: Disk, W: Write, E: Write>(
 ) -> Result<(), Fault>
     requires works { has_failed writer.old ≡ false }
     requires some { 0 < length entries.now }
-    requires few { length entries.now ≤ 1000000 }
+    requires few { length entries.now ≤ 100000000 }
     ensures { KeepsDocket D.Disk (batch_of entries.now) desk.old → OnOk result ((file said : List ℕ) × (between : Option (List ℕ)) × IsUpdateOf (standing_file (batch_of entries.now)) updating.to file said
         × Appends (W.contents (watched writer.old)) between said × TakesFile (standing_at desk.old) (batch_of entries.now) file updating.accept between (W.contents (watched writer.new)) (λ kept. KeepsDocket D.Disk kept desk.new)) }
 {

@@ -105,7 +105,7 @@ fn desk_over<D: Disk + Drop, H: Threads + Wait + Sync>(
 ) -> Result<(Desk<D>, Vec<Vec<u8>>), Fault>
     ensures opened { (file : List ℕ) → IsDurable D.Disk file disk → IfOk result (λ opened. IsOpened D.Disk file (batch_of opened.1.items) opened.0) }
     ensures some { IfOk result (λ opened. 0 < length opened.1.items) }
-    ensures few { IfOk result (λ opened. length opened.1.items ≤ 1000000) }
+    ensures few { IfOk result (λ opened. length opened.1.items ≤ 100000000) }
 {
     let opened = told_while(
         threads,
@@ -115,7 +115,7 @@ fn desk_over<D: Disk + Drop, H: Threads + Wait + Sync>(
         || -> Result<(Desk<D>, Vec<Vec<u8>>), (OpenFault, D)>
             ensures opened { (file : List ℕ) → IsDurable D.Disk file disk → IfOk result (λ opened. IsOpened D.Disk file (batch_of opened.1.items) opened.0) }
             ensures some { IfOk result (λ opened. 0 < length opened.1.items) }
-            ensures few { IfOk result (λ opened. length opened.1.items ≤ 1000000) }
+            ensures few { IfOk result (λ opened. length opened.1.items ≤ 100000000) }
         { Desk::open(rt.alloc(), disk, stamp) },
     );
     match opened {
@@ -135,7 +135,7 @@ fn desk_of<D: Disk + Drop, H: Threads + Wait + Sync>(
 ) -> Result<(Desk<D>, Vec<Vec<u8>>), Fault>
     ensures opened { (file : List ℕ) → IsDurable D.Disk file disk → IfOk result (λ opened. IsOpened D.Disk file (batch_of opened.1.items) opened.0) }
     ensures some { IfOk result (λ opened. 0 < length opened.1.items) }
-    ensures few { IfOk result (λ opened. length opened.1.items ≤ 1000000) }
+    ensures few { IfOk result (λ opened. length opened.1.items ≤ 100000000) }
 {
     save_tail(rt, folder, journal)?;
     let stamp = stamp_now(rt)?;
@@ -152,7 +152,7 @@ pub fn opened<S: Start, H: Threads + Wait + Sync>(
 ) -> Result<(Desk<FileFrom<S>>, Vec<Vec<u8>>), Fault>
     ensures opened { IfOk result (λ opened. IsOpened ⟦<FileFrom<S> as Disk>⟧ S.Start.db (batch_of opened.1.items) opened.0) }
     ensures some { IfOk result (λ opened. 0 < length opened.1.items) }
-    ensures few { IfOk result (λ opened. length opened.1.items ≤ 1000000) }
+    ensures few { IfOk result (λ opened. length opened.1.items ≤ 100000000) }
 {
     let name = journal_name(rt.alloc(), folder)?;
     find_own_journal(rt, name.as_str())?;
@@ -214,7 +214,7 @@ fn read_again(
 /// The entries of a folder's journal, and the stamp of each, read beside a program that may append to it. Where it seems to be
 /// damaged and has changed meanwhile, it is read again.
 pub fn stamped_beside(rt: &HostRuntime, folder: &str) -> Result<(Vec<Vec<u8>>, Vec<Stamp>), Fault>
-    ensures few { IfOk result (λ stamped. length stamped.0.items ≤ 1000000) }
+    ensures few { IfOk result (λ stamped. length stamped.0.items ≤ 100000000) }
     ensures as_many { IfOk result (λ stamped. length stamped.1.items ≡ length stamped.0.items) }
 {
     let name = journal_name(rt.alloc(), folder)?;
@@ -238,7 +238,7 @@ pub fn entries_beside(
     folder: &str,
     as_of: Option<AsOf>,
 ) -> Result<Vec<Vec<u8>>, Fault>
-    ensures { IfOk result (λ entries. length entries.items ≤ 1000000) }
+    ensures { IfOk result (λ entries. length entries.items ≤ 100000000) }
 {
     let (entries, stamps) = stamped_beside(rt, folder)?;
     until(rt.alloc(), entries, &stamps, as_of)

@@ -18,7 +18,7 @@ use std::alloc::{AllocError, Global};
 use std::io::{Read, Write};
 
 // How many clerks may enter rows.
-const MOST_CLERKS: u8 = 64;
+const MOST_CLERKS: u16 = 65_535;
 
 /// All of an input.
 pub fn whole<R: Read + Drop>(alloc: Global, reader: R) -> Result<Vec<u8>, DeskFault>
@@ -94,8 +94,8 @@ fn faultless<E: Write>(
     joined: bool,
     input: &[u8],
 ) -> Result<Reading, Fault>
-    ensures rows { IfOk result (λ reading. reading.rows.items ≡ rows_of 64 (names_of court.now) court.now.periods.triggers style.order marked None (numbered_lines (strip_bom input.now))) }
-    ensures placed { IfOk result (λ reading. reading.placed.items ≡ placed_from 64 (names_of court.now) court.now.periods.triggers style.order marked joined None [] (strip_bom input.now)) }
+    ensures rows { IfOk result (λ reading. reading.rows.items ≡ rows_of 65535 (names_of court.now) court.now.periods.triggers style.order marked None (numbered_lines (strip_bom input.now))) }
+    ensures placed { IfOk result (λ reading. reading.placed.items ≡ placed_from 65535 (names_of court.now) court.now.periods.triggers style.order marked joined None [] (strip_bom input.now)) }
     ensures faultless { IfOk result (λ reading. reading.faulty.items ≡ []) }
     ensures finished { OnOk result (unfinished_of (strip_bom input.now) ≡ []) }
 {

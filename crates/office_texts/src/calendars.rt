@@ -16,7 +16,7 @@ use std::fmt::Write;
 pub fn push_calendar(
     text: &mut String,
     court: &Court,
-    judge: u8,
+    judge: u16,
     bookings: &[Booking],
 ) -> Result<(), AllocError>
     ensures { OnOk result (AddsText text.old text.new (calendar_lines court.now judge bookings.now)) }
@@ -85,7 +85,7 @@ fn push_slots(text: &mut String, count: u8) -> Result<(), AllocError>
 }
 
 /// The name of the judge; an empty one if the court has none of that number.
-pub fn judge_name(court: &Court, number: u8) -> &str
+pub fn judge_name(court: &Court, number: u16) -> &str
     ensures { result.now ≡ name_of court.now.judges number }
 {
     match court.judge_name(number) {
@@ -95,7 +95,7 @@ pub fn judge_name(court: &Court, number: u8) -> &str
 }
 
 /// The name of the room; an empty one if the court has none of that number.
-pub fn room_name(court: &Court, number: u8) -> &str
+pub fn room_name(court: &Court, number: u16) -> &str
     ensures { result.now ≡ name_of court.now.rooms number }
 {
     match court.room_name(number) {

@@ -23,7 +23,9 @@ pub use named::{
 pub use names::{CaseCalled, case_called, number_called, push_called, without_names_as_numbers};
 pub use numbers::push_number;
 pub use periods::push_entered;
-pub use run::{Closing, Reply, push_closing, push_numbers, push_reply, reply_to, run_text};
+pub use run::{
+    Closing, Reply, most_cases, push_closing, push_numbers, push_reply, reply_to, run_text,
+};
 pub use sheets::{
     push_and_closed, push_and_ended, push_and_ruled, push_assigned_line, push_assigned_text,
     push_case, push_deadline, push_deadlines, push_ended, push_hearing, push_motion, push_motions,

@@ -4,6 +4,6 @@ mod closing;
 mod reply;
 mod text;
 
-pub use closing::{Closing, push_closing};
+pub use closing::{Closing, most_cases, push_closing};
 pub use reply::{Reply, reply_to};
 pub use text::{push_numbers, push_reply, run_text};

@@ -82,7 +82,7 @@ pub fn push_assigned_text(
 }
 
 /// Adds to whom a case is referred after who has it, if it is.
-fn push_referred(text: &mut String, court: &Court, referred: Option<u8>) -> Result<(), AllocError>
+fn push_referred(text: &mut String, court: &Court, referred: Option<u16>) -> Result<(), AllocError>
     ensures { OnOk result (AddsText text.old text.new (referred_text court.now.judges referred)) }
 {
     match referred {

@@ -30,7 +30,7 @@ pub fn check_input<H: Threads + Sync>(
     rt: &H,
     alloc: Global,
     input: &[u8],
-    clerks: u8,
+    clerks: u16,
     readers: u8,
 ) -> Result<CheckedInput, OfficeFault>
     ensures said { AnswersInput IsChecked result (input_of clerks input.now) }
@@ -58,7 +58,7 @@ fn rows_after<H: Threads + Sync>(
     rt: &H,
     alloc: Global,
     bytes: &[u8],
-    clerks: u8,
+    clerks: u16,
     court: &Court,
     readers: u8,
 ) -> Result<Vec<Row>, OfficeFault>

@@ -36,7 +36,7 @@ pub trait Report {
     ghost is_missing: { Self → (file : List ℕ) → Input → List ℕ → Type 0 };
 
     /// How many clerks there are: a row of another clerk has a fault.
-    fn clerks(&self) -> u8
+    fn clerks(&self) -> u16
         ensures { result ≡ clerk_count self.now };
 
     /// How many threads read the rows, which are the same whatever it is.

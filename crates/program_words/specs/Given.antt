@@ -62,7 +62,7 @@ wait_of (Some text) = seconds_of text
 
 -- the number of a clerk
 abbrev pub as_clerk : ℕ → Option ℕ
-as_clerk n = if nat_le 1 n && nat_le n 64 then Some n else None
+as_clerk n = if nat_le 1 n && nat_le n 65_535 then Some n else None
 
 abbrev pub clerk_of : Text → Option ℕ
 clerk_of text = option_and_then as_clerk (number_of text)

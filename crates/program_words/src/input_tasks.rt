@@ -46,7 +46,7 @@ fn are_beside(alloc: Global, given: &ArgMatches<'_>) -> Result<((), ()), Options
 }
 
 /// Whose rows are that name no clerk.
-fn whose_in(alloc: Global, given: &ArgMatches<'_>) -> Result<Option<u8>, OptionsFault>
+fn whose_in(alloc: Global, given: &ArgMatches<'_>) -> Result<Option<u16>, OptionsFault>
     ensures clerk { IfOk result (λ clerk. clerk ≡ option_and_then clerk_of (first_of (codes "clerk") (rows_of (found_of given.now)))) }
     ensures faults { IsAnswerFor (clerk_faults (rows_of (found_of given.now))) result }
 {

@@ -101,7 +101,7 @@ pub struct LogAsked {
 pub enum Lines {
     /// As plain rows, each of the clerk whose number it begins with; or, where a number is given, all of that clerk, and they begin with
     /// their command.
-    Plain(Option<u8>),
+    Plain(Option<u16>),
     /// As people write them.
     AsWritten(Style),
 }

@@ -119,17 +119,17 @@ fn seconds_of(text: &str) -> Option<u32>
 }
 
 /// The number of the clerk that a text writes.
-pub(crate) fn clerk_number(text: &str) -> Option<u8>
+pub(crate) fn clerk_number(text: &str) -> Option<u16>
     ensures { result ≡ clerk_of text.now }
 {
     match number_of(text) {
-        Some(number) if number >= 1 && number <= 64 => Some(number as u8),
+        Some(number) if number >= 1 && number <= 65_535 => Some(number as u16),
         _ => None,
     }
 }
 
 /// Whose rows are that name no clerk, if that was given. BadWords where the text of `--clerk` is no such number.
-pub(crate) fn clerk_in(alloc: Global, given: &ArgMatches<'_>) -> Result<Option<u8>, OptionsFault>
+pub(crate) fn clerk_in(alloc: Global, given: &ArgMatches<'_>) -> Result<Option<u16>, OptionsFault>
     ensures clerk { IfOk result (λ clerk. clerk ≡ option_and_then clerk_of (first_of (codes "clerk") (rows_of (found_of given.now)))) }
     ensures faults { IsAnswerFor (faults_if_given clerk_of (first_of (codes "clerk") (rows_of (found_of given.now)))) result }
 {
@@ -141,7 +141,7 @@ pub(crate) fn clerk_in(alloc: Global, given: &ArgMatches<'_>) -> Result<Option<u
                 alloc,
                 text,
                 "--clerk <N>",
-                "write the clerk's number, from 1 to 64",
+                "write the clerk's number, from 1 to 65535",
             )),
         },
     }

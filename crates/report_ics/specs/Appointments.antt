@@ -2,7 +2,7 @@
 use Rattle.std.specs.Prelude.{ℕ, ℤ, ◌==◌, Bool, true, ◌&&◌, ◌||◌, not, List, ◌++◌, Option, Some, None, is_some, length, map, option_to_list, if◌then◌else◌}
 use Rattle.std.specs.List.{flat_map, range_with_len}
 use Rattle.std.specs.Option.{option_and_then}
-use Rattle.docket_rows.specs.Words.{last_case}
+use Rattle.docket_rows.specs.Words.{most_cases}
 use Rattle.docket_selection.specs.declared.choice.Choice.{Choice}
 use Rattle.docket_selection.specs.declared.item.DueItem.{DueItem}
 use Rattle.docket_selection.specs.declared.item.Matter.{Matter}
@@ -45,7 +45,7 @@ off_from choice followed first count = flat_map (off_of_case choice followed) (r
 
 -- those of all cases
 abbrev pub off_hearings : Choice → FollowedChanges → List Appointment
-off_hearings choice followed = off_from choice followed 1 last_case
+off_hearings choice followed = off_from choice followed 1 most_cases
 
 -- the hearings that the judge had in a case, also of motions that are none any more
 unfoldable pub histories_of_case : FollowedChanges → (case : ℕ) → List HearingHistory

@@ -6,9 +6,12 @@ ghost use Rattle.report_ics.specs.Appointments.{chosen_only, item_of, off_from, 
 
 use crate::appointment::{Appointment, AppointmentTypes};
 use crate::lists::push_if;
-use docket_rows::{LAST_CASE, SheetHearing};
+use docket_rows::SheetHearing;
 use docket_selection::{Choice, DueItem, HearingHistories, HearingHistory, Matter, is_due};
 use std::alloc::AllocError;
+
+// The greatest number that a case can have: `most_cases` of the specs of docket_rows.
+const LAST_CASE: u32 = 1_000_000;
 
 /// Adds the chosen hearings that are off, by case.
 pub(crate) fn push_off(
@@ -29,7 +32,7 @@ fn push_off_from(
     first: u32,
     count: u32,
 ) -> Result<(), AllocError>
-    requires numbers { first + count ≤ 5_000 }
+    requires numbers { first + count ≤ 1_000_001 }
     ensures { OnOk result (list.new.items ≡ list.old.items ++ off_from choice.now histories.now first count) }
 {
     let _types: AppointmentTypes = None;

@@ -22,7 +22,7 @@ pub(crate) struct AnsweredRow {
     /// The number of the row, counted from 1.
     pub number: u64,
     /// The number of its clerk.
-    pub clerk: u8,
+    pub clerk: u16,
     /// What it was answered.
     pub reply: Reply,
 }
@@ -67,7 +67,7 @@ fn push_row(
     court: &Court,
     labels: &Labels<'_>,
     number: u64,
-    clerk: u8,
+    clerk: u16,
 ) -> Result<(), AllocError>
     ensures { OnOk result (AddsFields out.old out.new (row_fields number clerk)) }
 {

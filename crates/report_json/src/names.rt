@@ -17,7 +17,7 @@ use std::alloc::AllocError;
 pub(crate) fn push_panel(
     out: &mut JsonWriter,
     court: &Court,
-    judges: &[u8],
+    judges: &[u16],
 ) -> Result<(), AllocError>
     ensures { OnOk result (AddsFields out.old out.new (field (codes "judges") (array_of (map (name_value court.now.judges) judges.now)) ∷ [])) }
 {
@@ -25,7 +25,7 @@ pub(crate) fn push_panel(
     push_names_of(out, court, judges)
 }
 
-fn push_names_of(out: &mut JsonWriter, court: &Court, judges: &[u8]) -> Result<(), AllocError>
+fn push_names_of(out: &mut JsonWriter, court: &Court, judges: &[u16]) -> Result<(), AllocError>
     ensures { OnOk result (AddsValue out.old out.new (array_of (map (name_value court.now.judges) judges.now))) }
 {
     out.begin_array()?;
@@ -34,7 +34,7 @@ fn push_names_of(out: &mut JsonWriter, court: &Court, judges: &[u8]) -> Result<(
 }
 
 /// Writes the names of judges, without the brackets.
-fn push_each(out: &mut JsonWriter, court: &Court, judges: &[u8]) -> Result<(), AllocError>
+fn push_each(out: &mut JsonWriter, court: &Court, judges: &[u16]) -> Result<(), AllocError>
     ensures { OnOk result (Adds out.old out.new (flat_map (λ judge. json_tokens (name_value court.now.judges judge)) judges.now)) }
 {
     for judge in judges {
@@ -54,7 +54,7 @@ pub(crate) fn push_judges(out: &mut JsonWriter, court: &Court) -> Result<(), All
 }
 
 /// Writes the names of this number of judges, from the first on.
-fn push_numbered(out: &mut JsonWriter, court: &Court, count: u8) -> Result<(), AllocError>
+fn push_numbered(out: &mut JsonWriter, court: &Court, count: u16) -> Result<(), AllocError>
     ensures { OnOk result (Adds out.old out.new (flat_map json_tokens (names_from court.now.judges 0 count))) }
 {
     for judge in 0..count {

@@ -92,7 +92,7 @@ fn push_assigned(
 fn push_referred(
     out: &mut JsonWriter,
     court: &Court,
-    referred: Option<u8>,
+    referred: Option<u16>,
 ) -> Result<(), AllocError>
     ensures { OnOk result (AddsFields out.old out.new (field (codes "referred") (or_null (name_value court.now.judges) referred) ∷ [])) }
 {

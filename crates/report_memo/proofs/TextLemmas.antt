@@ -1,5 +1,5 @@
 -- Texts that are put together of parts.
-use Rattle.std.proofs.Common.{◌≡◌, ◌+◌, ◌-◌, ◌++◌, ◌<◌, ◌≤◌, ◌∙◌, ℕ, List, [], ◌∷◌, Result, Ok, Err, OnOk, drop, length, get_or, append_assoc, append-nil, refl, sym, ap, subst}
+use Rattle.std.proofs.Common.{◌≡◌, ◌+◌, ◌-◌, ◌++◌, ◌<◌, ◌≤◌, ◌∙◌, ℕ, zero, suc, List, [], ◌∷◌, Result, Ok, Err, OnOk, drop, length, get_or, append_assoc, append-nil, refl, sym, ap, subst, arith}
 use Rattle.std.specs.List.{range_with_len}
 use Rattle.std.proofs.lemmas.List.{at_drop_more, at_drop_all}
 use Rattle.office_texts.proofs.RunLemmas.CallerLemmas.{range_more}
@@ -44,6 +44,21 @@ adds_range P first last old mid new before one rest =
 pub adds_range_end : (P : ℕ → List ℕ → Type 0) (first : ℕ) (text : List ℕ) → Adds (Each P (range_with_len first 0)) text text
 unfolding Each
 adds_range_end P first text = adds_none text
+
+-- where all later numbers have no text, the texts of the first of them are the texts of all
+pub each_more : (P : ℕ → List ℕ → Type 0) (first few count : ℕ) (text : List ℕ) → few ≤ count → ((n : ℕ) → first + few ≤ n → P n []) → Each P (range_with_len first few) text → Each P (range_with_len first count) text
+unfolding Each
+each_more P first zero zero text less none each = each
+each_more P first zero (suc count) text less none each =
+    let rest : Each P (range_with_len (first + 1) count) text = each_more P (first + 1) zero count text (omega arith) (λ n past. none n (omega (arith, past))) each in
+    let whole : Then (P first) (Each P (range_with_len (first + 1) count)) text = record { front = []; back = text; is_front = none first (omega arith); is_back = rest; joined = refl } in
+    whole
+each_more P first (suc few) zero text less none each = absurd (omega (arith, less))
+each_more P first (suc few) (suc count) text less none each =
+    let parts : Then (P first) (Each P (range_with_len (first + 1) few)) text = each in
+    let rest : Each P (range_with_len (first + 1) count) parts.back = each_more P (first + 1) few count parts.back (omega (arith, less)) (λ n past. none n (omega (arith, past))) parts.is_back in
+    let whole : Then (P first) (Each P (range_with_len (first + 1) count)) text = record { front = parts.front; back = parts.back; is_front = parts.is_front; is_back = rest; joined = parts.joined } in
+    whole
 
 -- what follows where a call answers Ok
 pub on_ok : {A E : Type 0} {P Q : Type 0} (r : Result A E) → (P → Q) → OnOk r P → OnOk r Q

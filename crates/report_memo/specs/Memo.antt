@@ -4,7 +4,7 @@ use Rattle.std.specs.Prelude.{ℕ, List, length, map}
 use Rattle.std.specs.List.{range_with_len}
 use Rattle.court_days.specs.Words.{CourtView}
 use Rattle.docket_rows.specs.declared.query.Query.TheVariants as query
-use Rattle.docket_rows.specs.Words.{Rows, setup_of, last_case, opening_rows, parts_of, view_of}
+use Rattle.docket_rows.specs.Words.{Rows, setup_of, opening_rows, parts_of, view_of}
 use Rattle.desk_numbers.specs.Words.{numbered_booking, numbered_view}
 use Rattle.row_forms.specs.declared.numbered.NumberedRow.{NumberedRow}
 use Rattle.row_forms.specs.Words.{rows_of}
@@ -36,7 +36,7 @@ AreCalendars court labels docketed first count = Each (IsCalendarOf court labels
 -- the sheets of all open cases, by number, and the calendars of all judges, in the order of the court's file
 abbrev pub IsClosing : CourtView → LabelsView → (docketed : Rows) → List ℕ → Type 0
 IsClosing court labels docketed =
-    Then (AreSheets court labels docketed 1 last_case) (AreCalendars court labels docketed 0 (length court.judges))
+    Then (AreSheets court labels docketed 1 court.limits.cases) (AreCalendars court labels docketed 0 (length court.judges))
 
 -- the replies to rows, and what comes after them
 abbrev pub IsMemo : CourtView → LabelsView → List NumberedRow → List ℕ → Type 0

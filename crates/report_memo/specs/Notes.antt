@@ -50,12 +50,12 @@ notes_of court labels docketed command (answer.Refused refusal) =
 notes_of court labels docketed command answer = []
 
 -- what is said of the view that answers a question
-abbrev pub notes_viewed : (docketed : Rows) → QueryOf → View → List ℕ
-notes_viewed docketed query (view.Refused refusal) = query_lines docketed.days query refusal
-notes_viewed docketed query v = []
+abbrev pub notes_viewed : CourtView → (docketed : Rows) → QueryOf → View → List ℕ
+notes_viewed court docketed query (view.Refused refusal) = query_lines court.limits.cases docketed.days query refusal
+notes_viewed court docketed query v = []
 
 -- what is said of a reply
 abbrev pub notes_text : CourtView → LabelsView → (docketed : Rows) → Work → Reply → List ℕ
 notes_text court labels docketed (Command command) (Made answer) = notes_of court labels docketed command answer
-notes_text court labels docketed (Query query) (Viewed v) = notes_viewed docketed query v
+notes_text court labels docketed (Query query) (Viewed v) = notes_viewed court docketed query v
 notes_text court labels docketed work reply = []

@@ -24,8 +24,8 @@ pub(crate) fn push_calendars(
     court: &Court,
     labels: &Labels<'_>,
     docket: &Docket,
-    first: u8,
-    count: u8,
+    first: u16,
+    count: u16,
 ) -> Result<(), AllocError>
     requires court { docket.now.setup ≡ setup_of court.now }
     requires numbers { first + count ≤ length court.now.judges }
@@ -45,7 +45,7 @@ fn push_judge(
     court: &Court,
     labels: &Labels<'_>,
     docket: &Docket,
-    judge: u8,
+    judge: u16,
 ) -> Result<(), AllocError>
     requires court { docket.now.setup ≡ setup_of court.now }
     requires judge { judge < length court.now.judges }

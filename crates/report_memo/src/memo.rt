@@ -5,10 +5,9 @@ ghost use Rattle.report_memo.specs.Memo.{IsMemo};
 
 use crate::calendars::push_calendars;
 use crate::replies::push_replies;
-use crate::sheets::push_sheets;
+use crate::sheets::push_all_sheets;
 use court_days::Court;
 use docket_core::Docket;
-use docket_rows::LAST_CASE;
 use report_texts::Labels;
 use row_forms::NumberedRow;
 use std::alloc::{AllocError, Global};
@@ -27,7 +26,7 @@ pub(crate) fn memo_text(
     let mut docket = Docket::new(alloc, court)?;
     let mut text = String::new(alloc);
     push_replies(alloc, &mut text, court, labels, &mut docket, rows)?;
-    push_sheets(alloc, &mut text, court, labels, &docket, 1, LAST_CASE)?;
+    push_all_sheets(alloc, &mut text, court, labels, &docket)?;
     push_calendars(alloc, &mut text, court, labels, &docket, 0, court.judges())?;
     Ok(text)
 }

@@ -13,7 +13,7 @@ use court_days::Court;
 use desk_numbers::MovedNumbers;
 use docket_core::Docket;
 use docket_rows::{Answer, Command, Counted, Query, Refusal, View};
-use office_texts::{Reply, push_motion_called};
+use office_texts::{Reply, most_cases, push_motion_called};
 use reason_notes::{push_extension_notes, push_recorded};
 use reason_refusals::{
     deadline_asked, deadline_at, motion_of_refusal, push_query_refusal, push_why_refused,
@@ -44,7 +44,7 @@ pub(crate) fn push_notes(
             alloc, text, court, labels, docket, command, answer,
         ),
         (Work::Query(query), Reply::Viewed(view)) => push_notes_viewed(
-            alloc, text, docket, query, view,
+            alloc, text, court, docket, query, view,
         ),
         _ => Ok(()),
     }
@@ -123,14 +123,22 @@ fn push_notes_of_request(
 fn push_notes_viewed(
     alloc: Global,
     text: &mut String,
+    court: &Court,
     docket: &Docket,
     query: &Query,
     view: &View,
 ) -> Result<(), AllocError>
-    ensures { (setup : CourtSetup) (docketed : Rows) → Holds setup docket.now docketed → OnOk result (string_bytes text.new ≡ string_bytes text.old ++ notes_viewed docketed query.now view.now) }
+    ensures { (setup : CourtSetup) (docketed : Rows) → Holds setup docket.now docketed → OnOk result (string_bytes text.new ≡ string_bytes text.old ++ notes_viewed court.now docketed query.now view.now) }
 {
     match view {
-        View::Refused(refusal) => { push_query_refusal(alloc, text, docket.days(), query, refusal) }
+        View::Refused(refusal) => push_query_refusal(
+            alloc,
+            text,
+            most_cases(court),
+            docket.days(),
+            query,
+            refusal,
+        ),
         _ => Ok(()),
     }
 }

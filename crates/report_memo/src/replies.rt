@@ -160,7 +160,7 @@ fn push_told(
 }
 
 /// Adds what comes before a sheet that a reply shows.
-fn push_sheet_front(text: &mut String, number: u64, clerk: u8) -> Result<(), AllocError>
+fn push_sheet_front(text: &mut String, number: u64, clerk: u16) -> Result<(), AllocError>
     ensures { OnOk result (AddsText text.old text.new (row_numbers number clerk ++ codes "sheet\n")) }
 {
     push_numbers(text, number, clerk)?;

@@ -40,7 +40,7 @@ impl Report for Asked {
 
     ghost is_missing = { λ asked file. IsMissingOf asked (labels_of file [] [] []) };
 
-    fn clerks(&self) -> u8 {
+    fn clerks(&self) -> u16 {
         64
     }
 

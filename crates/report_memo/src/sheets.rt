@@ -142,9 +142,23 @@ fn push_first_lines(
     }
 }
 
+/// Adds the sheets of all open cases, with the numbers of their deadlines and motions.
+pub(crate) fn push_all_sheets(
+    alloc: Global,
+    text: &mut String,
+    court: &Court,
+    labels: &Labels<'_>,
+    docket: &Docket,
+) -> Result<(), AllocError>
+    ensures { (docketed : Rows) → Holds (setup_of court.now) docket.now docketed → Pushes (AreSheets court.now labels.now docketed 1 court.now.limits.cases) result text.old text.new }
+{
+    let last = docket.last_case();
+    push_sheets(alloc, text, court, labels, docket, 1, last)
+}
+
 /// Adds the sheets of the open ones of that number of cases, from the first number on, with the numbers of their deadlines and
 /// motions.
-pub(crate) fn push_sheets(
+fn push_sheets(
     alloc: Global,
     text: &mut String,
     court: &Court,
@@ -153,7 +167,7 @@ pub(crate) fn push_sheets(
     first: u32,
     count: u32,
 ) -> Result<(), AllocError>
-    requires numbers { first + count ≤ 5_000 }
+    requires numbers { first + count ≤ 1_000_001 }
     ensures { (docketed : Rows) → Holds (setup_of court.now) docket.now docketed → Pushes (AreSheets court.now labels.now docketed first count) result text.old text.new }
 {
     let days = DaysByReading::new(alloc, docket.days(), labels.doubtful)?;

@@ -99,7 +99,7 @@ fn push_judge(
 
 /// Makes the line the title of a judge's part.
 #[tactic(auto, unfolding(crate::specs::Judges::judge_title))]
-fn set_title(line: &mut String, court: &Court, judge: u8) -> Result<(), AllocError>
+fn set_title(line: &mut String, court: &Court, judge: u16) -> Result<(), AllocError>
     ensures { OnOk result (string_bytes line.new ≡ judge_title court.now judge) }
 {
     line.clear();
@@ -109,7 +109,7 @@ fn set_title(line: &mut String, court: &Court, judge: u8) -> Result<(), AllocErr
 
 /// Makes the line what the table of a judge has.
 #[tactic(auto, unfolding(crate::specs::Judges::judge_caption))]
-fn set_caption(line: &mut String, court: &Court, judge: u8) -> Result<(), AllocError>
+fn set_caption(line: &mut String, court: &Court, judge: u16) -> Result<(), AllocError>
     ensures { OnOk result (string_bytes line.new ≡ judge_caption court.now judge) }
 {
     line.clear();

@@ -125,7 +125,7 @@ fn push_month_at(
     line: &mut String,
     court: &Court,
     labels: &Labels<'_>,
-    judge: u8,
+    judge: u16,
     bookings: &[Booking],
     first: Option<Day>,
 ) -> Result<(), AllocError>
@@ -183,7 +183,7 @@ fn push_month(
     line: &mut String,
     court: &Court,
     labels: &Labels<'_>,
-    judge: u8,
+    judge: u16,
     bookings: &[Booking],
     first: Day,
 ) -> Result<(), AllocError>
@@ -201,7 +201,7 @@ fn push_month(
 
 /// Makes the line what the grid of a month has.
 #[tactic(auto, unfolding(crate::specs::Months::month_caption))]
-fn set_caption(line: &mut String, court: &Court, judge: u8, first: Day) -> Result<(), AllocError>
+fn set_caption(line: &mut String, court: &Court, judge: u16, first: Day) -> Result<(), AllocError>
     ensures { OnOk result (string_bytes line.new ≡ month_caption court.now judge first) }
 {
     line.clear();

@@ -167,7 +167,7 @@ fn push_row(
 }
 
 /// Makes the line who has the case.
-fn set_holder(line: &mut String, court: &Court, judge: Option<u8>) -> Result<(), AllocError>
+fn set_holder(line: &mut String, court: &Court, judge: Option<u16>) -> Result<(), AllocError>
     ensures { OnOk result (string_bytes line.new ≡ holder_words court.now judge) }
 {
     line.clear();

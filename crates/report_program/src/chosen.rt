@@ -18,7 +18,7 @@ pub enum Listing {
     /// What is due.
     Due(Choice),
     /// The week of that judge in which the day is.
-    Week(u8, Day),
+    Week(u16, Day),
     /// The page.
     Page(Choice),
     /// The calendar of deadlines and hearings, written at that instant.
@@ -280,7 +280,7 @@ fn choice_of(
     case: Option<u32>,
     asked: &Asked,
     met: bool,
-    judge: Option<u8>,
+    judge: Option<u16>,
 ) -> Choice
     ensures { result ≡ choice_of court.now case asked.now met judge }
 {
@@ -355,7 +355,7 @@ fn today_of(court: &Court, asked: &Asked) -> Day
 }
 
 /// The number of the judge, whose name has to be given.
-fn judge_given(court: &Court, name: &Option<String>) -> Option<u8>
+fn judge_given(court: &Court, name: &Option<String>) -> Option<u16>
     ensures { result ≡ judge_given court.now (option_map string_bytes name.now) }
 {
     match name {

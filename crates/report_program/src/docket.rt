@@ -52,7 +52,7 @@ pub(crate) type ChangeTypes = Option<
         Hearing,
         Panel,
         Day,
-        Option<u8>,
+        Option<u16>,
     ),
 >;
 

@@ -53,7 +53,7 @@ impl Report for Asked {
 
     ghost is_missing = { λ asked file. IsMissingOf asked };
 
-    fn clerks(&self) -> u8 {
+    fn clerks(&self) -> u16 {
         64
     }
 

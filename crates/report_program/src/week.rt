@@ -22,7 +22,7 @@ pub(crate) fn week_text(
     court: &Court,
     labels: &Labels<'_>,
     docket: &Docket,
-    judge: u8,
+    judge: u16,
     day: Day,
 ) -> Result<Vec<u8>, AllocError>
     ensures { (docketed : Rows) → Holds (setup_of court.now) docket.now docketed → IfOk result (λ text. text.items ≡ week_text_of court.now labels.now docketed judge day) }
@@ -39,7 +39,7 @@ fn numbered_days(
     alloc: Global,
     moved: &MovedNumbers,
     docket: &Docket,
-    judge: u8,
+    judge: u16,
     days: &[Day],
 ) -> Result<Vec<DayBookings>, AllocError>
     ensures { (docketed : Rows) → StandsFor docket.now docketed → IfOk result (λ week. week.items ≡ map (numbered_day moved.now) (map (day_bookings docket.now.setup docketed judge) days.now)) }

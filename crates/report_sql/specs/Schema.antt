@@ -1,5 +1,6 @@
 -- The tables: their columns, their keys and their constraints are the constants of the code.
 use Rattle.std.specs.Prelude.{ℕ, ◌==◌, ◌||◌, Bool, true, false, not, List, [], ◌++◌, length, if◌then◌else◌}
+use Rattle.std.specs.Fmt.{decimal}
 use Rattle.std.specs.List.{list_any}
 use Rattle.case_numbers.specs.declared.names.NamedCase.{NamedCase}
 use Rattle.docket_rows.specs.declared.command.Command.TheVariants as command
@@ -9,11 +10,15 @@ use Rattle.docket_rows.specs.Words.{is_kept}
 use Rattle.row_forms.specs.declared.numbered.NumberedRow.{NumberedRow}
 use Rattle.row_forms.specs.declared.row.Work.{Work}
 use Rattle.row_forms.specs.declared.row.Work.TheVariants.{Command}
-use Rattle.report_sql.specs.declared.schema.TheConstants.{NUMBERED_CASES, NAMED_CASES, DEADLINES, GRANTS, RESETS, MOTIONS, HEARINGS, PANELS, OUTAGES, CLOSINGS, ASSIGNMENTS, ENDINGS, RULINGS, TITLES, LABELS, ANSWERS, DESK_ANSWERS}
+use Rattle.report_sql.specs.declared.schema.TheConstants.{CASES, NUMBERED_CASES, NAMED_CASES, DEADLINES, GRANTS, RESETS, MOTIONS, HEARINGS, PANELS, OUTAGES, CLOSINGS, ASSIGNMENTS, ENDINGS, RULINGS, TITLES, LABELS, ANSWERS, DESK_ANSWERS}
 
--- a table of names where the court's file has names
-abbrev pub cases_table : List NamedCase → List ℕ
-cases_table named = if length named == 0 then NUMBERED_CASES.now else NAMED_CASES.now
+-- what comes after the numbers of cases, with a column of names where the court's file has names
+abbrev pub cases_columns : List NamedCase → List ℕ
+cases_columns named = if length named == 0 then NUMBERED_CASES.now else NAMED_CASES.now
+
+-- the table of cases, whose numbers go up to this one
+unfoldable pub cases_table : (most : ℕ) → List NamedCase → List ℕ
+cases_table most named = CASES.now ++ decimal most ++ cases_columns named
 
 -- a row records a fact of a case, and so do some of these
 abbrev pub is_fact : Work → Bool
@@ -76,9 +81,9 @@ abbrev pub answers_table : (own : Bool) → List ℕ
 answers_table own = if own then DESK_ANSWERS.now else ANSWERS.now
 
 -- the tables that each script has
-unfoldable pub docket_tables : List NamedCase → List ℕ
-docket_tables named =
-    cases_table named
+unfoldable pub docket_tables : (most : ℕ) → List NamedCase → List ℕ
+docket_tables most named =
+    cases_table most named
     ++ DEADLINES.now
     ++ GRANTS.now
     ++ RESETS.now
@@ -97,5 +102,5 @@ fact_tables facts rulings assignments texts =
     ++ texts_tables texts
     ++ answers_table (facts || texts)
 
-unfoldable pub tables : List NamedCase → (facts rulings assignments texts : Bool) → List ℕ
-tables named facts rulings assignments texts = docket_tables named ++ fact_tables facts rulings assignments texts
+unfoldable pub tables : (most : ℕ) → List NamedCase → (facts rulings assignments texts : Bool) → List ℕ
+tables most named facts rulings assignments texts = docket_tables most named ++ fact_tables facts rulings assignments texts

@@ -64,7 +64,7 @@ unfoldable pub script_text : CourtView → LabelsView → List NumberedRow → L
 script_text court labels rows =
     let opening = opening_rows (setup_of court) in
     transaction_front
-    ++ tables labels.cases (have_facts rows) (have_rulings rows) (have_assignments rows) (have_texts rows)
+    ++ tables court.limits.cases labels.cases (have_facts rows) (have_rulings rows) (have_assignments rows) (have_texts rows)
     ++ answer_rows court labels opening rows
     ++ docketed_text court labels (docketed_after (setup_of court) opening (rows_of rows))
     ++ transaction_end

@@ -55,7 +55,7 @@ fn push_answer(
     court: &Court,
     labels: &Labels<'_>,
     place: u64,
-    clerk: u8,
+    clerk: u16,
     reply: &Reply,
 ) -> Result<(), AllocError>
     ensures { OnOk result (out.new ≡ out.old ++ answer_row court.now labels.now.cases place clerk reply.now) }

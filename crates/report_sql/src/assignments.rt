@@ -43,7 +43,7 @@ fn push_assignment(
 }
 
 /// Adds to whom a case is referred, or NULL where it is to nobody.
-fn push_referred(out: &mut Script, court: &Court, referred: Option<u8>) -> Result<(), AllocError>
+fn push_referred(out: &mut Script, court: &Court, referred: Option<u16>) -> Result<(), AllocError>
     ensures { OnOk result (AddsValues out.old out.new (or_null (judge_value court.now) referred ∷ [])) }
 {
     match referred {

@@ -59,6 +59,7 @@ fn push_script(
     push_front(out)?;
     push_tables(
         out,
+        court,
         labels,
         have_facts(rows),
         have_rulings(rows),

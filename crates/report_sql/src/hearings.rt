@@ -140,7 +140,7 @@ fn push_judges(
     court: &Court,
     case: u32,
     motion: u32,
-    judges: &[u8],
+    judges: &[u16],
 ) -> Result<(), AllocError>
     ensures { OnOk result (out.new ≡ out.old ++ numbered (judge_row court.now case motion) 1 judges.now) }
 {
@@ -159,7 +159,7 @@ fn push_judge(
     case: u32,
     motion: u32,
     place: u64,
-    judge: u8,
+    judge: u16,
 ) -> Result<(), AllocError>
     ensures { OnOk result (out.new ≡ out.old ++ judge_row court.now case motion place judge) }
 {
@@ -174,7 +174,7 @@ fn push_judge_values(
     court: &Court,
     motion: u32,
     place: u64,
-    judge: u8,
+    judge: u16,
 ) -> Result<(), AllocError>
     ensures { OnOk result (AddsValues out.old out.new (judge_values court.now motion place judge)) }
 {

@@ -1,22 +1,27 @@
 //! The tables.
 
 ghost use Rattle.std.specs.Prelude.{◌≡◌, ◌++◌, ◌||◌, OnOk};
-ghost use Rattle.report_sql.specs.Schema.{answers_table, assignments_table, cases_table, closings_table, docket_tables, endings_table, fact_tables, rulings_table, tables, texts_tables};
+ghost use Rattle.std.specs.Fmt.{decimal};
+ghost use Rattle.report_sql.specs.Schema.{answers_table, assignments_table, cases_columns, cases_table, closings_table, docket_tables, endings_table, fact_tables, rulings_table, tables, texts_tables};
 
 use crate::script::Script;
+use court_days::Court;
+use office_texts::most_cases;
 use report_texts::Labels;
 use std::alloc::AllocError;
 
-// The open cases, by their numbers.
-const NUMBERED_CASES: &str = "CREATE TABLE cases (
-  number INTEGER NOT NULL PRIMARY KEY CHECK (number BETWEEN 1 AND 4096),
+// The open cases, by their numbers, up to the greatest that a case can have.
+const CASES: &str = "CREATE TABLE cases (
+  number INTEGER NOT NULL PRIMARY KEY CHECK (number BETWEEN 1 AND ";
+
+// What comes after that number.
+const NUMBERED_CASES: &str = "),
   filed DATE NOT NULL
 );
 ";
 
 // The same with the name of each; NULL: it has none.
-const NAMED_CASES: &str = "CREATE TABLE cases (
-  number INTEGER NOT NULL PRIMARY KEY CHECK (number BETWEEN 1 AND 4096),
+const NAMED_CASES: &str = "),
   filed DATE NOT NULL,
   name VARCHAR(1000000)
 );
@@ -204,24 +209,29 @@ const DESK_ANSWERS: &str = "CREATE TABLE answers (
 #[tactic(auto, unfolding(crate::specs::Schema::tables))]
 pub(crate) fn push_tables(
     out: &mut Script,
+    court: &Court,
     labels: &Labels<'_>,
     facts: bool,
     rulings: bool,
     assignments: bool,
     texts: bool,
 ) -> Result<(), AllocError>
-    ensures { OnOk result (out.new ≡ out.old ++ tables labels.now.cases facts rulings assignments texts) }
+    ensures { OnOk result (out.new ≡ out.old ++ tables court.now.limits.cases labels.now.cases facts rulings assignments texts) }
 {
-    push_docket_tables(out, labels)?;
+    push_docket_tables(out, court, labels)?;
     push_fact_tables(out, facts, rulings, assignments, texts)
 }
 
 // Adds the tables that each script has.
 #[tactic(auto, unfolding(crate::specs::Schema::docket_tables))]
-fn push_docket_tables(out: &mut Script, labels: &Labels<'_>) -> Result<(), AllocError>
-    ensures { OnOk result (out.new ≡ out.old ++ docket_tables labels.now.cases) }
+fn push_docket_tables(
+    out: &mut Script,
+    court: &Court,
+    labels: &Labels<'_>,
+) -> Result<(), AllocError>
+    ensures { OnOk result (out.new ≡ out.old ++ docket_tables court.now.limits.cases labels.now.cases) }
 {
-    push_cases(out, labels)?;
+    push_cases(out, court, labels)?;
     out.statement(DEADLINES)?;
     out.statement(GRANTS)?;
     out.statement(RESETS)?;
@@ -325,8 +335,25 @@ fn push_answers(out: &mut Script, own: bool) -> Result<(), AllocError>
 }
 
 // Adds the table of the open cases, with their names where the court's file has names.
-fn push_cases(out: &mut Script, labels: &Labels<'_>) -> Result<(), AllocError>
-    ensures { OnOk result (out.new ≡ out.old ++ cases_table labels.now.cases) }
+#[tactic(auto, unfolding(crate::specs::Schema::cases_table))]
+fn push_cases(out: &mut Script, court: &Court, labels: &Labels<'_>) -> Result<(), AllocError>
+    ensures { OnOk result (out.new ≡ out.old ++ cases_table court.now.limits.cases labels.now.cases) }
+{
+    out.statement(CASES)?;
+    push_most(out, court)?;
+    push_columns(out, labels)
+}
+
+// Adds the greatest number that a case of the court can have.
+fn push_most(out: &mut Script, court: &Court) -> Result<(), AllocError>
+    ensures { OnOk result (out.new ≡ out.old ++ decimal court.now.limits.cases) }
+{
+    out.digits(most_cases(court))
+}
+
+// Adds the columns after the number, with one for names where the court's file has names.
+fn push_columns(out: &mut Script, labels: &Labels<'_>) -> Result<(), AllocError>
+    ensures { OnOk result (out.new ≡ out.old ++ cases_columns labels.now.cases) }
 {
     if labels.cases.named().is_empty() {
         out.statement(NUMBERED_CASES)

@@ -52,6 +52,13 @@ impl Script {
         self.bytes.extend_from_slice(statement.as_bytes())
     }
 
+    /// Adds the digits of a number, in a statement.
+    pub(crate) fn digits(&mut self, n: u32) -> Result<(), AllocError>
+        ensures { OnOk result (self.new ≡ self.old ++ decimal n) }
+    {
+        push_number(&mut self.bytes, u64::from(n))
+    }
+
     /// Begins a row of the table, whose first value is this number.
     #[tactic(auto, unfolding(crate::specs::Rows::row_front))]
     pub(crate) fn begin_row(&mut self, table: &'static str, first: u64) -> Result<(), AllocError>

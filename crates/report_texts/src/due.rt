@@ -76,7 +76,7 @@ pub fn push_chosen(
     push_case(text, labels, choice.case)
 }
 
-fn push_judge(text: &mut String, court: &Court, judge: Option<u8>) -> Result<(), AllocError>
+fn push_judge(text: &mut String, court: &Court, judge: Option<u16>) -> Result<(), AllocError>
     ensures { OnOk result (AddsText text.old text.new (judge_words court.now judge)) }
 {
     match judge {

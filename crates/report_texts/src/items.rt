@@ -161,7 +161,7 @@ fn push_hearing_front(text: &mut String) -> Result<(), AllocError>
 }
 
 /// Adds the name of a room. `Err` says that memory ran out.
-pub fn push_room(text: &mut String, court: &Court, room: u8) -> Result<(), AllocError>
+pub fn push_room(text: &mut String, court: &Court, room: u16) -> Result<(), AllocError>
     ensures { OnOk result (AddsText text.old text.new (room_words court.now room)) }
 {
     text.push_str(", room ")?;

@@ -25,7 +25,7 @@ pub fn push_panel(text: &mut String, court: &Court, panel: &Panel) -> Result<(),
 }
 
 /// Adds the name of each judge after a `+`.
-fn push_joined(text: &mut String, court: &Court, judges: &[u8]) -> Result<(), AllocError>
+fn push_joined(text: &mut String, court: &Court, judges: &[u16]) -> Result<(), AllocError>
     ensures { OnOk result (AddsText text.old text.new (flat_map (joined_name court.now) judges.now)) }
 {
     for judge in judges {
@@ -35,7 +35,7 @@ fn push_joined(text: &mut String, court: &Court, judges: &[u8]) -> Result<(), Al
 }
 
 /// Adds the name of a judge after a `+`.
-fn push_joined_name(text: &mut String, court: &Court, judge: u8) -> Result<(), AllocError>
+fn push_joined_name(text: &mut String, court: &Court, judge: u16) -> Result<(), AllocError>
     ensures { OnOk result (AddsText text.old text.new (joined_name court.now judge)) }
 {
     text.push_str("+")?;

@@ -139,7 +139,7 @@ fn push_item(
 }
 
 /// Adds who has the case. `Err` says that memory ran out.
-pub fn push_holder(text: &mut String, court: &Court, judge: Option<u8>) -> Result<(), AllocError>
+pub fn push_holder(text: &mut String, court: &Court, judge: Option<u16>) -> Result<(), AllocError>
     ensures { OnOk result (AddsText text.old text.new (holder_words court.now judge)) }
 {
     match judge {

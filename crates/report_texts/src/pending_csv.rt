@@ -191,7 +191,7 @@ fn push_label(
 }
 
 /// The name of the judge who has the case; empty where it isn't assigned.
-fn judge_text(court: &Court, judge: Option<u8>) -> &str
+fn judge_text(court: &Court, judge: Option<u16>) -> &str
     ensures { result.now ≡ judge_text court.now judge }
 {
     match judge {

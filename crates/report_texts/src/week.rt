@@ -25,7 +25,7 @@ pub fn push_week(
     text: &mut String,
     court: &Court,
     labels: &Labels<'_>,
-    judge: u8,
+    judge: u16,
     week: &[DayBookings],
 ) -> Result<(), AllocError>
     ensures { OnOk result (AddsText text.old text.new (week_text court.now labels.now judge week.now)) }
@@ -41,7 +41,7 @@ pub fn push_week(
 fn push_title(
     text: &mut String,
     court: &Court,
-    judge: u8,
+    judge: u16,
     week: &[DayBookings],
 ) -> Result<(), AllocError>
     ensures { OnOk result (AddsText text.old text.new (title court.now judge week.now)) }

@@ -29,7 +29,7 @@ pub const MAX_ROWS: u32 = 100_000;
 pub fn read_rows(
     alloc: Global,
     bytes: &[u8],
-    clerks: u8,
+    clerks: u16,
     court: &Court,
 ) -> Result<Vec<Row>, RowError>
     ensures { AnswersRows (λ rows. rows.items) result (rows_read clerks (names_of court.now) bytes.now) }
@@ -54,7 +54,7 @@ pub fn rows_reader(alloc: Global, bytes: &[u8]) -> Reader<&[u8]>
 fn take_rows(
     alloc: Global,
     reader: &mut Reader<&[u8]>,
-    clerks: u8,
+    clerks: u16,
     court: &Court,
 ) -> Result<Vec<Row>, RowError>
     requires { TakesAnyRow reader.old }
@@ -81,7 +81,7 @@ fn take_rows(
 
 // The row that the record of this number spells.
 fn numbered_row(
-    clerks: u8,
+    clerks: u16,
     court: &Court,
     number: u32,
     fields: &StringRecord,
@@ -97,7 +97,7 @@ fn numbered_row(
 
 /// The row that a record spells in the forms of the desk, for this number of clerks, or the cause why it spells none.
 #[tactic(auto, unfolding(crate::specs::Rows::row_of, crate::specs::Forms::work_of))]
-pub fn row_of(clerks: u8, court: &Court, fields: &StringRecord) -> Result<Row, RowCause>
+pub fn row_of(clerks: u16, court: &Court, fields: &StringRecord) -> Result<Row, RowCause>
     requires { list_all is_utf8 (fields_of fields.now) ≡ true }
     ensures { result ≡ row_of clerks (names_of court.now) (fields_of fields.now) }
 {
@@ -106,7 +106,7 @@ pub fn row_of(clerks: u8, court: &Court, fields: &StringRecord) -> Result<Row, R
 
 // The same in the forms of clerk_office, which takes no such names of periods.
 #[tactic(auto, unfolding(crate::specs::Rows::office_row_of, crate::specs::Forms::office_work_of))]
-fn office_row_of(clerks: u8, court: &Court, fields: &StringRecord) -> Result<Row, RowCause>
+fn office_row_of(clerks: u16, court: &Court, fields: &StringRecord) -> Result<Row, RowCause>
     requires { list_all is_utf8 (fields_of fields.now) ≡ true }
     ensures { result ≡ office_row_of clerks (names_of court.now) (fields_of fields.now) }
 {
@@ -122,7 +122,7 @@ fn office_row_of(clerks: u8, court: &Court, fields: &StringRecord) -> Result<Row
 // The row that a record spells whose command word names this form, if it names one. Its period may be named by the code of a section
 // or by the court where such names are taken.
 fn row_as(
-    clerks: u8,
+    clerks: u16,
     court: &Court,
     coded: bool,
     found: Option<Form>,
@@ -141,12 +141,12 @@ fn row_as(
 
 // A clerk's number, from 1 to the number of clerks.
 #[tactic(auto, unfolding(crate::specs::Rows::clerk_of))]
-pub(crate) fn clerk_of(clerks: u8, field: &str) -> Option<u8>
+pub(crate) fn clerk_of(clerks: u16, field: &str) -> Option<u16>
     ensures { result ≡ clerk_of clerks field.now }
 {
     let number = number_of(field)?;
     if number >= 1 && number <= u32::from(clerks) {
-        Some(number as u8)
+        Some(number as u16)
     } else {
         None
     }

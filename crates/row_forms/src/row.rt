@@ -8,7 +8,7 @@ use rule_periods::{Grant, Request};
 #[derive(Clone, Copy, Debug, PartialEq, Eq)]
 pub struct Row {
     /// The clerk's number, counted from 1.
-    pub clerk: u8,
+    pub clerk: u16,
     /// What the clerk asks for.
     pub work: Work,
 }
@@ -32,6 +32,6 @@ pub(crate) type RowTypes = Option<
         Option<Day>,
         Grant,
         Request,
-        (Fact, Ending, Closing, Ruling, Option<u8>, Counted),
+        (Fact, Ending, Closing, Ruling, Option<u16>, Counted),
     ),
 >;

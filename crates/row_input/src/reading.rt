@@ -197,7 +197,7 @@ impl Reading {
     fn read(
         &mut self,
         alloc: Global,
-        clerks: u8,
+        clerks: u16,
         court: &Court,
         order: Option<DateOrder>,
         marked: bool,
@@ -235,7 +235,7 @@ impl Reading {
 /// that memory ran out.
 pub fn read_input(
     alloc: Global,
-    clerks: u8,
+    clerks: u16,
     court: &Court,
     order: Option<DateOrder>,
     marked: bool,

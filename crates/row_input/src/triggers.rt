@@ -134,7 +134,7 @@ fn label_for(alloc: Global, court: &Court, field: &str, period: &str) -> Result<
 // What the row of a period is read as.
 fn period_row(
     alloc: Global,
-    clerks: u8,
+    clerks: u16,
     court: &Court,
     order: Option<DateOrder>,
     header: &Option<StringRecord>,
@@ -161,7 +161,7 @@ fn period_row(
 // Adds what the rows of these periods are read as.
 fn push_periods(
     alloc: Global,
-    clerks: u8,
+    clerks: u16,
     court: &Court,
     order: Option<DateOrder>,
     header: &Option<StringRecord>,
@@ -191,7 +191,7 @@ fn push_periods(
 // What a line without its mark comes to, which has this text and these fields as it is typed on plain keys.
 fn rows_typed(
     alloc: Global,
-    clerks: u8,
+    clerks: u16,
     court: &Court,
     order: Option<DateOrder>,
     header: &Option<StringRecord>,
@@ -220,7 +220,7 @@ fn rows_typed(
 #[tactic(auto, unfolding(crate::specs::Triggers::rows_of_line))]
 pub(crate) fn rows_of_line(
     alloc: Global,
-    clerks: u8,
+    clerks: u16,
     court: &Court,
     order: Option<DateOrder>,
     header: &Option<StringRecord>,

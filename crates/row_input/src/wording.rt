@@ -6,7 +6,7 @@ use row_written::Flaw;
 /// What a column holds.
 fn held(column: Column) -> &'static str {
     match column {
-        Column::Clerk => "the clerk's number, from 1 to 64",
+        Column::Clerk => "the clerk's number, from 1 to 65535",
         Column::Command => "a command word",
         Column::Case => "a number, as 7, or a case number, as 1:25-cv-01234",
         Column::Deadline =>

@@ -23,7 +23,7 @@ use std::alloc::{AllocError, Global};
 #[tactic(auto, unfolding(crate::specs::Called::row_called))]
 pub fn read_called(
     alloc: Global,
-    clerks: u8,
+    clerks: u16,
     court: &Court,
     order: Option<DateOrder>,
     header: &Option<StringRecord>,

@@ -15,7 +15,7 @@ use row_forms::{Line, Work, read_line};
 use std::alloc::{AllocError, Global};
 
 // Whether all numbers are below this one.
-fn are_below(numbers: &[u8], most: u8) -> bool
+fn are_below(numbers: &[u16], most: u16) -> bool
     ensures { result ≡ list_all (λ number. nat_lt number most) numbers.now }
 {
     numbers.iter().all(|number| *number < most)
@@ -29,7 +29,7 @@ fn setting_known(court: &Court, setting: &Setting) -> bool
 }
 
 // Whether the court has the judge to whom a case is referred, if it is.
-fn referred_known(court: &Court, referred: Option<u8>) -> bool
+fn referred_known(court: &Court, referred: Option<u16>) -> bool
     ensures { result ≡ referred_known (names_of court.now) referred }
 {
     match referred {
@@ -63,7 +63,7 @@ pub fn names_known(court: &Court, work: &Work) -> bool
 /// Whether a plain row stays as it is: where columns have no headings.
 pub(crate) fn stays(
     alloc: Global,
-    clerks: u8,
+    clerks: u16,
     court: &Court,
     header: &Option<StringRecord>,
     line: &[u8],

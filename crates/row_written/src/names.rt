@@ -22,7 +22,7 @@ pub enum Named {
 }
 
 // How many of these names the court has.
-fn count_of(court: &Court, of: Named) -> u8
+fn count_of(court: &Court, of: Named) -> u16
     ensures { result ≡ length (named (names_of court.now) of) }
 {
     match of {
@@ -32,7 +32,7 @@ fn count_of(court: &Court, of: Named) -> u8
 }
 
 // The name of that number; empty where there is none.
-fn name_at(court: &Court, of: Named, number: u8) -> &str
+fn name_at(court: &Court, of: Named, number: u16) -> &str
     ensures { result.now ≡ unwrap_or (slice_get (named (names_of court.now) of) number) [] }
 {
     match of {

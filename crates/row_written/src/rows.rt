@@ -39,7 +39,7 @@ pub(crate) type RowTypes = Option<
         Option<Day>,
         Grant,
         Request,
-        (Fact, Ending, Closing, Ruling, Option<u8>, Counted),
+        (Fact, Ending, Closing, Ruling, Option<u16>, Counted),
     ),
 >;
 
@@ -234,7 +234,7 @@ pub(crate) fn with_label(plain: Vec<u8>, label: Option<Vec<u8>>) -> WrittenLine
 // What a row with these plain fields is read as, in these columns.
 fn taken(
     alloc: Global,
-    clerks: u8,
+    clerks: u16,
     court: &Court,
     header: &Option<StringRecord>,
     text: &str,
@@ -262,7 +262,7 @@ fn taken(
 // What a row with this command word is read as, where what it makes is called so.
 pub(crate) fn row_worded(
     alloc: Global,
-    clerks: u8,
+    clerks: u16,
     court: &Court,
     order: Option<DateOrder>,
     header: &Option<StringRecord>,
@@ -305,7 +305,7 @@ pub(crate) fn row_worded(
 #[tactic(auto, unfolding(crate::specs::Rows::row_said))]
 fn row_said(
     alloc: Global,
-    clerks: u8,
+    clerks: u16,
     court: &Court,
     order: Option<DateOrder>,
     header: &Option<StringRecord>,
@@ -326,7 +326,7 @@ fn row_said(
 #[tactic(auto, unfolding(crate::specs::Rows::typed_as))]
 fn typed_as(
     alloc: Global,
-    clerks: u8,
+    clerks: u16,
     court: &Court,
     order: Option<DateOrder>,
     header: &Option<StringRecord>,
@@ -358,7 +358,7 @@ fn typed_as(
 #[tactic(auto, unfolding(crate::specs::Rows::read_as))]
 pub fn read_written(
     alloc: Global,
-    clerks: u8,
+    clerks: u16,
     court: &Court,
     order: Option<DateOrder>,
     header: &Option<StringRecord>,

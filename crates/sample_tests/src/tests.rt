@@ -7,6 +7,7 @@ mod days;
 mod deadlines;
 mod docket;
 mod facts;
+mod limits;
 mod office;
 mod office_clerks;
 mod reasons;

@@ -9,7 +9,7 @@ use versioned_steps::Entry;
 /// entries of this clerk are the first of these commands, in their order. Else the line says that they aren't.
 pub fn push_beginnings(
     text: &mut String,
-    clerks: u8,
+    clerks: u16,
     entries: &[Entry<Command, Answer>],
     rows: &[Row],
 ) -> Result<(), AllocError> {
@@ -36,7 +36,7 @@ fn push_count(text: &mut String, count: u64, all: u64) -> Result<(), AllocError>
 
 /// How many of the clerk's commands the journal has. None where its entries of this clerk aren't the first of the clerk's
 /// commands, in their order.
-fn beginning_of(clerk: u8, entries: &[Entry<Command, Answer>], rows: &[Row]) -> Option<u64> {
+fn beginning_of(clerk: u16, entries: &[Entry<Command, Answer>], rows: &[Row]) -> Option<u64> {
     let mut place = 0usize;
     let mut count = 0u64;
     for entry in entries {
@@ -53,7 +53,7 @@ fn beginning_of(clerk: u8, entries: &[Entry<Command, Answer>], rows: &[Row]) -> 
 }
 
 /// The clerk's first command among the rows from this place on, and the place after it. The first row's place is 0.
-fn next_command(clerk: u8, rows: &[Row], from: usize) -> Option<(Command, usize)> {
+fn next_command(clerk: u16, rows: &[Row], from: usize) -> Option<(Command, usize)> {
     for place in from..rows.len() {
         let row = &rows[place];
         if row.clerk == clerk
@@ -66,7 +66,7 @@ fn next_command(clerk: u8, rows: &[Row], from: usize) -> Option<(Command, usize)
 }
 
 /// How many of these rows are commands of the clerk.
-fn commands_of(clerk: u8, rows: &[Row]) -> u64 {
+fn commands_of(clerk: u16, rows: &[Row]) -> u64 {
     let mut count = 0u64;
     for row in rows {
         if row.clerk == clerk && matches!(row.work, Work::Command(_)) {

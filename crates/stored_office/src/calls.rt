@@ -16,7 +16,7 @@ type RowTypes = Option<
         Option<Day>,
         Grant,
         Request,
-        (Fact, Ending, Closing, Ruling, Option<u8>, Counted),
+        (Fact, Ending, Closing, Ruling, Option<u16>, Counted),
     ),
 >;
 
@@ -82,7 +82,7 @@ fn call_of(alloc: Global, court: &Court, line: &str) -> Result<Call> {
         "show" => {
             let Row { clerk, work } = row_in(alloc, court, rest)?;
             match work {
-                Work::Query(query) => Ok(Call::Show(clerk, query)),
+                Work::Query(query) => Ok(Call::Show(clerk as u8, query)),
                 Work::Command(_) => bail!("no query: {rest}"),
             }
         }
@@ -100,7 +100,7 @@ fn command_in(alloc: Global, court: &Court, text: &str) -> Result<(u8, Command)>
     let _types: RowTypes = None;
     let Row { clerk, work } = row_in(alloc, court, text)?;
     match work {
-        Work::Command(command) => Ok((clerk, command)),
+        Work::Command(command) => Ok((clerk as u8, command)),
         Work::Query(_) => bail!("no command: {text}"),
     }
 }

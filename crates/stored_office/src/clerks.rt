@@ -51,7 +51,7 @@ fn rows_in(alloc: Global, court: &Court, clerks: u8, lines: &str) -> Result<Vec<
     ensures { IfOk result (λ rows. AreOfClerks clerks rows.items) }
 {
     rows_are_bounded();
-    match read_rows(alloc, lines.as_bytes(), clerks, court) {
+    match read_rows(alloc, lines.as_bytes(), clerks as u16, court) {
         Ok(rows) => Ok(rows),
         Err(RowError::Fault(number, cause)) => bail!("fault {cause} in row {number}"),
         Err(RowError::OutOfMemory) => bail!("no memory is left"),
@@ -143,7 +143,7 @@ fn push_closed<L: NamesOffice, R: Wait>(
 {
     match office.close(rt, tallies) {
         Ok(journal) => {
-            push_beginnings(text, opening.seats, journal.entries(), rows)?;
+            push_beginnings(text, u16::from(opening.seats), journal.entries(), rows)?;
             Ok(())
         }
         Err(refused) => {

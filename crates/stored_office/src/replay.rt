@@ -22,7 +22,7 @@ type AnswerTypes = Option<
         Request,
         Shown,
         Fact,
-        (Ending, Closing, Ruling, Option<u8>, Counted),
+        (Ending, Closing, Ruling, Option<u16>, Counted),
     ),
 >;
 

@@ -122,7 +122,7 @@ fn setting(clerk: u8, place: u32, case: u32, motion: u32) -> Setting {
         case,
         motion,
         judges: panel(drawn % 3),
-        room: (drawn / 3 % 2) as u8,
+        room: (drawn / 3 % 2) as u16,
         day: day(20 + drawn / 6 % 30),
         first: 34 + (drawn / 180 % 32) as u8,
         count: 1 + drawn / 5760 % 2,

@@ -141,7 +141,7 @@ fn opened(
 ) -> Ended
     requires works { has_failed writer.old ≡ false }
     requires some { 0 < length entries.now }
-    requires few { length entries.now ≤ 1000000 }
+    requires few { length entries.now ≤ 100000000 }
 {
     let ended = match task {
         Task::Try(_, _, held_back) => {
@@ -225,7 +225,7 @@ fn asked(
     writer: &mut Watched<Vec<u8>>,
 ) -> Result<(), DeskFault>
     requires works { has_failed writer.old ≡ false }
-    requires few { length entries.now ≤ 1000000 }
+    requires few { length entries.now ≤ 100000000 }
 {
     let docketed = match Docketed::of(alloc, entries) {
         Ok(docketed) => docketed,
@@ -270,7 +270,7 @@ fn checked(
     writer: &mut Watched<Vec<u8>>,
 ) -> Result<(), DeskFault>
     requires works { has_failed writer.old ≡ false }
-    requires few { length entries.now ≤ 1000000 }
+    requires few { length entries.now ≤ 100000000 }
 {
     checked_times(alloc, file, entries, writer)?;
     match checked_rows(alloc, entries) {
@@ -302,7 +302,7 @@ fn corrected(
 ) -> Result<(), DeskFault>
     requires works { has_failed writer.old ≡ false }
     requires some { 0 < length entries.now }
-    requires few { length entries.now ≤ 1000000 }
+    requires few { length entries.now ≤ 100000000 }
 {
     let said = match done {
         RowCorrection::Strike => "struck",
@@ -332,7 +332,7 @@ fn changed(
 ) -> Result<(), DeskFault>
     requires works { has_failed writer.old ≡ false }
     requires some { 0 < length entries.now }
-    requires few { length entries.now ≤ 1000000 }
+    requires few { length entries.now ≤ 100000000 }
 {
     Ok(desk.change(alloc, entries, file, accept, writer)?)
 }

@@ -7,7 +7,7 @@ ghost use Rattle.published_docket.specs.Words.{IsShown};
 use court_days::Court;
 use docket_rows::{Query, View};
 use hearing_slots::{Block, Booking, CalendarRef};
-use office_texts::{Closing, push_calendar};
+use office_texts::{Closing, most_cases, push_calendar};
 use published_docket::{Board, calendar, show};
 use std::alloc::{AllocError, Global};
 use std::marker::Model;
@@ -46,6 +46,10 @@ impl Closing for LastDocket {
 
     ghost parts = { λ d. parts_of (rows_of d.parts d.trail.log) };
 
+    fn last_sheet(&self, court: &Court) -> u32 {
+        most_cases(court)
+    }
+
     fn sheet(&self, alloc: Global, case: u32) -> Result<View, AllocError> {
         show(alloc, &self.board, &Query::Sheet(case))
     }
@@ -55,7 +59,7 @@ impl Closing for LastDocket {
         alloc: Global,
         text: &mut String,
         court: &Court,
-        judge: u8,
+        judge: u16,
     ) -> Result<(), AllocError> {
         let bookings = listed(alloc, calendar(&self.board, judge))?;
         push_calendar(text, court, judge, &bookings)

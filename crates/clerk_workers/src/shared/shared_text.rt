@@ -59,7 +59,7 @@ impl MadeText for SharedText {
 }
 
 // Hands over what comes before an answer: the number of the row, counted from 1, and that of its clerk.
-fn hand_numbers<W: Write>(gathered: &mut Gathered, writer: &mut Watched<W>, number: u64, clerk: u8)
+fn hand_numbers<W: Write>(gathered: &mut Gathered, writer: &mut Watched<W>, number: u64, clerk: u16)
     ensures { Adds W.contents writer.old gathered.old writer.new gathered.new (row_numbers number clerk) }
 {
     let mut digits = Buffer::new();

@@ -13,7 +13,7 @@ use std::alloc::{AllocError, Global};
 use toml::{Table, Value};
 
 /// The most judges, or rooms, that a court may have.
-const MOST_NAMES: usize = 32;
+const MOST_NAMES: usize = 1_000;
 
 /// Adds the faults of the list of names at a key.
 #[tactic(auto, using(crate::proofs::ReadLemmas::fails_is), unfolding(crate::specs::Faults::names_faults))]

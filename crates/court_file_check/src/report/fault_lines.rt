@@ -205,7 +205,7 @@ fn push_too_many(sheet: &mut Sheet<'_>, key: Key) -> Result<(), AllocError> {
     sheet.fault_at(key, None)?;
     match key {
         Key::Judges | Key::Rooms => sheet.end(
-            "the list has more than 32 names; use a file of its own for a part of the court",
+            "the list has more than 1,000 names; use a file of its own for a part of the court",
         ),
         _ => sheet.end(
             "the list has more than 4,096 dates; leave out those before from and after to, which do nothing",

@@ -1,11 +1,12 @@
 -- The text of a run is the same by each value of one court.
 use Rattle.std.proofs.Common.{◌≡◌, ◌++◌, ◌+◌, ◌∙◌, ℕ, zero, suc, List, [], ◌∷◌, length, codes, decimal, refl, ap}
+use Rattle.court_days.specs.declared.limits.Limits.{Limits}
 use Rattle.court_days.specs.Words.{CourtView, IsSameCourt}
 use Rattle.docket_rows.specs.declared.answer.Answer.{Answer}
 use Rattle.docket_rows.specs.declared.query.Query.TheVariants as query
 use Rattle.docket_rows.specs.declared.view.View.{View}
 use Rattle.docket_rows.specs.declared.view.View.TheVariants as view
-use Rattle.docket_rows.specs.Words.{Parts, Rows, setup_of, last_case, opening_rows, parts_of, seen_by}
+use Rattle.docket_rows.specs.Words.{Parts, Rows, setup_of, opening_rows, parts_of, seen_by}
 use Rattle.docket_laws.specs.Words.{IsSameSetup}
 use Rattle.docket_laws.proofs.CallerLemmas.{same_setup, step_alike, seen_alike, view_alike}
 use Rattle.office_texts.specs.Words.{calendar_lines}
@@ -78,8 +79,8 @@ module _ (a b : CourtView) (same : IsSameCourt a b) where
 
   closing_alike : (parts : Parts) → closing_text a parts ≡ closing_text b parts
   closing_alike parts =
-      ap (λ s. s ++ calendars_from a parts 0 (length a.judges)) (sheets_alike parts 1 last_case)
-      ∙ ap (λ s. sheets_from b parts 1 last_case ++ s) (calendars_alike parts 0 (length a.judges) ∙ ap (λ judges. calendars_from b parts 0 (length judges)) same.judges)
+      ap (λ s. s ++ calendars_from a parts 0 (length a.judges)) (sheets_alike parts 1 a.limits.cases ∙ ap (λ (l : Limits). sheets_from b parts 1 l.cases) same.limits)
+      ∙ ap (λ s. sheets_from b parts 1 b.limits.cases ++ s) (calendars_alike parts 0 (length a.judges) ∙ ap (λ judges. calendars_from b parts 0 (length judges)) same.judges)
 
   opening_alike : opening_rows (setup_of a) ≡ opening_rows (setup_of b)
   opening_alike = ap (λ days. record { days = days; cases = []; deadlines = []; motions = []; hearings = []; facts = [] }) same.days

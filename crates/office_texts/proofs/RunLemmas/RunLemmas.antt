@@ -1,5 +1,5 @@
 -- What rows are answered one after another, and what comes after the replies.
-use Rattle.std.proofs.Common.{◌≡◌, ◌+◌, ◌-◌, ◌<◌, ◌++◌, ℕ, zero, suc, List, [], ◌∷◌, length, take, get_or, refl, ap, ◌∙◌, arith}
+use Rattle.std.proofs.Common.{◌≡◌, ◌+◌, ◌-◌, ◌<◌, ◌≤◌, ◌++◌, ℕ, zero, suc, List, [], ◌∷◌, length, take, get_or, None, refl, ap, ◌∙◌, arith}
 use Rattle.std.specs.List.{flat_map, range_with_len}
 use Rattle.std.proofs.lemmas.Grind.{take_at_read}
 use Rattle.docket_rows.specs.declared.answer.Answer.{Answer}
@@ -7,8 +7,8 @@ use Rattle.docket_rows.specs.declared.command.Command.{Command as CommandOf}
 use Rattle.court_days.specs.Words.{CourtView}
 use Rattle.docket_rows.specs.declared.part.PartId.{PartId}
 use Rattle.docket_rows.specs.declared.query.Query.TheVariants as query
-use Rattle.docket_rows.specs.Words.{CourtSetup, Parts, Rows, AreSound, setup_of, last_case, opening_rows, part_value, parts_of, seen_by, step}
-use Rattle.docket_laws.proofs.CallerLemmas.{hold_same, same_view, sound_step}
+use Rattle.docket_rows.specs.Words.{CourtSetup, Parts, Rows, AreSound, setup_of, opening_rows, part_value, parts_of, seen_by, step}
+use Rattle.docket_laws.proofs.CallerLemmas.{hold_same, no_sheet, range_to, same_view, sound_step}
 use Rattle.docket_core.specs.Words.{DocketView, StandsFor, parts_held}
 use Rattle.office_texts.specs.Words.{calendar_lines}
 use Rattle.row_forms.specs.declared.row.Row.{Row}
@@ -51,6 +51,14 @@ unfolding calendars_from
 calendars_more court parts first last before =
     ap (flat_map (λ judge. calendar_lines court judge (parts.judge judge))) (range_more first last (last - first) before refl)
 
+-- a case with a number past the last one has no sheet, so that the sheets up to there are all of them
+pub sheets_to : (court : CourtView) (d : DocketView) (last : ℕ) → d.setup ≡ setup_of court → last ≤ d.setup.limits.cases → ((case : ℕ) → last < case → (parts_held d).case case ≡ None) → sheets_from court (parts_held d) 1 court.limits.cases ≡ sheets_from court (parts_held d) 1 last
+unfolding sheets_from
+sheets_to court d last made few none =
+    let within : last ≤ court.limits.cases = rw made at few in
+    range_to (λ case. sheet_shown court (seen_by (setup_of court) (parts_held d) (query.Sheet case))) 1 last court.limits.cases within
+    (λ case past. ap (sheet_shown court) (no_sheet (setup_of court) (parts_held d) case (none case (omega (arith, past)))))
+
 -- parts that hold the same show the same
 sheets_same : (court : CourtView) (p q : Parts) → ((part : PartId) → part_value p part ≡ part_value q part) → (first count : ℕ) → sheets_from court p first count ≡ sheets_from court q first count
 unfolding sheets_from
@@ -66,8 +74,8 @@ calendars_same court p q same first (suc n) =
 
 pub closing_same : (court : CourtView) (p q : Parts) → ((part : PartId) → part_value p part ≡ part_value q part) → closing_text court p ≡ closing_text court q
 closing_same court p q same =
-    ap (λ s. s ++ calendars_from court p 0 (length court.judges)) (sheets_same court p q same 1 last_case)
-    ∙ ap (λ s. sheets_from court q 1 last_case ++ s) (calendars_same court p q same 0 (length court.judges))
+    ap (λ s. s ++ calendars_from court p 0 (length court.judges)) (sheets_same court p q same 1 court.limits.cases)
+    ∙ ap (λ s. sheets_from court q 1 court.limits.cases ++ s) (calendars_same court p q same 0 (length court.judges))
 
 -- the text that was made piece by piece
 pub run_text_made : (court : CourtView) (rows : List Row) (d : DocketView) (empty replies whole : List ℕ) → empty ≡ [] → replies ≡ empty ++ lines_from court (opening_rows (setup_of court)) 1 rows → Holds (setup_of court) d (docketed_after (setup_of court) (opening_rows (setup_of court)) rows) → whole ≡ replies ++ closing_text court (parts_held d) → whole ≡ run_text court rows

@@ -13,7 +13,7 @@ use Rattle.office_texts.specs.declared.names.called.CaseCalled.TheVariants.{Name
 abbrev pub is_digits : List ℕ → Bool
 is_digits text = nat_le 1 (length text) && nat_le (length text) 9 && list_all is_ascii_digit text
 
--- a number that a case can have: 1 to 4,096
+-- a number that a case can have: 1 to 1,000,000
 abbrev pub in_range : ℕ → Option ℕ
 in_range n = if nat_le 1 n && nat_le n last_number then Some n else None
 

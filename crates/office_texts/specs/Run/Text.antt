@@ -6,7 +6,7 @@ use Rattle.court_days.specs.Words.{CourtView}
 use Rattle.docket_rows.specs.declared.query.Query.TheVariants as query
 use Rattle.docket_rows.specs.declared.view.View.{View}
 use Rattle.docket_rows.specs.declared.view.View.TheVariants as view
-use Rattle.docket_rows.specs.Words.{Parts, Rows, setup_of, last_case, opening_rows, parts_of, seen_by}
+use Rattle.docket_rows.specs.Words.{Parts, Rows, setup_of, opening_rows, parts_of, seen_by}
 use Rattle.row_forms.specs.declared.row.Row.{Row}
 use Rattle.office_texts.specs.Words.{answer_text, calendar_lines, sheet_lines, view_lines}
 use Rattle.office_texts.specs.declared.run.reply.Reply.{Reply}
@@ -48,7 +48,7 @@ calendars_from court parts first count = flat_map (λ judge. calendar_lines cour
 
 -- the sheets of all open cases, by number, and the calendars of all judges, in the order of the court's file
 abbrev pub closing_text : CourtView → Parts → List ℕ
-closing_text court parts = sheets_from court parts 1 last_case ++ calendars_from court parts 0 (length court.judges)
+closing_text court parts = sheets_from court parts 1 court.limits.cases ++ calendars_from court parts 0 (length court.judges)
 
 -- the text of a run
 unfoldable pub run_text : CourtView → List Row → List ℕ

@@ -17,7 +17,7 @@ pub fn push_named_calendar(
     text: &mut String,
     court: &Court,
     cases: &Cases,
-    judge: u8,
+    judge: u16,
     bookings: &[Booking],
 ) -> Result<(), AllocError>
     ensures { OnOk result (AddsText text.old text.new (named_calendar court.now cases.now.named judge bookings.now)) }

@@ -21,7 +21,7 @@ pub fn push_named_line(
     court: &Court,
     cases: &Cases,
     number: u64,
-    clerk: u8,
+    clerk: u16,
     reply: &Reply,
 ) -> Result<(), AllocError>
     ensures { OnOk result (AddsText text.old text.new (named_line_of court.now cases.now.named number clerk reply.now)) }

@@ -6,19 +6,21 @@ ghost use Rattle.std.specs.List.{list_all};
 ghost use Rattle.office_texts.specs.Names.Called.{case_called, case_number, in_range, is_digits, number_called};
 
 use case_numbers::{CaseName, Cases, case_read};
-use docket_rows::LAST_CASE;
 use std::alloc::{AllocError, Global};
+
+// The greatest number that a case can have: `last_number` of the specs of case_numbers.
+const LAST_CASE: u32 = 1_000_000;
 
 /// What a case is called.
 #[derive(Debug, Drop)]
 pub enum CaseCalled {
-    /// Its number, 1 to 4,096.
+    /// Its number, 1 to 1,000,000.
     Number(u32),
     /// Its name, as the court writes it.
     Name(CaseName),
 }
 
-/// What case a text calls: by a number of one to nine decimal digits that is 1 to 4,096, or by a name. `None` says that it
+/// What case a text calls: by a number of one to nine decimal digits that is 1 to 1,000,000, or by a name. `None` says that it
 /// is neither; `Err` that memory ran out.
 #[tactic(auto, unfolding(crate::specs::Names::Called::case_called))]
 pub fn case_called(alloc: Global, text: &str) -> Result<Option<CaseCalled>, AllocError>

@@ -3,13 +3,14 @@
 ghost use Rattle.std.specs.Prelude.{◌≡◌, ◌+◌, ◌<◌, ◌≤◌, length, IfOk, OnOk};
 ghost use Rattle.docket_rows.specs.declared.query.Query.TheVariants as query;
 ghost use Rattle.docket_rows.specs.Words.{setup_of, most_names, seen_by};
+ghost use Rattle.docket_core.specs.Words.{parts_held};
 ghost use Rattle.office_texts.specs.Words.{AddsText, calendar_lines};
 ghost use Rattle.office_texts.specs.Run.Text.{calendars_from, closing_text, sheet_shown, sheets_from};
 
 use crate::{push_calendar, push_sheet};
 use court_days::Court;
 use docket_core::Docket;
-use docket_rows::{LAST_CASE, Query, View};
+use docket_rows::{Query, View};
 use std::alloc::{AllocError, Global};
 
 /// A docket whose sheets and calendars are written.
@@ -19,6 +20,12 @@ pub trait Closing {
     ghost setup: { Self → CourtSetup };
 
     ghost parts: { Self → Parts };
+
+    /// The number of a case of this court after which no case has a sheet.
+    fn last_sheet(&self, court: &Court) -> u32
+        requires { setup self.now ≡ setup_of court.now }
+        ensures most { result ≤ 1_000_000 }
+        ensures all { sheets_from court.now (parts self.now) 1 court.now.limits.cases ≡ sheets_from court.now (parts self.now) 1 result };
 
     /// The sheet of the case, or why there is none. `Err` says that memory ran out.
     fn sheet(&self, alloc: Global, case: u32) -> Result<View, AllocError>
@@ -30,7 +37,7 @@ pub trait Closing {
         alloc: Global,
         text: &mut String,
         court: &Court,
-        judge: u8,
+        judge: u16,
     ) -> Result<(), AllocError>
         requires { judge < (setup self.now).judges }
         ensures { OnOk result (AddsText text.old text.new (calendar_lines court.now judge ((parts self.now).judge judge))) };
@@ -43,6 +50,10 @@ impl Closing for Docket {
 
     ghost parts = { parts_held };
 
+    fn last_sheet(&self, court: &Court) -> u32 {
+        last_open(self, court)
+    }
+
     fn sheet(&self, alloc: Global, case: u32) -> Result<View, AllocError> {
         self.show(alloc, &Query::Sheet(case))
     }
@@ -52,13 +63,30 @@ impl Closing for Docket {
         _alloc: Global,
         text: &mut String,
         court: &Court,
-        judge: u8,
+        judge: u16,
     ) -> Result<(), AllocError> {
         match self.calendar(judge) {
             Some(calendar) => push_calendar(text, court, judge, calendar.all()),
             None => unreachable!(),
         }
     }
+}
+
+/// How many cases a docket of the court holds at most.
+pub fn most_cases(court: &Court) -> u32
+    ensures value { result ≡ court.now.limits.cases }
+    ensures most { result ≤ 1_000_000 }
+{
+    court.limits().cases
+}
+
+/// The number after which no case of a docket is open.
+fn last_open(docket: &Docket, court: &Court) -> u32
+    requires { docket.now.setup ≡ setup_of court.now }
+    ensures most { result ≤ 1_000_000 }
+    ensures all { sheets_from court.now (parts_held docket.now) 1 court.now.limits.cases ≡ sheets_from court.now (parts_held docket.now) 1 result }
+{
+    docket.last_case()
 }
 
 /// Adds the sheets of all open cases and the calendars of all judges. `Err` says that memory ran out.
@@ -71,8 +99,22 @@ pub fn push_closing<D: Closing>(
     requires { D.setup docket.now ≡ setup_of court.now }
     ensures { OnOk result (AddsText text.old text.new (closing_text court.now (D.parts docket.now))) }
 {
-    push_sheets(alloc, text, court, docket, 1, LAST_CASE)?;
+    push_all_sheets(alloc, text, court, docket)?;
     push_calendars(alloc, text, court, docket, 0, court.judges())
+}
+
+/// Adds the sheets of all open cases.
+fn push_all_sheets<D: Closing>(
+    alloc: Global,
+    text: &mut String,
+    court: &Court,
+    docket: &D,
+) -> Result<(), AllocError>
+    requires { D.setup docket.now ≡ setup_of court.now }
+    ensures { OnOk result (AddsText text.old text.new (sheets_from court.now (D.parts docket.now) 1 court.now.limits.cases)) }
+{
+    let last = docket.last_sheet(court);
+    push_sheets(alloc, text, court, docket, 1, last)
 }
 
 /// Adds the sheets of those of `count` cases that are open, from the first number on.
@@ -85,7 +127,7 @@ fn push_sheets<D: Closing>(
     count: u32,
 ) -> Result<(), AllocError>
     requires court { D.setup docket.now ≡ setup_of court.now }
-    requires numbers { first + count ≤ 5_000 }
+    requires numbers { first + count ≤ 1_000_001 }
     ensures { OnOk result (AddsText text.old text.new (sheets_from court.now (D.parts docket.now) first count)) }
 {
     for case in first..first + count {
@@ -111,8 +153,8 @@ fn push_calendars<D: Closing>(
     text: &mut String,
     court: &Court,
     docket: &D,
-    first: u8,
-    count: u8,
+    first: u16,
+    count: u16,
 ) -> Result<(), AllocError>
     requires court { D.setup docket.now ≡ setup_of court.now }
     requires numbers { first + count ≤ length court.now.judges }

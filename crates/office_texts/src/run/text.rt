@@ -54,7 +54,7 @@ fn push_line(
     text: &mut String,
     court: &Court,
     number: u64,
-    clerk: u8,
+    clerk: u16,
     reply: &Reply,
 ) -> Result<(), AllocError>
     ensures { OnOk result (AddsText text.old text.new (line_of court.now number clerk reply.now)) }
@@ -65,7 +65,7 @@ fn push_line(
 
 /// Adds what comes before a reply: the number of the row, counted from 1, and that of its clerk. `Err` says that memory
 /// ran out.
-pub fn push_numbers(text: &mut String, number: u64, clerk: u8) -> Result<(), AllocError>
+pub fn push_numbers(text: &mut String, number: u64, clerk: u16) -> Result<(), AllocError>
     ensures { OnOk result (AddsText text.old text.new (row_numbers number clerk)) }
 {
     push_number(text, number)?;

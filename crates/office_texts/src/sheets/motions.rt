@@ -98,7 +98,7 @@ pub fn push_hearing(
 }
 
 /// Adds the names of a panel's judges, in its order, joined by `+`.
-fn push_panel(text: &mut String, court: &Court, panel: &[u8]) -> Result<(), AllocError>
+fn push_panel(text: &mut String, court: &Court, panel: &[u16]) -> Result<(), AllocError>
     ensures { OnOk result (AddsText text.old text.new (panel_text court.now.judges panel.now)) }
 {
     match panel {

@@ -114,7 +114,7 @@ fn no_case(alloc: Global, shown: &str, text: &str) -> OptionsFault
     ensures { IsFaultAmong (ErrorKind.ValueValidation ∷ []) result }
 {
     match format!(in alloc;
-        "error: invalid value '{text}' for '{shown}': write a case as its number, 1 to 4096, or as 1:25-cv-01234-ABC\n\nFor more information, try '--help'.\n"
+        "error: invalid value '{text}' for '{shown}': write a case as its number, 1 to 1000000, or as 1:25-cv-01234-ABC\n\nFor more information, try '--help'.\n"
     ) {
         Ok(text) => OptionsFault::BadWords(text),
         Err(_) => OptionsFault::OutOfMemory,

@@ -23,7 +23,7 @@ pub fn read_rows_by<H: Threads + Sync>(
     rt: &H,
     alloc: Global,
     text: &[u8],
-    clerks: u8,
+    clerks: u16,
     court: &Court,
     readers: u8,
 ) -> Result<Vec<Row>, RowError>

@@ -24,7 +24,7 @@ pub(crate) trait RowReader {
 #[derive(Drop)]
 pub(crate) struct CourtRows<'a> {
     pub(crate) alloc: Global,
-    pub(crate) clerks: u8,
+    pub(crate) clerks: u16,
     pub(crate) court: &'a Court,
 }
 

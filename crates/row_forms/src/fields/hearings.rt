@@ -31,7 +31,7 @@ pub fn panel_named(court: &Court, field: &str) -> Option<Panel>
 
 /// The number of the judge with this name, and the number past the last where the court has none.
 #[tactic(auto, unfolding(crate::specs::CourtNames::number_named))]
-pub fn judge_named(court: &Court, name: &str) -> u8
+pub fn judge_named(court: &Court, name: &str) -> u16
     ensures { result ≡ number_named court.now.judges name.now }
 {
     court.judge(name).unwrap_or(court.judges())
@@ -39,7 +39,7 @@ pub fn judge_named(court: &Court, name: &str) -> u8
 
 /// The number of the judge whose name a field says, as above; an empty field says none.
 #[tactic(auto, unfolding(crate::specs::CourtNames::number_if_named))]
-pub fn judge_if_named(court: &Court, name: &str) -> Option<u8>
+pub fn judge_if_named(court: &Court, name: &str) -> Option<u16>
     ensures { result ≡ number_if_named court.now.judges name.now }
 {
     if name.is_empty() {
@@ -50,7 +50,7 @@ pub fn judge_if_named(court: &Court, name: &str) -> Option<u8>
 
 /// The number of the room with this name, and the number past the last where the court has none.
 #[tactic(auto, unfolding(crate::specs::CourtNames::number_named))]
-pub fn room_named(court: &Court, name: &str) -> u8
+pub fn room_named(court: &Court, name: &str) -> u16
     ensures { result ≡ number_named court.now.rooms name.now }
 {
     court.room(name).unwrap_or(court.rooms())

@@ -13,7 +13,7 @@ use std::alloc::{AllocError, Global};
 /// The clerk of the first row of a text, which may be a line alone, for an office with this number of clerks, whatever else is
 /// wrong with the row. `None` says that the first field is no clerk's number, or that a field isn't text. `Err` says that
 /// memory ran out.
-pub fn read_clerk(alloc: Global, bytes: &[u8], clerks: u8) -> Result<Option<u8>, AllocError>
+pub fn read_clerk(alloc: Global, bytes: &[u8], clerks: u16) -> Result<Option<u16>, AllocError>
     ensures { IfOk result (λ clerk. clerk ≡ clerk_read clerks bytes.now) }
 {
     let mut fields = StringRecord::new(alloc);

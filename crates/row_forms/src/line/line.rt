@@ -29,7 +29,7 @@ pub enum Line {
 pub fn read_line(
     alloc: Global,
     bytes: &[u8],
-    clerks: u8,
+    clerks: u16,
     court: &Court,
     fields: &mut StringRecord,
 ) -> Result<Line, AllocError>

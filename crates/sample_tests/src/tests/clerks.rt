@@ -177,7 +177,7 @@ fn answers_to<R: Threads + Wait + Sync + Abort, G: Gate>(
     panic!(rt; "no run was started in eight tries")
 }
 
-fn open(rt: &impl Abort, clerk: u8, case: u32) -> Row
+fn open(rt: &impl Abort, clerk: u16, case: u32) -> Row
     ensures { result.clerk ≡ clerk }
 {
     let filed = day(rt, "2025-03-03");
@@ -187,7 +187,7 @@ fn open(rt: &impl Abort, clerk: u8, case: u32) -> Row
     }
 }
 
-fn sheet(clerk: u8) -> Row
+fn sheet(clerk: u16) -> Row
     ensures { result.clerk ≡ clerk }
 {
     Row {
@@ -196,7 +196,7 @@ fn sheet(clerk: u8) -> Row
     }
 }
 
-fn motion(rt: &impl Abort, clerk: u8) -> Row
+fn motion(rt: &impl Abort, clerk: u16) -> Row
     ensures { result.clerk ≡ clerk }
 {
     let served = day(rt, "2025-08-29");

@@ -134,7 +134,7 @@ pub(super) fn book(rt: &impl Abort) -> Command {
 }
 
 /// How many hearings the judge has.
-pub(super) fn booked(docket: &Docket, judge: u8) -> Option<usize> {
+pub(super) fn booked(docket: &Docket, judge: u16) -> Option<usize> {
     docket.calendar(judge).map(|calendar| calendar.all().len())
 }
 

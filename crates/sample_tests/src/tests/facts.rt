@@ -154,7 +154,7 @@ fn a_case_is_closed_and_reopened(rt: HostRuntime) -> Result<(), Fail> {
 }
 
 /// Assigns case 1 on this day.
-fn assign(rt: &impl Abort, judge: u8, referred: Option<u8>, text: &str) -> Command {
+fn assign(rt: &impl Abort, judge: u16, referred: Option<u16>, text: &str) -> Command {
     let dated = day(rt, text);
     recorded(Fact::Assigned {
         judge,

@@ -4,4 +4,4 @@ use Rattle.case_numbers.proofs.cases.Cases.fresh.Given as goal
 
 -- the numbers that are left decide
 abbrev pub invariant-loop-number : goal.invariant-loop-number
-invariant-loop-number l = first_free l.self.opened l.number-counter (4097 - l.number-counter) ≡ fresh l.self
+invariant-loop-number l = first_free l.self.opened l.number-counter (1_000_001 - l.number-counter) ≡ fresh l.self
