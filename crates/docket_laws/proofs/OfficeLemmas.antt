@@ -1,5 +1,5 @@
 -- How much a docket of clerk_office holds at most.
-use Rattle.std.proofs.Common.{◌≡◌, nat_le, ◌&&◌, ap}
+use Rattle.std.proofs.Common.{nat_le, ◌&&◌, ap}
 use Rattle.court_days.specs.declared.limits.Limits.{Limits}
 use Rattle.court_days.specs.Words.{file_of}
 use Rattle.court_days.proofs.CallerLemmas.{files_name_no_limits}
