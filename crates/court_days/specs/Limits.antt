@@ -1,5 +1,5 @@
 -- How much the docket of a court holds at most. A court's file doesn't say it: it follows from who reads the file.
-use Rattle.std.specs.Prelude.{ℕ, ◌≤◌, nat_le, if◌then◌else◌}
+use Rattle.std.specs.Prelude.{◌≤◌, min}
 use Rattle.court_days.specs.declared.limits.Limits.{Limits}
 
 -- clerk_office: cases 1 to 4096, and of each case 64 deadlines, 64 motions and 512 facts
@@ -17,15 +17,11 @@ pub record AreLimits (l : Limits) : Type 0 where
   pub motions : l.motions ≤ 4096
   pub facts : l.facts ≤ 16384
 
--- the lesser of two numbers
-abbrev pub fewer : (one other : ℕ) → ℕ
-fewer one other = if nat_le one other then one else other
-
 -- of each the lesser of two limits
 abbrev pub least_limits : (one other : Limits) → Limits
 least_limits one other = record {
-  cases = fewer one.cases other.cases;
-  deadlines = fewer one.deadlines other.deadlines;
-  motions = fewer one.motions other.motions;
-  facts = fewer one.facts other.facts;
+  cases = min one.cases other.cases;
+  deadlines = min one.deadlines other.deadlines;
+  motions = min one.motions other.motions;
+  facts = min one.facts other.facts;
 }

@@ -1,7 +1,7 @@
 //! How much the docket of a court holds at most.
 
-ghost use Rattle.std.specs.Prelude.{◌≡◌, ◌≤◌};
-ghost use Rattle.court_days.specs.Limits.{AreLimits, desk_limits, fewer, least_limits, office_limits};
+ghost use Rattle.std.specs.Prelude.{◌≡◌, min};
+ghost use Rattle.court_days.specs.Limits.{AreLimits, desk_limits, least_limits, office_limits};
 
 /// What a docket holds at most.
 #[derive(Clone, Copy, Debug, PartialEq, Eq)]
@@ -57,8 +57,7 @@ pub(crate) fn least_limits(one: Limits, other: Limits) -> Limits
 }
 
 fn fewer(one: u32, other: u32) -> u32
-    ensures value { result ≡ fewer one other }
-    ensures most { result ≤ one }
+    ensures { result ≡ min one other }
 {
     if one <= other { one } else { other }
 }

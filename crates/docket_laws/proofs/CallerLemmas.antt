@@ -10,6 +10,7 @@ pub use Rattle.docket_laws.proofs.RangeLemmas.{range_none, range_to, no_sheet, n
 -- What a command reads: where reading ends, and that a decision rests on what was read.
 pub use Rattle.docket_laws.proofs.ReadsParts.{parts_equal, part_itself, part_flip, part_equivalence, wanted_read, read_value, read_holds}
 pub use Rattle.docket_laws.proofs.ReadsEnd.{read_once, reading_ends}
+pub use Rattle.docket_laws.proofs.ReadsNumbered.{IsNumbered, numbered}
 pub use Rattle.docket_laws.proofs.ReadsWritten.{written_read, written_once}
 pub use Rattle.docket_laws.proofs.ReadsSame.{AgreeOn, refusal_rests}
 pub use Rattle.docket_laws.proofs.ReadsChanged.{answered_rests, changed_rests, wanted_rests}
