@@ -26,8 +26,8 @@ abbrev pub never_words : (order : Bool) → List ℕ
 never_words true = codes "this time must not be reset to a later end"
 never_words false = codes "this time must not be extended"
 
--- `limits` says how much the docket holds at most, `row` is the deadline that the command is about, and `motion` the motion that the refusal names, or whose hearing the
--- command asks for; `called` is what that motion is called.
+-- `limits` says how much the docket holds at most, `row` is the deadline that the command is about, and `motion` the motion that the
+-- refusal names, or whose hearing the command asks for; `called` is what that motion is called.
 unfoldable pub refusal_lines : DaysView → ClockView → Limits → Command → Option DeadlineRowView → (called : List ℕ) → Option SheetMotion → Refusal → List ℕ
 refusal_lines c clock limits command row called motion AlreadyMet = recorded_lines c clock row
 refusal_lines c clock limits command row called motion NotExtendable = note_line None (never_words (is_ordered (request_asked command))) (codes "6(b)(2)")

@@ -17,9 +17,9 @@ use reason_texts::push_note;
 use rule_periods::{DeadlineRow, Request};
 use std::alloc::{AllocError, Global};
 
-/// Adds why a command is refused, in a line or a few: `limits` says how much the docket holds at most, `row` is the deadline that the command is about, and `motion` the
-/// motion that the refusal names, or whose hearing the command asks for; `called` is what that motion is called. `Err` says
-/// that memory ran out.
+/// Adds why a command is refused, in a line or a few: `limits` says how much the docket holds at most, `row` is the deadline that the
+/// command is about, and `motion` the motion that the refusal names, or whose hearing the command asks for; `called` is what that motion
+/// is called. `Err` says that memory ran out.
 #[tactic(auto, unfolding(crate::specs::Lines::refusal_lines))]
 pub fn push_refusal(
     alloc: Global,
