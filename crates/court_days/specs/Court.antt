@@ -26,8 +26,8 @@ pub record CourtFile : Type 0 where
   pub periods : PeriodNamesView
   pub limits : Limits
 
--- a court: its clock, its days, the names of its judges and rooms in the order of its file, those that it gives to periods, and how much its
--- docket holds at most
+-- a court: its clock, its days, the names of its judges and rooms in the order of its file, those that it gives to periods, and how much
+-- its docket holds at most
 pub record CourtView : Type 0 where
   pub clock : ClockView
   pub days : DaysView

@@ -138,6 +138,7 @@ fn calendar_at(calendars: &[Calendar], place: usize) -> Option<&Calendar>
 }
 
 /// The last place of the list.
+#[tactic(auto, using(std::proofs::lemmas::List::get_or_past))]
 fn last_place(cases: &[Option<CaseRecord>]) -> u32
     requires some { 1 ≤ length cases.now }
     requires few { length cases.now ≤ 1000001 }

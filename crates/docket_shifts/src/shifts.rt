@@ -242,8 +242,8 @@ pub fn push_shifts(
     ensures { (was is : Rows) → Holds (setup_of before.now.court) before.now.docket was → Holds (setup_of after.now.court) after.now.docket is
         → OnOk result (AddsText text.old text.new (shifts (rows_shown before.now was) (rows_shown after.now is))) }
 {
-    let had = before.docket.last_case();
-    let has = after.docket.last_case();
+    let had = before.last_case();
+    let has = after.last_case();
     push_cases(alloc, text, before, after, 1, greater(had, has))
 }
 

@@ -104,7 +104,8 @@ abbrev pub listed_lines : Command → List ℕ
 listed_lines (Holiday day list) = note_line (Some day) (codes "the day is in that list already") (codes "ours")
 listed_lines command = []
 
--- the lines of such a refusal of a command, where the docket holds so much at most; `motion` is that whose hearing the command asks for, and is called so
+-- the lines of such a refusal of a command, where the docket holds so much at most; `motion` is that whose hearing the command asks for,
+-- and is called so
 unfoldable pub range_lines : DaysView → Limits → Command → (called : List ℕ) → Option SheetMotion → Refusal → List ℕ
 range_lines c limits command called motion NoSuchCase = most_line (codes "the case isn't open; cases are 1 to ") limits.cases (codes "")
 range_lines c limits command called motion CaseIsOpen = ours_line (codes "the case is open already")

@@ -52,7 +52,7 @@ pub(crate) fn open_or_change(
     open_beyond(alloc, cases, number, command)
 }
 
-/// Opens or changes a case that has a place.
+/// Opens or changes a case that has a place, and no other.
 fn change_in_place(
     alloc: Global,
     cases: &mut Vec<Option<CaseRecord>>,
@@ -62,6 +62,22 @@ fn change_in_place(
     requires can { IfSome (get_or cases.old.items number None) (CanChangeRecord command.now) }
     requires within { number < length cases.old.items }
     ensures ok { OnOk result (IsChangedAt number command.now cases.old.items cases.new.items) }
+    ensures err { OnErr result (cases.new.items ≡ cases.old.items) }
+    ensures memory { OnErr result (takes_memory None command.now ≡ true) }
+    ensures count { length cases.new.items ≡ length cases.old.items }
+{
+    change_place(alloc, cases, number, command)
+}
+
+/// Opens or changes the case at a place of the list.
+fn change_place(
+    alloc: Global,
+    cases: &mut Vec<Option<CaseRecord>>,
+    number: u32,
+    command: &Command,
+) -> Result<(), AllocError>
+    requires { IfSome (get_or cases.old.items number None) (CanChangeRecord command.now) }
+    ensures ok { OnOk result (cases.new.items ≡ set cases.old.items number (case_after command.now (get_or cases.old.items number None))) }
     ensures err { OnErr result (cases.new.items ≡ cases.old.items) }
     ensures memory { OnErr result (takes_memory None command.now ≡ true) }
     ensures count { length cases.new.items ≡ length cases.old.items }

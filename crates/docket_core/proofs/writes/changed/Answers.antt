@@ -9,4 +9,4 @@ pub room_written-requires : goal.room_written-requires
 room_written-requires c = can_rebook _ _ _ c.requires
 
 pub case_written-requires : goal.case_written-requires
-case_written-requires c = can_change_case _ c.limits-_limits.ensures.within _ _ c.requires
+case_written-requires c = can_change_case _ c.limits.ensures.within _ _ c.requires

@@ -1,8 +1,8 @@
-use Rattle.std.proofs.Common.{arith, subst}
-use Rattle.docket_core.specs.Docket.{DocketView, HasPlaces}
+use Rattle.std.proofs.Common.{ap, arith}
+use Rattle.docket_core.specs.Docket.{DocketView}
 use Rattle.docket_core.proofs.holdings.Holdings.change_case.Goals as goal
 
 pub open_or_change-requires-clause-far : goal.open_or_change-requires-clause-far
 open_or_change-requires-clause-far c = λ beyond.
-    let places = subst (λ (d : DocketView). HasPlaces d.setup d.cases d.judges d.rooms) c.self.view_is c.self.invariant in
-    omega (arith, beyond, places.ready, c.requires.within)
+    let same = ap (λ (d : DocketView). d.setup.limits.cases) c.self.view_is in
+    omega (arith, beyond, c.self.invariant.ready, c.requires.within, same)
