@@ -11,7 +11,12 @@ use docket_rows::Refusal;
 
 /// Why the case can't be opened, if it can't.
 #[tactic(auto, unfolding(docket_rows::specs::Words::open_case_refusal))]
-pub(crate) fn open_case_refusal<S: Sight>(rules: &DocketRules, sight: &S, case: u32, filed: Day) -> Option<Refusal>
+pub(crate) fn open_case_refusal<S: Sight>(
+    rules: &DocketRules,
+    sight: &S,
+    case: u32,
+    filed: Day,
+) -> Option<Refusal>
     ensures { result ≡ open_case_refusal rules.now (S.parts sight.now) case filed }
 {
     if !is_case_number(rules, case) {

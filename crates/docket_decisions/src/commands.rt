@@ -73,7 +73,9 @@ pub fn refusal<S: Sight>(
             deadline,
             request,
         } => Ok(extend_refusal(rules, sight, *case, *deadline, request)),
-        Command::Motion { case, served, need } => Ok(motion_refusal(rules, sight, *case, *served, *need)),
+        Command::Motion { case, served, need } => Ok(motion_refusal(
+            rules, sight, *case, *served, *need,
+        )),
         Command::Book(s) => Ok(book_refusal(rules, sight, s)),
         Command::MoveHearing(s) => Ok(move_refusal(rules, sight, s)),
         Command::Cancel { case, motion } => Ok(cancel_refusal(rules, sight, *case, *motion)),

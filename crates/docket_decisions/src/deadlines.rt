@@ -5,9 +5,7 @@ ghost use Rattle.rule_periods.specs.Words.{suits, has_length, start_refusal, ext
 ghost use Rattle.docket_rows.specs.Words.{started, shown_now, deadline_in, refusal_of, start_deadline_refusal, file_act_refusal, extend_refusal};
 
 use crate::rules::DocketRules;
-use crate::seen::{
-    deadline_in, has_case, is_beyond, is_closed, is_full_of_deadlines, shown_now,
-};
+use crate::seen::{deadline_in, has_case, is_beyond, is_closed, is_full_of_deadlines, shown_now};
 use crate::sight::Sight;
 use court_clock::{Clock, Day};
 use court_days::Days;

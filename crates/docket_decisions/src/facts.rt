@@ -174,7 +174,12 @@ fn close_refusal<S: Sight>(rules: &DocketRules, sight: &S, case: u32, dated: Day
 
 /// Why the case can't be reopened, if it can't.
 #[tactic(auto, unfolding(docket_rows::specs::Words::reopen_refusal))]
-fn reopen_refusal<S: Sight>(rules: &DocketRules, sight: &S, case: u32, dated: Day) -> Option<Refusal>
+fn reopen_refusal<S: Sight>(
+    rules: &DocketRules,
+    sight: &S,
+    case: u32,
+    dated: Day,
+) -> Option<Refusal>
     ensures { result ≡ reopen_refusal rules.now (S.parts sight.now) case dated }
 {
     if !has_case(rules, sight, case) {
@@ -194,7 +199,13 @@ fn reopen_refusal<S: Sight>(rules: &DocketRules, sight: &S, case: u32, dated: Da
 
 /// Why the motion can't be ruled on, if it can't.
 #[tactic(auto, unfolding(docket_rows::specs::Words::rule_refusal))]
-fn rule_refusal<S: Sight>(rules: &DocketRules, sight: &S, case: u32, motion: u32, dated: Day) -> Option<Refusal>
+fn rule_refusal<S: Sight>(
+    rules: &DocketRules,
+    sight: &S,
+    case: u32,
+    motion: u32,
+    dated: Day,
+) -> Option<Refusal>
     ensures { result ≡ rule_refusal rules.now (S.parts sight.now) case motion dated }
 {
     if !has_case(rules, sight, case) {

@@ -128,7 +128,12 @@ pub(crate) fn move_refusal<S: Sight>(rules: &DocketRules, sight: &S, s: &Setting
 
 /// Why the hearing can't be taken off the calendar, if it can't.
 #[tactic(auto, unfolding(docket_rows::specs::Words::cancel_refusal))]
-pub(crate) fn cancel_refusal<S: Sight>(rules: &DocketRules, sight: &S, case: u32, motion: u32) -> Option<Refusal>
+pub(crate) fn cancel_refusal<S: Sight>(
+    rules: &DocketRules,
+    sight: &S,
+    case: u32,
+    motion: u32,
+) -> Option<Refusal>
     ensures { result ≡ cancel_refusal rules.now (S.parts sight.now) case motion }
 {
     if !has_case(rules, sight, case) {

@@ -33,7 +33,11 @@ pub(crate) fn unread(reads: &[(PartId, PartValue)], part: PartId) -> Option<Part
 }
 
 /// The first judge of these whose calendar wasn't read; those that the court hasn't are skipped.
-fn unread_judge(rules: &DocketRules, reads: &[(PartId, PartValue)], judges: &[u16]) -> Option<PartId>
+fn unread_judge(
+    rules: &DocketRules,
+    reads: &[(PartId, PartValue)],
+    judges: &[u16],
+) -> Option<PartId>
     ensures { result ≡ first_unread reads.now (judges_of rules.now judges.now) }
 {
     match judges {
@@ -104,7 +108,11 @@ fn unread_of_all(reads: &[(PartId, PartValue)], judge: u16, count: u16) -> Optio
 }
 
 /// The next part of a command that reads the case alone.
-pub(crate) fn next_of_case(rules: &DocketRules, reads: &[(PartId, PartValue)], case: u32) -> Option<PartId>
+pub(crate) fn next_of_case(
+    rules: &DocketRules,
+    reads: &[(PartId, PartValue)],
+    case: u32,
+) -> Option<PartId>
     ensures { result ≡ first_unread reads.now (about_case rules.now case []) }
 {
     if !is_case_number(rules, case) {
@@ -114,7 +122,11 @@ pub(crate) fn next_of_case(rules: &DocketRules, reads: &[(PartId, PartValue)], c
 }
 
 /// The next part of a command that reads the case and the court's days.
-pub(crate) fn next_of_deadline(rules: &DocketRules, reads: &[(PartId, PartValue)], case: u32) -> Option<PartId>
+pub(crate) fn next_of_deadline(
+    rules: &DocketRules,
+    reads: &[(PartId, PartValue)],
+    case: u32,
+) -> Option<PartId>
     ensures { result ≡ first_unread reads.now (about_case rules.now case (Court ∷ [])) }
 {
     if !is_case_number(rules, case) {

@@ -8,9 +8,7 @@ ghost use Rattle.docket_rows.specs.Words.{change_deadline, deadline_in, resume_r
 
 use crate::facts::ending_of;
 use crate::rules::DocketRules;
-use crate::seen::{
-    deadline_in, has_case, is_beyond, is_closed, is_full_of_facts, shown_now,
-};
+use crate::seen::{deadline_in, has_case, is_beyond, is_closed, is_full_of_facts, shown_now};
 use crate::sight::Sight;
 use court_clock::Day;
 use court_days::Days;

@@ -165,7 +165,14 @@ fn push_pending(
     let _types: PendingTypes = None;
     match kind {
         PendingKind::Motions => {
-            push_motions(list, sheet.case, facts, sheet.motions.as_slice(), judge, day)
+            push_motions(
+                list,
+                sheet.case,
+                facts,
+                sheet.motions.as_slice(),
+                judge,
+                day,
+            )
         }
         PendingKind::Cases => push_if(list, pending_case(day, judge, sheet.case, sheet.filed)),
     }

@@ -95,9 +95,7 @@ pub fn push_refusal(
         Refusal::HearingThatDay(_, _) => push_taken(alloc, text, called, " is heard, ", motion),
         Refusal::HearingAhead(_, _) => push_taken(alloc, text, called, " is heard, ", motion),
         Refusal::NoticeLost(_, _) => push_both(alloc, text, called, &motion),
-        _ => push_range(
-            alloc, text, days, limits, command, called, motion, refusal,
-        ),
+        _ => push_range(alloc, text, days, limits, command, called, motion, refusal),
     }
 }
 

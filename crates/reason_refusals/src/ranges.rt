@@ -126,12 +126,7 @@ fn push_most(
     push_ours(text, what.as_str())
 }
 
-fn push_most_text(
-    text: &mut String,
-    words: &str,
-    most: u32,
-    after: &str,
-) -> Result<(), AllocError>
+fn push_most_text(text: &mut String, words: &str, most: u32, after: &str) -> Result<(), AllocError>
     ensures { OnOk result (string_bytes text.new ≡ string_bytes text.old ++ most_text words.now most after.now) }
 {
     text.push_str(words)?;
