@@ -133,11 +133,11 @@ abbrev pub service_asked : Query → List ℕ
 service_asked (Compute period event second service) = suits_line period second service
 service_asked query = []
 
--- the lines of a refusal of a question
-unfoldable pub query_lines : DaysView → Limits → Query → Refusal → List ℕ
-query_lines c limits query NoSuchCase = most_line (codes "the case isn't open; cases are 1 to ") limits.cases (codes "")
-query_lines c limits query BadDay = span_line (codes "the days covered are ") c
-query_lines c limits query BadLength = ours_line period_words
-query_lines c limits query WrongService = service_asked query
-query_lines c limits query NoSuchJudge = ours_line (codes "the court's file names no such judge")
-query_lines c limits query refusal = []
+-- the lines of a refusal of a question, where cases are numbered to the first number
+unfoldable pub query_lines : (cases : ℕ) → DaysView → Query → Refusal → List ℕ
+query_lines cases c query NoSuchCase = most_line (codes "the case isn't open; cases are 1 to ") cases (codes "")
+query_lines cases c query BadDay = span_line (codes "the days covered are ") c
+query_lines cases c query BadLength = ours_line period_words
+query_lines cases c query WrongService = service_asked query
+query_lines cases c query NoSuchJudge = ours_line (codes "the court's file names no such judge")
+query_lines cases c query refusal = []

@@ -63,20 +63,20 @@ pub(crate) fn push_range(
     }
 }
 
-/// Adds why a question is refused. `Err` says that memory ran out.
+/// Adds why a question is refused, where cases are numbered to `cases`. `Err` says that memory ran out.
 #[tactic(auto, unfolding(crate::specs::Ranges::query_lines))]
 pub fn push_query_refusal(
     alloc: Global,
     text: &mut String,
+    cases: u32,
     days: &Days,
-    limits: &Limits,
     query: &Query,
     refusal: &Refusal,
 ) -> Result<(), AllocError>
-    ensures { OnOk result (string_bytes text.new ≡ string_bytes text.old ++ query_lines days.now limits.now query.now refusal.now) }
+    ensures { OnOk result (string_bytes text.new ≡ string_bytes text.old ++ query_lines cases days.now query.now refusal.now) }
 {
     match *refusal {
-        Refusal::NoSuchCase => push_most(alloc, text, NO_CASE, limits.cases, ""),
+        Refusal::NoSuchCase => push_most(alloc, text, NO_CASE, cases, ""),
         Refusal::BadDay => push_span(alloc, text, "the days covered are ", days),
         Refusal::BadLength => push_ours(text, PERIOD),
         Refusal::WrongService => push_service_asked(text, query),
