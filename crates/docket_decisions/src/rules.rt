@@ -94,7 +94,7 @@ impl DocketRules {
     /// How much the docket holds at most.
     pub fn limits(&self) -> Limits
         ensures value { result ≡ self.now.limits }
-        ensures within { AreLimits self.now.limits }
+        ensures within { AreLimits result }
     {
         self.limits
     }
