@@ -13,4 +13,5 @@ no_setup = record {
   days = record { from = pos 0; to = pos 0; federal = []; state = []; outages = [] };
   judges = 0;
   rooms = 0;
+  limits = record { cases = 0; deadlines = 0; motions = 0; facts = 0 };
 }

@@ -1,3 +1,4 @@
 pub mod Days
+pub mod Limits
 pub mod Court
 pub mod Words

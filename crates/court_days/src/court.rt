@@ -5,6 +5,7 @@ ghost use Rattle.std.specs.Option.{ok_or};
 ghost use Rattle.toml.specs.View.{table_view};
 ghost use Rattle.jiff.specs.Words.{plain_zone};
 ghost use Rattle.court_clock.specs.Words.{is_ruled, zone_view};
+ghost use Rattle.court_days.specs.Limits.{AreLimits, least_limits};
 ghost use Rattle.court_days.specs.Court.{CourtView, file_of, court_by, court_of, court_in, desk_court_of, desk_court_in, zone_at, hours_at, days_at, is_span};
 ghost use Rattle.court_file_text.specs.declared.fault.CourtFault.TheVariants.{NotToml};
 ghost use Rattle.court_file_text.specs.Words.{Gives, name_index, text_named, toml_of};
@@ -12,6 +13,7 @@ ghost use Rattle.court_file_text.specs.Words.{Gives, name_index, text_named, tom
 use crate::court::reading::dates_at;
 use crate::days::Days;
 use crate::days::holidays::Holidays;
+use crate::limits::{Limits, desk_limits, least_limits, office_limits};
 use court_clock::{Clock, Day, zone_from_text};
 use court_file_text::{
     CourtFault, Key, NamedText, Names, PeriodNames, date_at, minute_at, minute_if_there, names_by,
@@ -27,7 +29,7 @@ mod reading;
 /// The most days that a calendar may cover.
 const MOST_DAYS: i32 = 36_525;
 
-/// A court: its clock, its days, and the names of its judges, rooms and periods.
+/// A court: its clock, its days, the names of its judges, rooms and periods, and how much its docket holds at most.
 #[derive(Drop)]
 pub struct Court {
     clock: Clock,
@@ -35,14 +37,19 @@ pub struct Court {
     judges: Names,
     rooms: Names,
     periods: PeriodNames,
+    limits: Limits,
 }
 
 impl Model for Court {
+    ghost use Rattle.std.specs.Prelude.{◌≤◌, length};
+    ghost use Rattle.court_days.specs.Court.{CourtView};
+    ghost use Rattle.court_days.specs.Limits.{AreLimits};
+
     ghost Value = { CourtView };
 
-    ghost view = { λ c. record { clock = c.clock; days = c.days; judges = c.judges; rooms = c.rooms; periods = c.periods } };
+    ghost view = { λ c. record { clock = c.clock; days = c.days; judges = c.judges; rooms = c.rooms; periods = c.periods; limits = c.limits } };
 
-    ghost invariant = { λ c. (length c.judges ≤ 32) × (length c.rooms ≤ 32) };
+    ghost invariant = { λ c. (length c.judges ≤ 1000) × (length c.rooms ≤ 1000) × AreLimits c.limits };
 }
 
 impl Court {
@@ -80,11 +87,12 @@ impl Court {
             judges,
             rooms,
             periods: PeriodNames::none(alloc),
+            limits: office_limits(),
         })
     }
 
-    /// The same as the desk reads it, which also takes other names of judges and rooms, the minute to which a local rule lets electronic
-    /// filing run, and the names that the file gives to periods.
+    /// The same as the desk reads it, which also takes other names of judges and rooms, and more of them, the minute to which a local rule
+    /// lets electronic filing run, and the names that the file gives to periods. Its docket holds more.
     #[tactic(auto, unfolding(crate::specs::Court::desk_court_in))]
     pub fn from_desk_bytes(alloc: Global, bytes: &[u8]) -> Result<Court, CourtFault>
         ensures { Gives file_of result (desk_court_in bytes.now) }
@@ -101,6 +109,7 @@ impl Court {
         let mut court = Court::read(alloc, file, true)?;
         let minute = minute_if_there(file, Key::EfilingUntil)?;
         court.periods = period_names_of(alloc, file)?;
+        court.limits = desk_limits();
         match minute {
             Some(minute) => {
                 court.clock.set_efiling_until(minute);
@@ -108,6 +117,23 @@ impl Court {
             }
             None => Ok(court),
         }
+    }
+
+    /// The same court with a docket that holds no more than these limits, of each no more than before.
+    pub fn limited(self, limits: Limits) -> Court
+        ensures { result ≡ record self { limits = least_limits self.limits limits } }
+    {
+        let mut court = self;
+        court.limits = least_limits(court.limits, limits);
+        court
+    }
+
+    /// How much the court's docket holds at most.
+    pub fn limits(&self) -> Limits
+        ensures value { result ≡ self.now.limits }
+        ensures most { AreLimits result }
+    {
+        self.limits
     }
 
     /// The court's zone and office hours.
@@ -125,28 +151,28 @@ impl Court {
     }
 
     /// The number of the judge with this name, from 0 in the order of the file.
-    pub fn judge(&self, name: &str) -> Option<u8>
+    pub fn judge(&self, name: &str) -> Option<u16>
         ensures { result ≡ name_index self.now.judges name.now }
     {
         number_of(&self.judges, name)
     }
 
     /// The number of the room with this name, from 0 in the order of the file.
-    pub fn room(&self, name: &str) -> Option<u8>
+    pub fn room(&self, name: &str) -> Option<u16>
         ensures { result ≡ name_index self.now.rooms name.now }
     {
         number_of(&self.rooms, name)
     }
 
     /// The name of the judge with this number.
-    pub fn judge_name(&self, number: u8) -> Option<&str>
+    pub fn judge_name(&self, number: u16) -> Option<&str>
         ensures { option_copied result ≡ slice_get self.now.judges number }
     {
         self.judges.get(usize::from(number))
     }
 
     /// The name of the room with this number.
-    pub fn room_name(&self, number: u8) -> Option<&str>
+    pub fn room_name(&self, number: u16) -> Option<&str>
         ensures { option_copied result ≡ slice_get self.now.rooms number }
     {
         self.rooms.get(usize::from(number))
@@ -187,20 +213,20 @@ impl Court {
         self.periods.texts()
     }
 
-    /// How many judges the court has: at most 32.
-    pub fn judges(&self) -> u8
+    /// How many judges the court has: at most 1,000, and 32 for clerk_office.
+    pub fn judges(&self) -> u16
         ensures value { result ≡ length self.now.judges }
-        ensures most { result ≤ 32 }
+        ensures most { result ≤ 1000 }
     {
-        self.judges.len() as u8
+        self.judges.len() as u16
     }
 
-    /// How many rooms the court has: at most 32.
-    pub fn rooms(&self) -> u8
+    /// How many rooms the court has: at most 1,000, and 32 for clerk_office.
+    pub fn rooms(&self) -> u16
         ensures value { result ≡ length self.now.rooms }
-        ensures most { result ≤ 32 }
+        ensures most { result ≤ 1000 }
     {
-        self.rooms.len() as u8
+        self.rooms.len() as u16
     }
 }
 
@@ -219,12 +245,12 @@ fn document_of(alloc: Global, bytes: &[u8]) -> Result<Table, CourtFault>
     }
 }
 
-fn number_of(names: &Names, name: &str) -> Option<u8>
-    requires { length names.now ≤ 32 }
+fn number_of(names: &Names, name: &str) -> Option<u16>
+    requires { length names.now ≤ 1000 }
     ensures { result ≡ name_index names.now name.now }
 {
     let index = names.index_of(name)?;
-    Some(index as u8)
+    Some(index as u16)
 }
 
 #[tactic(auto, unfolding(crate::specs::Court::zone_at))]

@@ -2,7 +2,7 @@
 
 ghost use Rattle.court_days.specs.Days.Search.{EarliestIsLeast, LatestIsGreatest};
 ghost use Rattle.court_days.specs.Days.Rolled.{RolledIsNearest};
-ghost use Rattle.court_days.specs.Court.{DeskReadsAlike, DeskTakesNames, FilesNameNoOutages};
+ghost use Rattle.court_days.specs.Court.{DeskReadsAlike, DeskTakesNames, FilesNameNoLimits, FilesNameNoOutages};
 
 /// Rolling gives the nearest permitted day, and none only where the day isn't covered or no covered day is that.
 pub fn rolled_is_nearest()
@@ -26,8 +26,13 @@ pub fn files_name_no_outages()
     ensures { FilesNameNoOutages }
 {}
 
-/// The desk reads whatever clerk_office does of a court's file, and alike but for the minute to which electronic filing runs and the
-/// names of periods. Without the key of that minute, and for clerk_office, it runs to midnight.
+/// A court's file doesn't say how much its docket holds at most: that follows from who reads it.
+pub fn files_name_no_limits()
+    ensures { FilesNameNoLimits }
+{}
+
+/// The desk reads whatever clerk_office does of a court's file, and alike but for the minute to which electronic filing runs, the
+/// names of periods, and how much the docket holds at most. Without the key of that minute, and for clerk_office, it runs to midnight.
 pub fn desk_reads_alike()
     ensures { DeskReadsAlike }
 {}

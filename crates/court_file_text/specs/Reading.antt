@@ -112,6 +112,7 @@ and_name k names value = do
   _ ← must (not (is_named names text)) (TwiceNamed text)
   Ok (names ++ text ∷ [])
 
+-- at most 32 names
 unfoldable pub names_at : Key → Members → Result (List (List ℕ)) CourtFault
 names_at k file = do
   items ← list_at k 32 file
@@ -125,9 +126,10 @@ and_desk_name k names value = do
   _ ← must (not (is_named names text)) (TwiceNamed text)
   Ok (names ++ text ∷ [])
 
+-- at most 1,000 names
 unfoldable pub desk_names_at : Key → Members → Result (List (List ℕ)) CourtFault
 desk_names_at k file = do
-  items ← list_at k 32 file
+  items ← list_at k 1000 file
   each_item (and_desk_name k) [] items
 
 -- either, by whether it is for the desk

@@ -19,6 +19,9 @@ use toml::{Table, Value};
 /// The most judges, or rooms, that a court may have.
 const MOST_NAMES: usize = 32;
 
+/// The most judges or rooms of a court that the desk takes.
+const MOST_DESK_NAMES: usize = 1_000;
+
 fn value_at(file: &Table, key: Key) -> Result<&Value, CourtFault>
     ensures { Gives (λ v. view v.now) result (value_at key (table_view file.now)) }
 {
@@ -234,16 +237,16 @@ pub fn names_at(alloc: Global, file: &Table, key: Key) -> Result<Names, CourtFau
 #[tactic(auto, unfolding(crate::specs::Reading::desk_names_at))]
 pub fn desk_names_at(alloc: Global, file: &Table, key: Key) -> Result<Names, CourtFault>
     ensures value { Gives (λ n. n) result (desk_names_at key (table_view file.now)) }
-    ensures most { IfOk result (λ n. length n ≤ 32) }
+    ensures most { IfOk result (λ n. length n ≤ 1000) }
 {
-    let values = list_at(file, key, MOST_NAMES)?;
+    let values = list_at(file, key, MOST_DESK_NAMES)?;
     names_of(alloc, values, key, true)
 }
 
 /// Either, by whether it is for the desk.
 pub fn names_by(alloc: Global, file: &Table, key: Key, desk: bool) -> Result<Names, CourtFault>
     ensures value { Gives (λ n. n) result (names_by desk key (table_view file.now)) }
-    ensures most { IfOk result (λ n. length n ≤ 32) }
+    ensures most { IfOk result (λ n. length n ≤ 1000) }
 {
     if desk {
         desk_names_at(alloc, file, key)

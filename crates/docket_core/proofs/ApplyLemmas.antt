@@ -1,10 +1,10 @@
 -- The parts of a docket after a command that isn't refused.
-use Rattle.std.proofs.Common.{◌≡◌, ℕ, ◌+◌, ◌≤◌, true, false, ◌==◌, nat_eq, nat_lt, List, [], ◌∷◌, length, get_or, set, Option, Some, None, option_map, unwrap_or, refl, ap, sym, ◌∙◌, arith, inl, inr}
+use Rattle.std.proofs.Common.{◌≡◌, ℕ, ◌≤◌, true, false, ◌==◌, nat_eq, nat_le, nat_lt, List, [], ◌∷◌, length, get_or, Option, Some, None, IfSome, option_map, unwrap_or, refl, ap, sym, subst, ◌∙◌, arith, inl, inr}
 use Rattle.std.specs.List.{list_all}
-use Rattle.std.proofs.lemmas.Bool.{cases_Bool, false≢true}
+use Rattle.std.proofs.lemmas.Bool.{and_parts, cases_Bool, false≢true}
 use Rattle.std.proofs.lemmas.Bool.Decides.{nat_tests}
 use Rattle.docket_rows.specs.declared.command.Command.{Command}
-use Rattle.docket_rows.specs.declared.command.Command.TheVariants.{OpenCase, Book, MoveHearing, Cancel, Fact}
+use Rattle.docket_rows.specs.declared.command.Command.TheVariants.{Book, MoveHearing, Cancel, Fact}
 use Rattle.docket_rows.specs.declared.fact.Fact.TheVariants.{Ruled}
 use Rattle.docket_rows.specs.declared.hearing.Hearing.{Hearing}
 use Rattle.docket_rows.specs.declared.hearing.Setting.{Setting}
@@ -12,33 +12,30 @@ use Rattle.docket_rows.specs.declared.part.PartId.TheVariants.{Court, Judge, Roo
 use Rattle.docket_rows.specs.declared.part.PartValue.TheVariants as value
 use Rattle.docket_rows.specs.declared.rebooking.Rebooking.{Rebooking}
 use Rattle.docket_rows.specs.declared.refusal.Refusal.{Refusal}
-use Rattle.docket_rows.specs.Words.{CourtSetup, Parts, changed, part_value, refusal, open_case_refusal, open_case_checks, book_refusal, move_refusal, hearing_checks, days_written, case_of, case_after, booking_of, rebooking_of, changed_by, judge_change, room_change, first_judge, sits, last_case, is_case_number}
+use Rattle.docket_rows.specs.Words.{CaseRecordView, CourtSetup, Parts, changed, part_value, refusal, book_refusal, move_refusal, hearing_checks, days_written, case_of, booking_of, rebooking_of, changed_by, judge_change, room_change, first_judge, sits, is_case_number}
 use Rattle.rule_periods.specs.Words.{first_of}
 use Rattle.hearing_slots.specs.declared.booking.Booking.{Booking}
-use Rattle.docket_laws.proofs.CallerLemmas.{none_of, when-not-None}
+use Rattle.docket_laws.proofs.CallerLemmas.{none_of, numbered, when-not-None}
 use Rattle.docket_core.specs.Docket.{DocketView, parts_held}
-use Rattle.docket_core.specs.Inside.Changes.{IsAfter, rebooked_docket}
+use Rattle.docket_core.specs.Inside.Changes.{IsAfter, IsChangedAt, rebooked_docket}
 use Rattle.docket_core.specs.Inside.Rebooking.{calendar_after}
-use Rattle.docket_core.proofs.CaseLemmas.{case_changed}
+use Rattle.docket_core.proofs.CaseLemmas.{case_changed, case_changed_at}
 use Rattle.docket_core.proofs.RebookingLemmas.{calendar_of, nothing_to_take, nothing_taken, same_rebooking, to_set}
 
--- a case that is opened has a place; other commands open none
-opens_in_place : (setup : CourtSetup) (parts : Parts) (command : Command) (n count : ℕ) → refusal setup parts command ≡ None → Some n ≡ case_of command → count ≡ last_case + 1 → count ≤ n → case_after command None ≡ None
-unfolding open_case_refusal
-opens_in_place setup parts (OpenCase case filed) n count made is all beyond =
-    let number : is_case_number case ≡ true = when-not-None _ _ (none_of (open_case_checks parts case filed) made).0 in
-    let same : n ≡ case = ap (λ o. unwrap_or o n) is in
-    absurd (grind (arith, nat_tests))
-opens_in_place setup parts _ n count made is all beyond = refl
+-- the case of a command that isn't refused has a number that a case can have
+pub number_within : (setup : CourtSetup) (parts : Parts) (command : Command) (n : ℕ) → refusal setup parts command ≡ None → Some n ≡ case_of command → n ≤ setup.limits.cases
+number_within setup parts command n made is =
+    let number : is_case_number setup n ≡ true = subst (λ (o : Option ℕ). IfSome o (λ case. is_case_number setup case ≡ true)) (sym is) (numbered setup parts command made) in
+    let both = and_parts (nat_le 1 n) (nat_le n setup.limits.cases) number in
+    let last : nat_le n setup.limits.cases ≡ true = both.1 in
+    grind (arith, nat_tests)
 
 -- a command that changes no days and no calendar changes its case
-pub only_case_changed : (setup : CourtSetup) (d : DocketView) (command : Command) (n : ℕ) → refusal setup (parts_held d) command ≡ None → length d.cases ≡ last_case + 1 → days_written d.days command ≡ None → rebooking_of (parts_held d) command ≡ None → Some n ≡ case_of command → IsAfter d command (record d { cases = set d.cases n (case_after command (get_or d.cases n None)) })
-only_case_changed setup d command n made places days calendars is Court = rw days refl
-only_case_changed setup d command n made places days calendars is (Judge j) = rw calendars refl
-only_case_changed setup d command n made places days calendars is (Room k) = rw calendars refl
-only_case_changed setup d command n made places days calendars is (Case i) =
-    rw (sym is)
-    (case_changed command d.cases n i (λ beyond. opens_in_place setup (parts_held d) command n (length d.cases) made is places beyond))
+pub only_case_changed : (d : DocketView) (command : Command) (n : ℕ) (cases : List (Option CaseRecordView)) → days_written d.days command ≡ None → rebooking_of (parts_held d) command ≡ None → Some n ≡ case_of command → IsChangedAt n command d.cases cases → IsAfter d command (record d { cases = cases })
+only_case_changed d command n cases days calendars is changed Court = rw days refl
+only_case_changed d command n cases days calendars is changed (Judge j) = rw calendars refl
+only_case_changed d command n cases days calendars is changed (Room k) = rw calendars refl
+only_case_changed d command n cases days calendars is changed (Case i) = rw (sym is) (case_changed_at command d.cases cases n i changed)
 
 -- Calendars
 

@@ -1,9 +1,9 @@
 -- A docket, as contracts see it.
-use Rattle.std.specs.Prelude.{◌≡◌, ◌≤◌, ◌+◌, length, List, [], Option, None, get_or}
-use Rattle.court_days.specs.Words.{DaysView}
+use Rattle.std.specs.Prelude.{◌≡◌, ◌<◌, ◌≤◌, ◌+◌, min, length, List, [], Option, None, get_or}
+use Rattle.court_days.specs.Words.{AreLimits, DaysView}
 use Rattle.hearing_slots.specs.declared.booking.Booking.{Booking}
 use Rattle.docket_rows.specs.declared.part.PartId.{PartId}
-use Rattle.docket_rows.specs.Words.{CourtSetup, CaseRecordView, Parts, Rows, AreSound, AreLawful, last_case, part_value, parts_of}
+use Rattle.docket_rows.specs.Words.{CourtSetup, CaseRecordView, Parts, Rows, AreSound, AreLawful, part_value, parts_of}
 
 -- what no command changes; the days; the cases by their numbers, of which there is no number 0; and the calendars of
 -- the judges and of the rooms, by their numbers
@@ -14,13 +14,16 @@ pub record DocketView : Type 0 where
   pub judges : List (List Booking)
   pub rooms : List (List Booking)
 
--- there is a place for each case that can be, and a calendar for each judge and each room of the court
+-- There are places for the first 4,096 cases that can be, from the start, and for others as they are opened; and a calendar for each judge
+-- and each room of the court.
 pub record HasPlaces (setup : CourtSetup) (cases : List (Option CaseRecordView)) (judges rooms : List (List Booking)) : Type 0 where
-  pub of_cases : length cases ≡ last_case + 1
+  pub of_cases : length cases ≤ setup.limits.cases + 1
+  pub ready : min 4096 setup.limits.cases < length cases
   pub of_judges : length judges ≡ setup.judges
   pub of_rooms : length rooms ≡ setup.rooms
-  pub few_judges : setup.judges ≤ 32
-  pub few_rooms : setup.rooms ≤ 32
+  pub few_judges : setup.judges ≤ 1000
+  pub few_rooms : setup.rooms ≤ 1000
+  pub limits : AreLimits setup.limits
 
 -- the parts of the docket
 abbrev pub parts_held : DocketView → Parts

@@ -1,6 +1,6 @@
 //! The docket of one thread.
 
-ghost use Rattle.std.specs.Prelude.{◌≡◌, true, Some, None, option_copied, nat_lt, IfOk, IfErr, if◌then◌else◌};
+ghost use Rattle.std.specs.Prelude.{◌≡◌, ◌<◌, ◌≤◌, ℕ, true, Some, None, option_copied, nat_lt, IfOk, IfErr, if◌then◌else◌};
 ghost use Rattle.docket_rows.specs.declared.part.PartId.{PartId};
 ghost use Rattle.docket_rows.specs.Words.{AreSound, Rows, answered, setup_of, deadline_in, facts_in, has_case, opening_rows, part_after, part_value, refusal, seen_by, step, view_of};
 ghost use Rattle.docket_decisions.specs.Words.{takes_memory};
@@ -81,13 +81,22 @@ impl Docket {
 
     /// Whether the case is open. It takes no memory.
     pub fn is_open(&self, case: u32) -> bool
-        ensures { result ≡ has_case (parts_held self.now) case }
+        ensures { result ≡ has_case self.now.setup (parts_held self.now) case }
     {
         self.holdings.is_open(case)
     }
 
+    /// A number below which each open case is, or at it: who walks over the cases needs go no further. It takes no memory.
+    pub fn last_case(&self) -> u32
+        ensures few { result ≤ self.now.setup.limits.cases }
+        ensures most { result ≤ 1000000 }
+        ensures none { (n : ℕ) → result < n → (parts_held self.now).case n ≡ None }
+    {
+        self.holdings.last_case()
+    }
+
     /// The calendar of the judge of that number. None where the court has no such judge. It takes no memory.
-    pub fn calendar(&self, judge: u8) -> Option<&Calendar>
+    pub fn calendar(&self, judge: u16) -> Option<&Calendar>
         ensures { option_copied result ≡ (if nat_lt judge self.now.setup.judges then Some ((parts_held self.now).judge judge) else None) }
     {
         self.holdings.calendar(judge)

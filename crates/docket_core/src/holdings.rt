@@ -3,25 +3,28 @@ mod apply;
 mod calendars;
 mod cases;
 
-ghost use Rattle.std.specs.Prelude.{◌≡◌, ◌+◌, true, [], None, Some, All, option_copied, unwrap_or, get_or, length, nat_lt, IfOk, IfErr, if◌then◌else◌};
-ghost use Rattle.docket_rows.specs.Words.{setup_of, has_case, last_case, opening_rows, parts_of, part_value, seen_by};
+ghost use Rattle.std.specs.Prelude.{◌≡◌, ◌<◌, ◌≤◌, ◌+◌, ℕ, min, true, [], None, Some, All, option_copied, unwrap_or, get_or, length, nat_lt, IfOk, IfErr, if◌then◌else◌};
+ghost use Rattle.docket_rows.specs.Words.{setup_of, has_case, opening_rows, parts_of, part_value, seen_by};
 ghost use Rattle.docket_rows.specs.declared.part.PartId.{PartId};
 ghost use Rattle.docket_core.specs.Memory.{view_takes_memory};
 
 use crate::views::view_of;
 use court_days::{Court, Days};
 use docket_decisions::{DocketRules, Sight, has_case};
-use docket_rows::{CaseRecord, LAST_CASE, Query, View};
+use docket_rows::{CaseRecord, Query, View};
 use hearing_slots::{Calendar, CalendarRef};
 use std::alloc::{AllocError, Global};
 use std::marker::Model;
+
+/// For how many cases there are places from the start, unless the docket has fewer.
+const FIRST_PLACES: u32 = 4_096;
 
 /// The days, the cases, and the calendars of the judges and rooms of a court, whatever they say.
 #[derive(Drop)]
 pub struct Holdings {
     rules: DocketRules,
     days: Days,
-    // By number; there is no case 0.
+    // By number; there is no case 0. The list grows when a case is opened beyond its end.
     cases: Vec<Option<CaseRecord>>,
     judges: Vec<Calendar>,
     rooms: Vec<Calendar>,
@@ -47,7 +50,7 @@ impl Holdings {
     {
         let rules = DocketRules::new(court)?;
         let days = court.days().copy()?;
-        let cases = no_cases(alloc)?;
+        let cases = no_cases(alloc, rules.most_cases())?;
         let judges = no_bookings(alloc, court.judges())?;
         let rooms = no_bookings(alloc, court.rooms())?;
         Ok(Holdings {
@@ -69,13 +72,22 @@ impl Holdings {
 
     /// Whether the case is open.
     pub fn is_open(&self, case: u32) -> bool
-        ensures { result ≡ has_case (parts_held self.now) case }
+        ensures { result ≡ has_case self.now.setup (parts_held self.now) case }
     {
-        has_case(self, case)
+        has_case(&self.rules, self, case)
+    }
+
+    /// A number below which each open case is, or at it.
+    pub fn last_case(&self) -> u32
+        ensures few { result ≤ self.now.setup.limits.cases }
+        ensures most { result ≤ 1000000 }
+        ensures none { (n : ℕ) → result < n → (parts_held self.now).case n ≡ None }
+    {
+        last_place(&self.cases)
     }
 
     /// The calendar of the judge of that number. None where the court has no such judge.
-    pub fn calendar(&self, judge: u8) -> Option<&Calendar>
+    pub fn calendar(&self, judge: u16) -> Option<&Calendar>
         ensures { option_copied result ≡ (if nat_lt judge self.now.setup.judges then Some ((parts_held self.now).judge judge) else None) }
     {
         let judges = &self.judges;
@@ -96,11 +108,11 @@ impl Sight for Holdings {
         case_at(&self.cases, case as usize)
     }
 
-    fn judge(&self, judge: u8) -> CalendarRef<'_> {
+    fn judge(&self, judge: u16) -> CalendarRef<'_> {
         CalendarRef::in_place(calendar_at(&self.judges, usize::from(judge)))
     }
 
-    fn room(&self, room: u8) -> CalendarRef<'_> {
+    fn room(&self, room: u16) -> CalendarRef<'_> {
         CalendarRef::in_place(calendar_at(&self.rooms, usize::from(room)))
     }
 }
@@ -125,20 +137,43 @@ fn calendar_at(calendars: &[Calendar], place: usize) -> Option<&Calendar>
     calendars.get(place)
 }
 
-/// Places for as many cases as there can be, none of which is open.
-fn no_cases(alloc: Global) -> Result<Vec<Option<CaseRecord>>, AllocError>
-    ensures count { IfOk result (λ cases. length cases.items ≡ last_case + 1) }
+/// The last place of the list.
+#[tactic(auto, using(std::proofs::lemmas::List::get_or_past))]
+fn last_place(cases: &[Option<CaseRecord>]) -> u32
+    requires some { 1 ≤ length cases.now }
+    requires few { length cases.now ≤ 1000001 }
+    ensures value { result + 1 ≡ length cases.now }
+    ensures none { (n : ℕ) → result < n → get_or cases.now n None ≡ None }
+{
+    (cases.len() - 1) as u32
+}
+
+/// The last of the cases for which there are places from the start, in a docket that has so many at most.
+fn first_places(most: u32) -> u32
+    ensures value { result ≡ min 4096 most }
+    ensures few { result ≤ 4096 }
+{
+    if FIRST_PLACES <= most {
+        FIRST_PLACES
+    } else {
+        most
+    }
+}
+
+/// The places of a docket that has so many cases at most, none of which is open.
+fn no_cases(alloc: Global, most: u32) -> Result<Vec<Option<CaseRecord>>, AllocError>
+    ensures count { IfOk result (λ cases. length cases.items ≡ min 4096 most + 1) }
     ensures none { IfOk result (λ cases. All (λ c. c ≡ None) cases.items) }
 {
     let mut cases = Vec::new(alloc);
-    for _case in 0..LAST_CASE + 1 {
+    for _case in 0..first_places(most) + 1 {
         cases.push(None)?;
     }
     Ok(cases)
 }
 
 /// As many calendars as `count` says, with no bookings.
-fn no_bookings(alloc: Global, count: u8) -> Result<Vec<Calendar>, AllocError>
+fn no_bookings(alloc: Global, count: u16) -> Result<Vec<Calendar>, AllocError>
     ensures count { IfOk result (λ calendars. length calendars.items ≡ count) }
     ensures none { IfOk result (λ calendars. All (λ c. c ≡ []) calendars.items) }
 {

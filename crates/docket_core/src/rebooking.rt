@@ -10,7 +10,7 @@ use docket_rows::{CalendarChange, Command, Hearing, Placement, Rebooking, Settin
 use hearing_slots::{Booking, Need};
 
 /// What becomes of the calendar of the judge.
-pub(crate) fn judge_change(rebooking: &Rebooking, judge: u8) -> CalendarChange
+pub(crate) fn judge_change(rebooking: &Rebooking, judge: u16) -> CalendarChange
     ensures { result ≡ judge_change rebooking.now judge }
 {
     if let Some(placed) = rebooking.after {
@@ -31,7 +31,7 @@ pub(crate) fn judge_change(rebooking: &Rebooking, judge: u8) -> CalendarChange
 }
 
 /// What becomes of the calendar of the room.
-pub(crate) fn room_change(rebooking: &Rebooking, room: u8) -> CalendarChange
+pub(crate) fn room_change(rebooking: &Rebooking, room: u16) -> CalendarChange
     ensures { result ≡ room_change rebooking.now room }
 {
     if let Some(placed) = rebooking.after {
@@ -53,7 +53,7 @@ pub(crate) fn room_change(rebooking: &Rebooking, room: u8) -> CalendarChange
 
 /// The booking of the hearing that is asked for. `other` is the number of its room in a judge's calendar, and of its first
 /// judge in the room's.
-fn booking_of<S: Sight>(sight: &S, other: u8, s: &Setting) -> Booking
+fn booking_of<S: Sight>(sight: &S, other: u16, s: &Setting) -> Booking
     requires { s.now.count ≤ 96 }
     ensures { result ≡ booking_of (S.parts sight.now) other s.now }
 {

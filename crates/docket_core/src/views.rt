@@ -25,7 +25,7 @@ fn case_view<S: Sight>(
     ensures view { IfOk result (λ v. v ≡ seen_by rules.now (S.parts sight.now) (query.Sheet case)) }
     ensures memory { IfErr result (λ e. view_takes_memory (seen_by rules.now (S.parts sight.now) (query.Sheet case)) ≡ true) }
 {
-    if !has_case(sight, case) {
+    if !has_case(rules, sight, case) {
         return Ok(View::Refused(Refusal::NoSuchCase));
     }
     match sight.case(case) {
@@ -40,7 +40,7 @@ fn day_view<S: Sight>(
     alloc: Global,
     rules: &DocketRules,
     sight: &S,
-    judge: u8,
+    judge: u16,
     day: Day,
 ) -> Result<View, AllocError>
     ensures view { IfOk result (λ v. v ≡ seen_by rules.now (S.parts sight.now) (query.JudgeDay judge day)) }

@@ -65,6 +65,8 @@ pub(crate) fn changed(
     requires { refusal rules.now (parts_read seen.now.rules.now seen.now.reads.now) command.now ≡ None }
     ensures { IfOk result (λ value. value ≡ changed (parts_read seen.now.rules.now seen.now.reads.now) command.now part) }
 {
+    // That says that the court's docket holds no more than any docket.
+    rules.limits();
     match part {
         PartId::Court => match days_written(alloc, rules, seen, command)? {
             Some(days) => Ok(Some(PartValue::Days(days))),

@@ -1,11 +1,11 @@
 //! What the start, the meeting and the extension of a deadline are answered, an order that sets another end, and the entry of a
 //! motion.
 
-ghost use Rattle.std.specs.Prelude.{◌≡◌, ◌<◌, None, length};
+ghost use Rattle.std.specs.Prelude.{◌≡◌, None};
 ghost use Rattle.std.specs.Option.{option_map_or};
 ghost use Rattle.rule6.specs.Words.{is_in_time};
 ghost use Rattle.rule_periods.specs.Words.{is_order, kept_filing, with_grant};
-ghost use Rattle.docket_rows.specs.Words.{has_one, deadline_in, deadlines_in, ended_answer, motions_in, most_deadlines, most_motions, next_deadline, next_motion, shown_now, started, start_deadline_refusal, extend_refusal, motion_refusal};
+ghost use Rattle.docket_rows.specs.Words.{has_one, deadline_in, ended_answer, next_deadline, next_motion, shown_now, started, start_deadline_refusal, extend_refusal};
 ghost use Rattle.rule6.specs.declared.timeliness.Shown.TheVariants.{Beyond};
 ghost use Rattle.docket_rows.specs.declared.answer.Answer.TheVariants as answer;
 
@@ -15,7 +15,6 @@ use crate::seen::{deadline_in, deadlines_count, motions_count, shown_now};
 use crate::sight::Sight;
 use court_clock::Day;
 use docket_rows::Answer;
-use hearing_slots::Need;
 use rule_periods::{Event, Period, Request, kept_filing, shown_with};
 use rule6::{Filing, ServiceKind, Shown, is_timely};
 use std::alloc::Global;
@@ -40,7 +39,6 @@ pub(crate) fn answer_to_start<S: Sight>(
 
 /// The number of the deadline that starts next.
 fn next_deadline<S: Sight>(sight: &S, case: u32) -> u32
-    requires { length (deadlines_in (S.parts sight.now) case) < most_deadlines }
     ensures { result ≡ next_deadline (S.parts sight.now) case }
 {
     deadlines_count(sight, case) as u32 + 1
@@ -104,15 +102,13 @@ fn shown_if_extended<S: Sight>(
 
 /// The number of the motion that is entered next.
 fn next_motion<S: Sight>(sight: &S, case: u32) -> u32
-    requires { length (motions_in (S.parts sight.now) case) < most_motions }
     ensures { result ≡ next_motion (S.parts sight.now) case }
 {
     motions_count(sight, case) as u32 + 1
 }
 
 /// What the entry of a motion is answered.
-pub(crate) fn answer_to_motion<S: Sight>(sight: &S, case: u32, served: Day, need: Need) -> Answer
-    requires { motion_refusal (S.parts sight.now) case served need ≡ None }
+pub(crate) fn answer_to_motion<S: Sight>(sight: &S, case: u32) -> Answer
     ensures { result ≡ answer.MotionEntered (next_motion (S.parts sight.now) case) }
 {
     Answer::MotionEntered(next_motion(sight, case))

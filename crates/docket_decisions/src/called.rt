@@ -3,16 +3,17 @@
 ghost use Rattle.std.specs.Prelude.{◌≡◌};
 ghost use Rattle.docket_rows.specs.Words.{label_refusal, not_counted, title_refusal};
 
+use crate::rules::DocketRules;
 use crate::seen::{deadline_in, has_case, is_closed, motion_in};
 use crate::sight::Sight;
 use docket_rows::{Counted, Refusal};
 
 /// Why the case can't be given a title, if it can't.
 #[tactic(auto, unfolding(docket_rows::specs::Words::title_refusal))]
-pub(crate) fn title_refusal<S: Sight>(sight: &S, case: u32) -> Option<Refusal>
-    ensures { result ≡ title_refusal (S.parts sight.now) case }
+pub(crate) fn title_refusal<S: Sight>(rules: &DocketRules, sight: &S, case: u32) -> Option<Refusal>
+    ensures { result ≡ title_refusal rules.now (S.parts sight.now) case }
 {
-    if !has_case(sight, case) {
+    if !has_case(rules, sight, case) {
         return Some(Refusal::NoSuchCase);
     }
     if is_closed(sight, case) {
@@ -45,14 +46,15 @@ pub(crate) fn not_counted<S: Sight>(
 /// Why the deadline or the motion can't be given a label, if it can't.
 #[tactic(auto, unfolding(docket_rows::specs::Words::label_refusal))]
 pub(crate) fn label_refusal<S: Sight>(
+    rules: &DocketRules,
     sight: &S,
     case: u32,
     counted: Counted,
     number: u32,
 ) -> Option<Refusal>
-    ensures { result ≡ label_refusal (S.parts sight.now) case counted number }
+    ensures { result ≡ label_refusal rules.now (S.parts sight.now) case counted number }
 {
-    if !has_case(sight, case) {
+    if !has_case(rules, sight, case) {
         return Some(Refusal::NoSuchCase);
     }
     if is_closed(sight, case) {

@@ -55,7 +55,7 @@ pub fn refusal<S: Sight>(
     ensures memory { IfErr result (λ e. takes_memory (refusal rules.now (S.parts sight.now) command.now) command.now ≡ true) }
 {
     match command {
-        Command::OpenCase { case, filed } => Ok(open_case_refusal(sight, *case, *filed)),
+        Command::OpenCase { case, filed } => Ok(open_case_refusal(rules, sight, *case, *filed)),
         Command::Start {
             case,
             period,
@@ -73,10 +73,12 @@ pub fn refusal<S: Sight>(
             deadline,
             request,
         } => Ok(extend_refusal(rules, sight, *case, *deadline, request)),
-        Command::Motion { case, served, need } => Ok(motion_refusal(sight, *case, *served, *need)),
+        Command::Motion { case, served, need } => Ok(motion_refusal(
+            rules, sight, *case, *served, *need,
+        )),
         Command::Book(s) => Ok(book_refusal(rules, sight, s)),
         Command::MoveHearing(s) => Ok(move_refusal(rules, sight, s)),
-        Command::Cancel { case, motion } => Ok(cancel_refusal(sight, *case, *motion)),
+        Command::Cancel { case, motion } => Ok(cancel_refusal(rules, sight, *case, *motion)),
         Command::Holiday { day, list } => holiday_refusal(alloc, rules, sight, *day, *list),
         Command::Inaccessible { day, from, to } => Ok(outage_refusal(sight, *day, *from, *to)),
         Command::Fact { case, fact } => Ok(fact_refusal(alloc, rules, sight, *case, fact)),
@@ -114,7 +116,7 @@ pub fn answer_if_made<S: Sight>(
             deadline,
             request,
         } => answer_to_extension(rules, sight, *case, *deadline, request),
-        Command::Motion { case, served, need } => answer_to_motion(sight, *case, *served, *need),
+        Command::Motion { case, .. } => answer_to_motion(sight, *case),
         Command::Book(_) => Answer::Booked,
         Command::MoveHearing(_) => Answer::Moved,
         Command::Cancel { .. } => Answer::Cancelled,
@@ -134,11 +136,11 @@ fn next_part(
     ensures { result ≡ next_part rules.now command.now reads.now }
 {
     match command {
-        Command::OpenCase { case, .. } => next_of_case(reads, *case),
-        Command::Start { case, .. } => next_of_deadline(reads, *case),
-        Command::FileAct { case, .. } => next_of_deadline(reads, *case),
-        Command::Extend { case, .. } => next_of_deadline(reads, *case),
-        Command::Motion { case, .. } => next_of_case(reads, *case),
+        Command::OpenCase { case, .. } => next_of_case(rules, reads, *case),
+        Command::Start { case, .. } => next_of_deadline(rules, reads, *case),
+        Command::FileAct { case, .. } => next_of_deadline(rules, reads, *case),
+        Command::Extend { case, .. } => next_of_deadline(rules, reads, *case),
+        Command::Motion { case, .. } => next_of_case(rules, reads, *case),
         Command::Book(s) => next_of_booking(rules, reads, s),
         Command::MoveHearing(s) => next_of_move(rules, reads, s),
         Command::Cancel { case, motion } => next_of_cancel(rules, reads, *case, *motion),

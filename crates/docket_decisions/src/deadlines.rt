@@ -5,11 +5,11 @@ ghost use Rattle.rule_periods.specs.Words.{suits, has_length, start_refusal, ext
 ghost use Rattle.docket_rows.specs.Words.{started, shown_now, deadline_in, refusal_of, start_deadline_refusal, file_act_refusal, extend_refusal};
 
 use crate::rules::DocketRules;
-use crate::seen::{deadline_in, deadlines_count, has_case, is_beyond, is_closed, shown_now};
+use crate::seen::{deadline_in, has_case, is_beyond, is_closed, is_full_of_deadlines, shown_now};
 use crate::sight::Sight;
 use court_clock::{Clock, Day};
 use court_days::Days;
-use docket_rows::{MOST_DEADLINES, MOST_GRANTS, Refusal};
+use docket_rows::{MOST_GRANTS, Refusal};
 use rule_periods::{DeadlineRow, DocketRow, Event, Period, Request, check_start, may_extend};
 use rule6::{Filing, ServiceKind, Shown};
 use std::alloc::Global;
@@ -68,7 +68,7 @@ pub(crate) fn start_deadline_refusal<S: Sight>(
     ensures suits { IfNone result (suits period.now second.now service.now ≡ true) }
     ensures length { IfNone result (has_length period.now ≡ true) }
 {
-    if !has_case(sight, case) {
+    if !has_case(rules, sight, case) {
         return Some(Refusal::NoSuchCase);
     }
     if is_closed(sight, case) {
@@ -77,7 +77,7 @@ pub(crate) fn start_deadline_refusal<S: Sight>(
     if let Some(refusal) = start_refusal(sight.days(), period, event, *second, *service) {
         return Some(refusal);
     }
-    if deadlines_count(sight, case) >= MOST_DEADLINES {
+    if is_full_of_deadlines(rules, sight, case) {
         return Some(Refusal::Full);
     }
     if is_beyond(shown_at_start(alloc, rules, sight, period, event, *second, *service)) {
@@ -97,7 +97,7 @@ pub(crate) fn file_act_refusal<S: Sight>(
 ) -> Option<Refusal>
     ensures { result ≡ file_act_refusal rules.now (S.parts sight.now) case deadline filing }
 {
-    if !has_case(sight, case) {
+    if !has_case(rules, sight, case) {
         return Some(Refusal::NoSuchCase);
     }
     if is_closed(sight, case) {
@@ -148,7 +148,7 @@ pub(crate) fn extend_refusal<S: Sight>(
     ensures length { IfNone result (is_grant_length request.now.grant ≡ true) }
     ensures fits { IfNone result (IfSome (deadline_in (S.parts sight.now) case deadline) (λ row. grant_fits (is_in_hours row.period) request.now.grant ≡ true)) }
 {
-    if !has_case(sight, case) {
+    if !has_case(rules, sight, case) {
         return Some(Refusal::NoSuchCase);
     }
     if is_closed(sight, case) {

@@ -9,23 +9,15 @@ ghost use Rattle.docket_rows.specs.Words.{add_fact, answer_if_made, are_judges, 
 use crate::called::{label_refusal, not_counted, title_refusal};
 use crate::resumed::{resume_refusal, run_if_anew, shown_if_resumed};
 use crate::rules::DocketRules;
-use crate::seen::{deadline_in, has_case, hearing_in, if_ahead, is_closed, motion_in};
+use crate::seen::{
+    deadline_in, has_case, hearing_in, if_ahead, is_closed, is_full_of_facts, motion_in,
+};
 use crate::sight::Sight;
 use court_clock::Day;
 use docket_rows::{
-    Answer, CaseRecord, Counted, Ending, Fact, Hearing, MOST_FACTS, MotionRecord, Refusal, ended_in,
+    Answer, CaseRecord, Counted, Ending, Fact, Hearing, MotionRecord, Refusal, ended_in,
 };
 use std::alloc::{AllocError, Global};
-
-/// How many facts are recorded of the case.
-pub(crate) fn facts_count<S: Sight>(sight: &S, case: u32) -> usize
-    ensures { result ≡ length (facts_in (S.parts sight.now) case) }
-{
-    match sight.case(case) {
-        Some(record) => record.facts().len(),
-        None => 0,
-    }
-}
 
 /// Why the deadline of that number was ended, if it was and wasn't resumed.
 #[tactic(auto, unfolding(docket_rows::specs::Words::ended_in))]
@@ -50,7 +42,7 @@ fn is_heard_after(day: Day, motion: &MotionRecord) -> bool
 
 /// The number of the first of these motions that has a hearing after the day, where they are numbered from `number` on.
 fn first_ahead(motions: &[MotionRecord], number: u32, day: Day) -> Option<u32>
-    requires { number + length motions.now ≤ 65 }
+    requires { number + length motions.now ≤ 4097 }
     ensures { result ≡ first_ahead day (numbered_motions number motions.now) }
 {
     match motions {
@@ -89,22 +81,22 @@ pub(crate) fn fact_refusal<S: Sight>(
             deadline,
             why,
             dated,
-        } => end_refusal(sight, case, deadline, why, dated),
+        } => end_refusal(rules, sight, case, deadline, why, dated),
         Fact::Resumed {
             deadline,
             from,
             dated,
         } => resume_refusal(alloc, rules, sight, case, deadline, from, dated),
-        Fact::Closed { dated, .. } => close_refusal(sight, case, dated),
-        Fact::Reopened { dated } => reopen_refusal(sight, case, dated),
-        Fact::Ruled { motion, dated, .. } => rule_refusal(sight, case, motion, dated),
+        Fact::Closed { dated, .. } => close_refusal(rules, sight, case, dated),
+        Fact::Reopened { dated } => reopen_refusal(rules, sight, case, dated),
+        Fact::Ruled { motion, dated, .. } => rule_refusal(rules, sight, case, motion, dated),
         Fact::Assigned {
             judge,
             referred,
             dated,
         } => assign_refusal(rules, sight, case, judge, referred, dated),
-        Fact::Titled => title_refusal(sight, case),
-        Fact::Labelled { counted, number } => label_refusal(sight, case, counted, number),
+        Fact::Titled => title_refusal(rules, sight, case),
+        Fact::Labelled { counted, number } => label_refusal(rules, sight, case, counted, number),
     }
 }
 
@@ -121,15 +113,16 @@ fn no_suspender<S: Sight>(sight: &S, case: u32, why: Ending) -> Option<Refusal>
 /// Why the deadline can't be ended, if it can't.
 #[tactic(auto, unfolding(docket_rows::specs::Words::end_refusal))]
 fn end_refusal<S: Sight>(
+    rules: &DocketRules,
     sight: &S,
     case: u32,
     deadline: u32,
     why: Ending,
     dated: Day,
 ) -> Option<Refusal>
-    ensures { result ≡ end_refusal (S.parts sight.now) case deadline why dated }
+    ensures { result ≡ end_refusal rules.now (S.parts sight.now) case deadline why dated }
 {
-    if !has_case(sight, case) {
+    if !has_case(rules, sight, case) {
         return Some(Refusal::NoSuchCase);
     }
     if is_closed(sight, case) {
@@ -150,7 +143,7 @@ fn end_refusal<S: Sight>(
     if ending_of(sight, case, deadline).is_some() {
         return Some(Refusal::AlreadyEnded);
     }
-    if facts_count(sight, case) >= MOST_FACTS {
+    if is_full_of_facts(rules, sight, case) {
         return Some(Refusal::Full);
     }
     None
@@ -158,10 +151,10 @@ fn end_refusal<S: Sight>(
 
 /// Why the case can't be closed, if it can't.
 #[tactic(auto, unfolding(docket_rows::specs::Words::close_refusal))]
-fn close_refusal<S: Sight>(sight: &S, case: u32, dated: Day) -> Option<Refusal>
-    ensures { result ≡ close_refusal (S.parts sight.now) case dated }
+fn close_refusal<S: Sight>(rules: &DocketRules, sight: &S, case: u32, dated: Day) -> Option<Refusal>
+    ensures { result ≡ close_refusal rules.now (S.parts sight.now) case dated }
 {
-    if !has_case(sight, case) {
+    if !has_case(rules, sight, case) {
         return Some(Refusal::NoSuchCase);
     }
     if is_closed(sight, case) {
@@ -173,7 +166,7 @@ fn close_refusal<S: Sight>(sight: &S, case: u32, dated: Day) -> Option<Refusal>
     if let Some(motion) = ahead_in(sight, case, dated) {
         return Some(Refusal::HearingAhead(case, motion));
     }
-    if facts_count(sight, case) >= MOST_FACTS {
+    if is_full_of_facts(rules, sight, case) {
         return Some(Refusal::Full);
     }
     None
@@ -181,10 +174,15 @@ fn close_refusal<S: Sight>(sight: &S, case: u32, dated: Day) -> Option<Refusal>
 
 /// Why the case can't be reopened, if it can't.
 #[tactic(auto, unfolding(docket_rows::specs::Words::reopen_refusal))]
-fn reopen_refusal<S: Sight>(sight: &S, case: u32, dated: Day) -> Option<Refusal>
-    ensures { result ≡ reopen_refusal (S.parts sight.now) case dated }
+fn reopen_refusal<S: Sight>(
+    rules: &DocketRules,
+    sight: &S,
+    case: u32,
+    dated: Day,
+) -> Option<Refusal>
+    ensures { result ≡ reopen_refusal rules.now (S.parts sight.now) case dated }
 {
-    if !has_case(sight, case) {
+    if !has_case(rules, sight, case) {
         return Some(Refusal::NoSuchCase);
     }
     if !is_closed(sight, case) {
@@ -193,7 +191,7 @@ fn reopen_refusal<S: Sight>(sight: &S, case: u32, dated: Day) -> Option<Refusal>
     if !sight.days().covered(dated) {
         return Some(Refusal::BadDay);
     }
-    if facts_count(sight, case) >= MOST_FACTS {
+    if is_full_of_facts(rules, sight, case) {
         return Some(Refusal::Full);
     }
     None
@@ -201,10 +199,16 @@ fn reopen_refusal<S: Sight>(sight: &S, case: u32, dated: Day) -> Option<Refusal>
 
 /// Why the motion can't be ruled on, if it can't.
 #[tactic(auto, unfolding(docket_rows::specs::Words::rule_refusal))]
-fn rule_refusal<S: Sight>(sight: &S, case: u32, motion: u32, dated: Day) -> Option<Refusal>
-    ensures { result ≡ rule_refusal (S.parts sight.now) case motion dated }
+fn rule_refusal<S: Sight>(
+    rules: &DocketRules,
+    sight: &S,
+    case: u32,
+    motion: u32,
+    dated: Day,
+) -> Option<Refusal>
+    ensures { result ≡ rule_refusal rules.now (S.parts sight.now) case motion dated }
 {
-    if !has_case(sight, case) {
+    if !has_case(rules, sight, case) {
         return Some(Refusal::NoSuchCase);
     }
     if is_closed(sight, case) {
@@ -216,14 +220,14 @@ fn rule_refusal<S: Sight>(sight: &S, case: u32, motion: u32, dated: Day) -> Opti
     if !sight.days().covered(dated) {
         return Some(Refusal::BadDay);
     }
-    if facts_count(sight, case) >= MOST_FACTS {
+    if is_full_of_facts(rules, sight, case) {
         return Some(Refusal::Full);
     }
     None
 }
 
 /// Whether the judge who has a case, and the one to whom it is referred, if it is, are judges of the court.
-fn are_judges(rules: &DocketRules, judge: u8, referred: Option<u8>) -> bool
+fn are_judges(rules: &DocketRules, judge: u16, referred: Option<u16>) -> bool
     ensures { result ≡ are_judges rules.now judge referred }
 {
     if judge >= rules.judges() {
@@ -236,7 +240,7 @@ fn are_judges(rules: &DocketRules, judge: u8, referred: Option<u8>) -> bool
 }
 
 /// Whether the case is referred to the judge who has it.
-fn is_named_twice(judge: u8, referred: Option<u8>) -> bool
+fn is_named_twice(judge: u16, referred: Option<u16>) -> bool
     ensures { result ≡ is_named_twice judge referred }
 {
     match referred {
@@ -251,13 +255,13 @@ fn assign_refusal<S: Sight>(
     rules: &DocketRules,
     sight: &S,
     case: u32,
-    judge: u8,
-    referred: Option<u8>,
+    judge: u16,
+    referred: Option<u16>,
     dated: Day,
 ) -> Option<Refusal>
     ensures { result ≡ assign_refusal rules.now (S.parts sight.now) case judge referred dated }
 {
-    if !has_case(sight, case) {
+    if !has_case(rules, sight, case) {
         return Some(Refusal::NoSuchCase);
     }
     if is_closed(sight, case) {
@@ -272,7 +276,7 @@ fn assign_refusal<S: Sight>(
     if !sight.days().covered(dated) {
         return Some(Refusal::BadDay);
     }
-    if facts_count(sight, case) >= MOST_FACTS {
+    if is_full_of_facts(rules, sight, case) {
         return Some(Refusal::Full);
     }
     None

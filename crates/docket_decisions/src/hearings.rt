@@ -46,7 +46,7 @@ fn hearing_refusal<S: Sight>(
 ) -> Option<Refusal>
     ensures { result ≡ first_of (hearing_checks rules.now (S.parts sight.now) s.now set except) }
 {
-    if !has_case(sight, s.case) {
+    if !has_case(rules, sight, s.case) {
         return Some(Refusal::NoSuchCase);
     }
     if is_closed(sight, s.case) {
@@ -128,10 +128,15 @@ pub(crate) fn move_refusal<S: Sight>(rules: &DocketRules, sight: &S, s: &Setting
 
 /// Why the hearing can't be taken off the calendar, if it can't.
 #[tactic(auto, unfolding(docket_rows::specs::Words::cancel_refusal))]
-pub(crate) fn cancel_refusal<S: Sight>(sight: &S, case: u32, motion: u32) -> Option<Refusal>
-    ensures { result ≡ cancel_refusal (S.parts sight.now) case motion }
+pub(crate) fn cancel_refusal<S: Sight>(
+    rules: &DocketRules,
+    sight: &S,
+    case: u32,
+    motion: u32,
+) -> Option<Refusal>
+    ensures { result ≡ cancel_refusal rules.now (S.parts sight.now) case motion }
 {
-    if !has_case(sight, case) {
+    if !has_case(rules, sight, case) {
         return Some(Refusal::NoSuchCase);
     }
     if is_closed(sight, case) {

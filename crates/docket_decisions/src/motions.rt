@@ -3,10 +3,11 @@
 ghost use Rattle.std.specs.Prelude.{◌≡◌};
 ghost use Rattle.docket_rows.specs.Words.{is_notice_length, is_need, motion_refusal};
 
-use crate::seen::{has_case, is_closed, motions_count};
+use crate::rules::DocketRules;
+use crate::seen::{has_case, is_closed, is_full_of_motions};
 use crate::sight::Sight;
 use court_clock::Day;
-use docket_rows::{MOST_MOTIONS, Refusal};
+use docket_rows::Refusal;
 use hearing_slots::Need;
 
 /// Whether a motion can need a notice of n days.
@@ -29,14 +30,15 @@ fn is_need(need: Need) -> bool
 /// Why the motion can't be entered, if it can't.
 #[tactic(auto, unfolding(docket_rows::specs::Words::motion_refusal))]
 pub(crate) fn motion_refusal<S: Sight>(
+    rules: &DocketRules,
     sight: &S,
     case: u32,
     served: Day,
     need: Need,
 ) -> Option<Refusal>
-    ensures { result ≡ motion_refusal (S.parts sight.now) case served need }
+    ensures { result ≡ motion_refusal rules.now (S.parts sight.now) case served need }
 {
-    if !has_case(sight, case) {
+    if !has_case(rules, sight, case) {
         return Some(Refusal::NoSuchCase);
     }
     if is_closed(sight, case) {
@@ -48,7 +50,7 @@ pub(crate) fn motion_refusal<S: Sight>(
     if !is_need(need) {
         return Some(Refusal::BadLength);
     }
-    if motions_count(sight, case) >= MOST_MOTIONS {
+    if is_full_of_motions(rules, sight, case) {
         return Some(Refusal::Full);
     }
     None

@@ -33,7 +33,11 @@ pub(crate) fn unread(reads: &[(PartId, PartValue)], part: PartId) -> Option<Part
 }
 
 /// The first judge of these whose calendar wasn't read; those that the court hasn't are skipped.
-fn unread_judge(rules: &DocketRules, reads: &[(PartId, PartValue)], judges: &[u8]) -> Option<PartId>
+fn unread_judge(
+    rules: &DocketRules,
+    reads: &[(PartId, PartValue)],
+    judges: &[u16],
+) -> Option<PartId>
     ensures { result ≡ first_unread reads.now (judges_of rules.now judges.now) }
 {
     match judges {
@@ -48,7 +52,7 @@ fn unread_judge(rules: &DocketRules, reads: &[(PartId, PartValue)], judges: &[u8
 }
 
 /// The room, if the court has it and its calendar wasn't read.
-fn unread_room(rules: &DocketRules, reads: &[(PartId, PartValue)], room: u8) -> Option<PartId>
+fn unread_room(rules: &DocketRules, reads: &[(PartId, PartValue)], room: u16) -> Option<PartId>
     ensures { result ≡ first_unread reads.now (rooms_of rules.now room) }
 {
     if room >= rules.rooms() {
@@ -63,7 +67,7 @@ fn unread_calendar(
     rules: &DocketRules,
     reads: &[(PartId, PartValue)],
     judges: Panel,
-    room: u8,
+    room: u16,
 ) -> Option<PartId>
     ensures { result ≡ first_unread reads.now (calendars_of rules.now judges room) }
 {
@@ -90,8 +94,8 @@ fn unread_now(
 
 /// The first judge, of `count` from this one on, whose calendar wasn't read.
 #[tactic(auto, using(crate::proofs::NextLemmas::range_more))]
-fn unread_of_all(reads: &[(PartId, PartValue)], judge: u8, count: u8) -> Option<PartId>
-    requires { judge + count ≤ 32 }
+fn unread_of_all(reads: &[(PartId, PartValue)], judge: u16, count: u16) -> Option<PartId>
+    requires { judge + count ≤ 1000 }
     ensures { result ≡ first_unread reads.now (map Judge (range_with_len judge count)) }
 {
     if count == 0 {
@@ -104,20 +108,28 @@ fn unread_of_all(reads: &[(PartId, PartValue)], judge: u8, count: u8) -> Option<
 }
 
 /// The next part of a command that reads the case alone.
-pub(crate) fn next_of_case(reads: &[(PartId, PartValue)], case: u32) -> Option<PartId>
-    ensures { result ≡ first_unread reads.now (about_case case []) }
+pub(crate) fn next_of_case(
+    rules: &DocketRules,
+    reads: &[(PartId, PartValue)],
+    case: u32,
+) -> Option<PartId>
+    ensures { result ≡ first_unread reads.now (about_case rules.now case []) }
 {
-    if !is_case_number(case) {
+    if !is_case_number(rules, case) {
         return None;
     }
     unread(reads, PartId::Case(case))
 }
 
 /// The next part of a command that reads the case and the court's days.
-pub(crate) fn next_of_deadline(reads: &[(PartId, PartValue)], case: u32) -> Option<PartId>
-    ensures { result ≡ first_unread reads.now (about_case case (Court ∷ [])) }
+pub(crate) fn next_of_deadline(
+    rules: &DocketRules,
+    reads: &[(PartId, PartValue)],
+    case: u32,
+) -> Option<PartId>
+    ensures { result ≡ first_unread reads.now (about_case rules.now case (Court ∷ [])) }
 {
-    if !is_case_number(case) {
+    if !is_case_number(rules, case) {
         return None;
     }
     if !is_read(reads, PartId::Case(case)) {
@@ -132,9 +144,9 @@ pub(crate) fn next_of_booking(
     reads: &[(PartId, PartValue)],
     s: &Setting,
 ) -> Option<PartId>
-    ensures { result ≡ first_unread reads.now (about_case s.now.case (Court ∷ calendars_of rules.now s.now.judges s.now.room)) }
+    ensures { result ≡ first_unread reads.now (about_case rules.now s.now.case (Court ∷ calendars_of rules.now s.now.judges s.now.room)) }
 {
-    if !is_case_number(s.case) {
+    if !is_case_number(rules, s.case) {
         return None;
     }
     if !is_read(reads, PartId::Case(s.case)) {
@@ -153,9 +165,9 @@ pub(crate) fn next_of_move(
     reads: &[(PartId, PartValue)],
     s: &Setting,
 ) -> Option<PartId>
-    ensures { result ≡ first_unread reads.now (about_case s.now.case (Court ∷ calendars_now rules.now (parts_read rules.now reads.now) s.now.case s.now.motion ++ calendars_of rules.now s.now.judges s.now.room)) }
+    ensures { result ≡ first_unread reads.now (about_case rules.now s.now.case (Court ∷ calendars_now rules.now (parts_read rules.now reads.now) s.now.case s.now.motion ++ calendars_of rules.now s.now.judges s.now.room)) }
 {
-    if !is_case_number(s.case) {
+    if !is_case_number(rules, s.case) {
         return None;
     }
     if !is_read(reads, PartId::Case(s.case)) {
@@ -177,9 +189,9 @@ pub(crate) fn next_of_cancel(
     case: u32,
     motion: u32,
 ) -> Option<PartId>
-    ensures { result ≡ first_unread reads.now (about_case case (calendars_now rules.now (parts_read rules.now reads.now) case motion)) }
+    ensures { result ≡ first_unread reads.now (about_case rules.now case (calendars_now rules.now (parts_read rules.now reads.now) case motion)) }
 {
-    if !is_case_number(case) {
+    if !is_case_number(rules, case) {
         return None;
     }
     if !is_read(reads, PartId::Case(case)) {
@@ -195,9 +207,9 @@ fn next_of_ruling(
     case: u32,
     motion: u32,
 ) -> Option<PartId>
-    ensures { result ≡ first_unread reads.now (about_case case (Court ∷ calendars_now rules.now (parts_read rules.now reads.now) case motion)) }
+    ensures { result ≡ first_unread reads.now (about_case rules.now case (Court ∷ calendars_now rules.now (parts_read rules.now reads.now) case motion)) }
 {
-    if !is_case_number(case) {
+    if !is_case_number(rules, case) {
         return None;
     }
     if !is_read(reads, PartId::Case(case)) {
@@ -216,15 +228,15 @@ pub(crate) fn next_of_fact(
     case: u32,
     fact: &Fact,
 ) -> Option<PartId>
-    ensures { result ≡ first_unread reads.now (about_case case (Court ∷ calendars_taken rules.now (parts_read rules.now reads.now) case fact.now)) }
+    ensures { result ≡ first_unread reads.now (about_case rules.now case (Court ∷ calendars_taken rules.now (parts_read rules.now reads.now) case fact.now)) }
 {
     match *fact {
-        Fact::Ended { .. } | Fact::Resumed { .. } => next_of_deadline(reads, case),
-        Fact::Closed { .. } | Fact::Reopened { .. } => next_of_deadline(reads, case),
+        Fact::Ended { .. } | Fact::Resumed { .. } => next_of_deadline(rules, reads, case),
+        Fact::Closed { .. } | Fact::Reopened { .. } => next_of_deadline(rules, reads, case),
         Fact::Ruled { motion, .. } => next_of_ruling(rules, reads, case, motion),
-        Fact::Assigned { .. } => next_of_deadline(reads, case),
-        Fact::Titled => next_of_deadline(reads, case),
-        Fact::Labelled { .. } => next_of_deadline(reads, case),
+        Fact::Assigned { .. } => next_of_deadline(rules, reads, case),
+        Fact::Titled => next_of_deadline(rules, reads, case),
+        Fact::Labelled { .. } => next_of_deadline(rules, reads, case),
     }
 }
 

@@ -32,7 +32,7 @@ impl<'a> Seen<'a> {
 
     /// The calendar of the judge of that number, as it was read; None has no bookings.
     #[tactic(auto, unfolding(docket_rows::specs::Words::parts_read))]
-    pub fn calendar_of_judge(&self, judge: u8) -> Option<&SharedCalendar>
+    pub fn calendar_of_judge(&self, judge: u16) -> Option<&SharedCalendar>
         ensures { unwrap_or (option_copied result) [] ≡ (parts_read self.now.rules.now self.now.reads.now).judge judge }
     {
         calendar_read(self.reads, PartId::Judge(judge))
@@ -40,7 +40,7 @@ impl<'a> Seen<'a> {
 
     /// The calendar of the room of that number, as it was read; None has no bookings.
     #[tactic(auto, unfolding(docket_rows::specs::Words::parts_read))]
-    pub fn calendar_of_room(&self, room: u8) -> Option<&SharedCalendar>
+    pub fn calendar_of_room(&self, room: u16) -> Option<&SharedCalendar>
         ensures { unwrap_or (option_copied result) [] ≡ (parts_read self.now.rules.now self.now.reads.now).room room }
     {
         calendar_read(self.reads, PartId::Room(room))
@@ -68,11 +68,11 @@ impl<'a> Sight for Seen<'a> {
         }
     }
 
-    fn judge(&self, judge: u8) -> CalendarRef<'_> {
+    fn judge(&self, judge: u16) -> CalendarRef<'_> {
         CalendarRef::shared(self.calendar_of_judge(judge))
     }
 
-    fn room(&self, room: u8) -> CalendarRef<'_> {
+    fn room(&self, room: u16) -> CalendarRef<'_> {
         CalendarRef::shared(self.calendar_of_room(room))
     }
 }

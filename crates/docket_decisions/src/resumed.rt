@@ -6,13 +6,13 @@ ghost use Rattle.rule6.specs.declared.timeliness.Shown.TheVariants.{Beyond};
 ghost use Rattle.rule_periods.specs.Words.{anew, anew_if, is_covered_if_given};
 ghost use Rattle.docket_rows.specs.Words.{change_deadline, deadline_in, resume_refusal, shown_now};
 
-use crate::facts::{ending_of, facts_count};
+use crate::facts::ending_of;
 use crate::rules::DocketRules;
-use crate::seen::{deadline_in, has_case, is_beyond, is_closed, shown_now};
+use crate::seen::{deadline_in, has_case, is_beyond, is_closed, is_full_of_facts, shown_now};
 use crate::sight::Sight;
 use court_clock::Day;
 use court_days::Days;
-use docket_rows::{CaseRecord, MOST_FACTS, Refusal};
+use docket_rows::{CaseRecord, Refusal};
 use rule_periods::DeadlineRow;
 use rule6::Shown;
 use std::alloc::Global;
@@ -70,7 +70,7 @@ pub(crate) fn resume_refusal<S: Sight>(
 ) -> Option<Refusal>
     ensures { result ≡ resume_refusal rules.now (S.parts sight.now) case deadline from dated }
 {
-    if !has_case(sight, case) {
+    if !has_case(rules, sight, case) {
         return Some(Refusal::NoSuchCase);
     }
     if is_closed(sight, case) {
@@ -91,7 +91,7 @@ pub(crate) fn resume_refusal<S: Sight>(
     if is_beyond(shown_from(alloc, rules, sight, row.row(), from)) {
         return Some(Refusal::Beyond);
     }
-    if facts_count(sight, case) >= MOST_FACTS {
+    if is_full_of_facts(rules, sight, case) {
         return Some(Refusal::Full);
     }
     None

@@ -1,28 +1,28 @@
 //! What the parts show of a case.
 
-ghost use Rattle.std.specs.Prelude.{◌≡◌, length, option_copied, option_map};
+ghost use Rattle.std.specs.Prelude.{◌≡◌, ◌≤◌, nat_le, length, option_copied, option_map};
 ghost use Rattle.rule_periods.specs.Words.{is_beyond};
-ghost use Rattle.docket_rows.specs.Words.{is_case_number, has_case, deadlines_in, deadline_in, facts_in, motions_in, motion_in, hearing_in, if_ahead, is_closed, shown_now};
+ghost use Rattle.docket_rows.specs.Words.{is_case_number, has_case, deadlines_in, deadline_in, facts_in, motions_in, motion_in, hearing_in, if_ahead, is_closed, most_deadlines, most_motions, shown_now};
 
 use crate::rules::DocketRules;
 use crate::sight::Sight;
 use court_clock::Day;
-use docket_rows::{Fact, Hearing, LAST_CASE, MotionRecord, closing_in};
+use docket_rows::{Fact, Hearing, MotionRecord, closing_in};
 use rule_periods::{DeadlineRow, DocketRow, shown};
 use rule6::Shown;
 
-/// Whether cases have such a number.
-pub(crate) fn is_case_number(case: u32) -> bool
-    ensures { result ≡ is_case_number case }
+/// Whether the docket has cases of such a number.
+pub(crate) fn is_case_number(rules: &DocketRules, case: u32) -> bool
+    ensures { result ≡ is_case_number rules.now case }
 {
-    1 <= case && case <= LAST_CASE
+    1 <= case && case <= rules.most_cases()
 }
 
 /// Whether the case is open.
-pub fn has_case<S: Sight>(sight: &S, case: u32) -> bool
-    ensures { result ≡ has_case (S.parts sight.now) case }
+pub fn has_case<S: Sight>(rules: &DocketRules, sight: &S, case: u32) -> bool
+    ensures { result ≡ has_case rules.now (S.parts sight.now) case }
 {
-    if !is_case_number(case) {
+    if !is_case_number(rules, case) {
         return false;
     }
     match sight.case(case) {
@@ -44,12 +44,20 @@ pub(crate) fn is_closed<S: Sight>(sight: &S, case: u32) -> bool
 
 /// How many deadlines the case has.
 pub(crate) fn deadlines_count<S: Sight>(sight: &S, case: u32) -> usize
-    ensures { result ≡ length (deadlines_in (S.parts sight.now) case) }
+    ensures value { result ≡ length (deadlines_in (S.parts sight.now) case) }
+    ensures few { result ≤ most_deadlines }
 {
     match sight.case(case) {
         Some(record) => record.deadlines().len(),
         None => 0,
     }
+}
+
+/// Whether the case has as many deadlines as the docket takes.
+pub(crate) fn is_full_of_deadlines<S: Sight>(rules: &DocketRules, sight: &S, case: u32) -> bool
+    ensures { result ≡ nat_le rules.now.limits.deadlines (length (deadlines_in (S.parts sight.now) case)) }
+{
+    deadlines_count(sight, case) >= rules.most_deadlines()
 }
 
 /// The deadline of that number in the case, if there is one.
@@ -72,14 +80,39 @@ pub fn facts_in<S: Sight>(sight: &S, case: u32) -> &[Fact]
     }
 }
 
+/// How many facts are recorded of the case.
+fn facts_count<S: Sight>(sight: &S, case: u32) -> usize
+    ensures { result ≡ length (facts_in (S.parts sight.now) case) }
+{
+    match sight.case(case) {
+        Some(record) => record.facts().len(),
+        None => 0,
+    }
+}
+
+/// Whether as many facts are recorded of the case as the docket takes.
+pub(crate) fn is_full_of_facts<S: Sight>(rules: &DocketRules, sight: &S, case: u32) -> bool
+    ensures { result ≡ nat_le rules.now.limits.facts (length (facts_in (S.parts sight.now) case)) }
+{
+    facts_count(sight, case) >= rules.most_facts()
+}
+
 /// How many motions the case has.
 pub(crate) fn motions_count<S: Sight>(sight: &S, case: u32) -> usize
-    ensures { result ≡ length (motions_in (S.parts sight.now) case) }
+    ensures value { result ≡ length (motions_in (S.parts sight.now) case) }
+    ensures few { result ≤ most_motions }
 {
     match sight.case(case) {
         Some(record) => record.motions().len(),
         None => 0,
     }
+}
+
+/// Whether the case has as many motions as the docket takes.
+pub(crate) fn is_full_of_motions<S: Sight>(rules: &DocketRules, sight: &S, case: u32) -> bool
+    ensures { result ≡ nat_le rules.now.limits.motions (length (motions_in (S.parts sight.now) case)) }
+{
+    motions_count(sight, case) >= rules.most_motions()
 }
 
 /// The motion of that number in the case, if there is one.

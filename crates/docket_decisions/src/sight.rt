@@ -22,10 +22,10 @@ pub trait Sight {
         ensures { option_copied result ≡ (parts self.now).case case };
 
     /// The calendar of the judge of that number. Where there is no such calendar, it has no bookings.
-    fn judge(&self, judge: u8) -> CalendarRef<'_>
+    fn judge(&self, judge: u16) -> CalendarRef<'_>
         ensures { bookings_seen result ≡ (parts self.now).judge judge };
 
     /// The calendar of the room of that number. Where there is no such calendar, it has no bookings.
-    fn room(&self, room: u8) -> CalendarRef<'_>
+    fn room(&self, room: u16) -> CalendarRef<'_>
         ensures { bookings_seen result ≡ (parts self.now).room room };
 }

@@ -15,7 +15,7 @@ use Rattle.rule_periods.proofs.CallerLemmas.{extension_alike, shown_alike}
 use Rattle.docket_rows.specs.declared.answer.Answer.{Answer}
 use Rattle.docket_rows.specs.declared.answer.Answer.TheVariants as answer
 use Rattle.docket_rows.specs.declared.command.Command.{Command}
-use Rattle.docket_rows.specs.declared.command.Command.TheVariants.{Start, FileAct, Extend, Book, MoveHearing, Holiday, Fact}
+use Rattle.docket_rows.specs.declared.command.Command.TheVariants.{OpenCase, Start, FileAct, Extend, Motion, Book, MoveHearing, Cancel, Holiday, Fact}
 use Rattle.docket_rows.specs.declared.fact.Fact.{Fact as FactOf}
 use Rattle.docket_rows.specs.declared.fact.Fact.TheVariants.{Ended, Resumed, Closed, Reopened, Ruled, Assigned, Titled, Labelled}
 use Rattle.docket_rows.specs.declared.hearing.Setting.{Setting}
@@ -23,14 +23,14 @@ use Rattle.docket_rows.specs.declared.query.Query.{Query}
 use Rattle.docket_rows.specs.declared.query.Query.TheVariants.{Sheet, JudgeDay, Compute}
 use Rattle.docket_rows.specs.declared.refusal.Refusal.TheVariants.{NoSuchCase}
 use Rattle.docket_rows.specs.declared.view.View.TheVariants as view
-use Rattle.docket_rows.specs.Words.{CourtSetup, CaseRecordView, NumberedDeadline, Parts, Rows, answer_if_made, answered, assign_refusal, setup_of, book_refusal, deadline_in, ended_answer, extend_refusal, file_act_refusal, has_one, holiday_refusal, move_refusal, next_deadline, notice_lost, opening_rows, parts_of, query_refusal, refusal, refusal_of, resume_refusal, rows_from, seen_by, sheet_deadline, sheet_of, shown_if_asked, shown_now, start_deadline_refusal, started, state_of, step, view_of}
+use Rattle.docket_rows.specs.Words.{CourtSetup, CaseRecordView, NumberedDeadline, Parts, Rows, answer_if_made, answered, assign_refusal, setup_of, book_refusal, cancel_refusal, close_refusal, deadline_in, end_refusal, ended_answer, extend_refusal, file_act_refusal, has_one, holiday_refusal, label_refusal, motion_refusal, move_refusal, next_deadline, notice_lost, open_case_refusal, opening_rows, parts_of, query_refusal, refusal, refusal_of, reopen_refusal, resume_refusal, rows_from, rule_refusal, seen_by, sheet_deadline, sheet_of, shown_if_asked, shown_now, start_deadline_refusal, started, state_of, step, title_refusal, view_of}
 use Rattle.docket_laws.specs.Clocks.{IsSameSetup}
 use Rattle.docket_laws.specs.Lawful.{docket_after}
 use Rattle.docket_laws.proofs.PartsLists.{map_agree}
 
 -- two values of one court have two setups of it
 pub same_setup : (a b : CourtView) → IsSameCourt a b → IsSameSetup (setup_of a) (setup_of b)
-same_setup a b same = record { clock = same.clock; days = same.days; judges = ap length same.judges; rooms = ap length same.rooms }
+same_setup a b same = record { clock = same.clock; days = same.days; judges = ap length same.judges; rooms = ap length same.rooms; limits = same.limits }
 
 module _ (a b : CourtSetup) (same : IsSameSetup a b) where
   -- deadlines
@@ -60,34 +60,70 @@ module _ (a b : CourtSetup) (same : IsSameSetup a b) where
   anew_alike parts from (Some row) = ap is_beyond (end_alike parts (anew_if row from))
 
   -- refusals
+  open_case_alike : (parts : Parts) (case : ℕ) (filed : ℤ) → open_case_refusal a parts case filed ≡ open_case_refusal b parts case filed
+  unfolding open_case_refusal
+  open_case_alike parts case filed = rw same.limits refl
+
+  end_refused_alike : (parts : Parts) (case deadline : ℕ) (why : _) (dated : ℤ) → end_refusal a parts case deadline why dated ≡ end_refusal b parts case deadline why dated
+  unfolding end_refusal
+  end_refused_alike parts case deadline why dated = rw same.limits refl
+
+  close_alike : (parts : Parts) (case : ℕ) (dated : ℤ) → close_refusal a parts case dated ≡ close_refusal b parts case dated
+  unfolding close_refusal
+  close_alike parts case dated = rw same.limits refl
+
+  reopen_alike : (parts : Parts) (case : ℕ) (dated : ℤ) → reopen_refusal a parts case dated ≡ reopen_refusal b parts case dated
+  unfolding reopen_refusal
+  reopen_alike parts case dated = rw same.limits refl
+
+  rule_alike : (parts : Parts) (case motion : ℕ) (dated : ℤ) → rule_refusal a parts case motion dated ≡ rule_refusal b parts case motion dated
+  unfolding rule_refusal
+  rule_alike parts case motion dated = rw same.limits refl
+
+  title_alike : (parts : Parts) (case : ℕ) → title_refusal a parts case ≡ title_refusal b parts case
+  unfolding title_refusal
+  title_alike parts case = rw same.limits refl
+
+  label_alike : (parts : Parts) (case : ℕ) (kind : _) (number : ℕ) → label_refusal a parts case kind number ≡ label_refusal b parts case kind number
+  unfolding label_refusal
+  label_alike parts case kind number = rw same.limits refl
+
+  motion_alike : (parts : Parts) (case : ℕ) (served : ℤ) (need : _) → motion_refusal a parts case served need ≡ motion_refusal b parts case served need
+  unfolding motion_refusal
+  motion_alike parts case served need = rw same.limits refl
+
+  cancel_alike : (parts : Parts) (case motion : ℕ) → cancel_refusal a parts case motion ≡ cancel_refusal b parts case motion
+  unfolding cancel_refusal
+  cancel_alike parts case motion = rw same.limits refl
+
   start_alike : (parts : Parts) (case : ℕ) (period : _) (event : _) (second : Option ℤ) (service : _) → start_deadline_refusal a parts case period event second service ≡ start_deadline_refusal b parts case period event second service
   unfolding start_deadline_refusal
-  start_alike parts case period event second service = rw (end_alike parts (started period event second service)) refl
+  start_alike parts case period event second service = rw (same.limits, end_alike parts (started period event second service)) refl
 
   file_act_alike : (parts : Parts) (case deadline : ℕ) (filing : Filing) → file_act_refusal a parts case deadline filing ≡ file_act_refusal b parts case deadline filing
   unfolding file_act_refusal
-  file_act_alike parts case deadline filing = rw (beyond_alike parts (deadline_in parts case deadline)) refl
+  file_act_alike parts case deadline filing = rw (same.limits, beyond_alike parts (deadline_in parts case deadline)) refl
 
   extend_alike : (parts : Parts) (case deadline : ℕ) (request : Request) → extend_refusal a parts case deadline request ≡ extend_refusal b parts case deadline request
   unfolding extend_refusal
   extend_alike parts case deadline request =
-      rw (and_then_alike (λ row. option_map refusal_of (extension_refusal parts.days a.clock row request)) (λ row. option_map refusal_of (extension_refusal parts.days b.clock row request)) (deadline_in parts case deadline) (λ row. ap (option_map refusal_of) (extension_alike a.clock b.clock same.clock parts.days row request))) refl
+      rw (same.limits, and_then_alike (λ row. option_map refusal_of (extension_refusal parts.days a.clock row request)) (λ row. option_map refusal_of (extension_refusal parts.days b.clock row request)) (deadline_in parts case deadline) (λ row. ap (option_map refusal_of) (extension_alike a.clock b.clock same.clock parts.days row request))) refl
 
   resume_alike : (parts : Parts) (case deadline : ℕ) (from : Option ℤ) (dated : ℤ) → resume_refusal a parts case deadline from dated ≡ resume_refusal b parts case deadline from dated
   unfolding resume_refusal
-  resume_alike parts case deadline from dated = rw (anew_alike parts from (deadline_in parts case deadline)) refl
+  resume_alike parts case deadline from dated = rw (same.limits, anew_alike parts from (deadline_in parts case deadline)) refl
 
   assign_alike : (parts : Parts) (case judge : ℕ) (referred : Option ℕ) (dated : ℤ) → assign_refusal a parts case judge referred dated ≡ assign_refusal b parts case judge referred dated
   unfolding assign_refusal
-  assign_alike parts case judge referred dated = rw same.judges refl
+  assign_alike parts case judge referred dated = rw (same.limits, same.judges) refl
 
   book_alike : (parts : Parts) (s : Setting) → book_refusal a parts s ≡ book_refusal b parts s
   unfolding book_refusal
-  book_alike parts s = rw (same.judges, same.rooms, same.clock.opens, same.clock.closes) refl
+  book_alike parts s = rw (same.limits, same.judges, same.rooms, same.clock.opens, same.clock.closes) refl
 
   move_alike : (parts : Parts) (s : Setting) → move_refusal a parts s ≡ move_refusal b parts s
   unfolding move_refusal
-  move_alike parts s = rw (same.judges, same.rooms, same.clock.opens, same.clock.closes) refl
+  move_alike parts s = rw (same.limits, same.judges, same.rooms, same.clock.opens, same.clock.closes) refl
 
   notice_alike : (parts : Parts) (list : HolidayList) (day : ℤ) → notice_lost a parts list day ≡ notice_lost b parts list day
   notice_alike parts Federal day = rw same.judges refl
@@ -98,20 +134,23 @@ module _ (a b : CourtSetup) (same : IsSameSetup a b) where
   holiday_alike parts day list = rw (notice_alike parts list day, same.judges) refl
 
   pub refusal_alike : (parts : Parts) (command : Command) → refusal a parts command ≡ refusal b parts command
+  refusal_alike parts (OpenCase case filed) = open_case_alike parts case filed
   refusal_alike parts (Start case period event second service) = start_alike parts case period event second service
   refusal_alike parts (FileAct case deadline filing) = file_act_alike parts case deadline filing
   refusal_alike parts (Extend case deadline request) = extend_alike parts case deadline request
+  refusal_alike parts (Motion case served need) = motion_alike parts case served need
   refusal_alike parts (Book s) = book_alike parts s
   refusal_alike parts (MoveHearing s) = move_alike parts s
+  refusal_alike parts (Cancel case motion) = cancel_alike parts case motion
   refusal_alike parts (Holiday day list) = holiday_alike parts day list
   refusal_alike parts (Fact case (Resumed deadline day dated)) = resume_alike parts case deadline day dated
-  refusal_alike parts (Fact case (Ended deadline why dated)) = refl
-  refusal_alike parts (Fact case (Closed why dated)) = refl
-  refusal_alike parts (Fact case (Reopened dated)) = refl
-  refusal_alike parts (Fact case (Ruled motion ruling dated)) = refl
+  refusal_alike parts (Fact case (Ended deadline why dated)) = end_refused_alike parts case deadline why dated
+  refusal_alike parts (Fact case (Closed why dated)) = close_alike parts case dated
+  refusal_alike parts (Fact case (Reopened dated)) = reopen_alike parts case dated
+  refusal_alike parts (Fact case (Ruled motion ruling dated)) = rule_alike parts case motion dated
   refusal_alike parts (Fact case (Assigned judge referred dated)) = assign_alike parts case judge referred dated
-  refusal_alike parts (Fact case Titled) = refl
-  refusal_alike parts (Fact case (Labelled kind number)) = refl
+  refusal_alike parts (Fact case Titled) = title_alike parts case
+  refusal_alike parts (Fact case (Labelled kind number)) = label_alike parts case kind number
   refusal_alike parts _ = refl
 
   -- answers
@@ -168,6 +207,7 @@ module _ (a b : CourtSetup) (same : IsSameSetup a b) where
 
   query_alike : (parts : Parts) (query : Query) → query_refusal a parts query ≡ query_refusal b parts query
   unfolding query_refusal
+  query_alike parts (Sheet case) = rw same.limits refl
   query_alike parts (JudgeDay judge day) = rw same.judges refl
   query_alike parts _ = refl
 

@@ -3,6 +3,7 @@ pub mod CallerLemmas
 pub mod EndedLemmas
 pub mod LawfulLemmas
 pub mod MadeLemmas
+pub mod OfficeLemmas
 pub mod PartsAfter
 pub mod PartsCalendars
 pub mod PartsCases
@@ -16,6 +17,7 @@ pub mod PartsRulings
 pub mod PartsSame
 pub mod PartsSeen
 pub mod PartsStep
+pub mod RangeLemmas
 pub mod ReadsChanged
 pub mod ReadsDecided
 pub mod ReadsEnd

@@ -4,7 +4,7 @@ use Rattle.std.proofs.lemmas.Bool.{cases_Bool, false≢true}
 use Rattle.std.proofs.lemmas.Bool.Decides.{nat_tests}
 use Rattle.std.proofs.lemmas.List.Elements.{All-weaker}
 use Rattle.court_clock.specs.Words.{ClockView}
-use Rattle.court_days.specs.Words.{DaysView}
+use Rattle.court_days.specs.Words.{AreLimits, DaysView}
 use Rattle.rule6.specs.declared.service.ServiceKind.{ServiceKind}
 use Rattle.rule_periods.specs.declared.period.Period.{Period}
 use Rattle.rule_periods.specs.declared.grant.Grant.{Grant}
@@ -68,12 +68,12 @@ start_made c period event second service h =
     (when-not-None _ _ n.1.0, when-not-None _ _ n.1.1.0)
 
 -- so does the period of a deadline that starts, and there is room for it
-pub record CanStart (parts : Parts) (case : ℕ) (period : Period) (second : Option ℤ) (service : Option ServiceKind) : Type 0 where
+pub record CanStart (setup : CourtSetup) (parts : Parts) (case : ℕ) (period : Period) (second : Option ℤ) (service : Option ServiceKind) : Type 0 where
   pub suits : suits period second service ≡ true
   pub ranged : has_length period ≡ true
-  pub room : length (deadlines_in parts case) < most_deadlines
+  pub room : length (deadlines_in parts case) < setup.limits.deadlines
 
-pub can_start : (setup : CourtSetup) (parts : Parts) (case : ℕ) (period : Period) (event : EventView) (second : Option ℤ) (service : Option ServiceKind) → start_deadline_refusal setup parts case period event second service ≡ None → CanStart parts case period second service
+pub can_start : (setup : CourtSetup) (parts : Parts) (case : ℕ) (period : Period) (event : EventView) (second : Option ℤ) (service : Option ServiceKind) → start_deadline_refusal setup parts case period event second service ≡ None → CanStart setup parts case period second service
 unfolding start_deadline_refusal
 can_start setup parts case period event second service h =
     let n = none_of (start_deadline_checks setup parts case period event second service) h in
@@ -82,18 +82,18 @@ can_start setup parts case period event second service h =
     record { suits = made.0; ranged = made.1; room = grind (arith, nat_tests) }
 
 -- there is room for a motion that is entered
-pub can_enter : (parts : Parts) (case : ℕ) (served : ℤ) (need : Need) → motion_refusal parts case served need ≡ None → length (motions_in parts case) < most_motions
+pub can_enter : (setup : CourtSetup) (parts : Parts) (case : ℕ) (served : ℤ) (need : Need) → motion_refusal setup parts case served need ≡ None → length (motions_in parts case) < setup.limits.motions
 unfolding motion_refusal
-can_enter parts case served need h =
-    let n = none_of (motion_checks parts case served need) h in
+can_enter setup parts case served need h =
+    let n = none_of (motion_checks setup parts case served need) h in
     let full = when-None _ _ n.1.1.1.1.0 in
     grind (arith, nat_tests)
 
 -- there is room for a fact that is kept
-pub can_record : (setup : CourtSetup) (parts : Parts) (case : ℕ) (fact : Fact) → refusal setup parts (command.Fact case fact) ≡ None → is_kept fact ≡ true → length (facts_in parts case) < most_facts
+pub can_record : (setup : CourtSetup) (parts : Parts) (case : ℕ) (fact : Fact) → refusal setup parts (command.Fact case fact) ≡ None → is_kept fact ≡ true → length (facts_in parts case) < setup.limits.facts
 unfolding end_refusal resume_refusal close_refusal reopen_refusal rule_refusal assign_refusal
 can_record setup parts case (Ended deadline why dated) h kept =
-    let n = none_of (end_checks parts case deadline why dated) h in
+    let n = none_of (end_checks setup parts case deadline why dated) h in
     let full = when-None _ _ n.1.1.1.1.1.1.1.0 in
     grind (arith, nat_tests)
 can_record setup parts case (Resumed deadline day dated) h kept =
@@ -101,15 +101,15 @@ can_record setup parts case (Resumed deadline day dated) h kept =
     let full = when-None _ _ n.1.1.1.1.1.1.1.0 in
     grind (arith, nat_tests)
 can_record setup parts case (Closed why dated) h kept =
-    let n = none_of (close_checks parts case dated) h in
+    let n = none_of (close_checks setup parts case dated) h in
     let full = when-None _ _ n.1.1.1.1.0 in
     grind (arith, nat_tests)
 can_record setup parts case (Reopened dated) h kept =
-    let n = none_of (reopen_checks parts case dated) h in
+    let n = none_of (reopen_checks setup parts case dated) h in
     let full = when-None _ _ n.1.1.1.0 in
     grind (arith, nat_tests)
 can_record setup parts case (Ruled motion how dated) h kept =
-    let n = none_of (rule_checks parts case motion dated) h in
+    let n = none_of (rule_checks setup parts case motion dated) h in
     let full = when-None _ _ n.1.1.1.1.0 in
     grind (arith, nat_tests)
 can_record setup parts case (Assigned judge referred dated) h kept =
@@ -119,17 +119,22 @@ can_record setup parts case (Assigned judge referred dated) h kept =
 can_record setup parts case Titled h kept = absurd (false≢true kept)
 can_record setup parts case (Labelled counted number) h kept = absurd (false≢true kept)
 
--- in the case that the parts show, where it is open
-pub can_start_in : (setup : CourtSetup) (parts : Parts) (case : ℕ) (period : Period) (event : EventView) (second : Option ℤ) (service : Option ServiceKind) (c : CaseRecordView) → start_deadline_refusal setup parts case period event second service ≡ None → parts.case case ≡ Some c → length c.deadlines < most_deadlines
-can_start_in setup parts case period event second service c h found =
+-- in the case that the parts show, where it is open; no court's docket holds more than any docket
+pub can_start_in : (setup : CourtSetup) → AreLimits setup.limits → (parts : Parts) (case : ℕ) (period : Period) (event : EventView) (second : Option ℤ) (service : Option ServiceKind) (c : CaseRecordView) → start_deadline_refusal setup parts case period event second service ≡ None → parts.case case ≡ Some c → length c.deadlines < most_deadlines
+can_start_in setup within parts case period event second service c h found =
     let made = can_start setup parts case period event second service h in
-    rw found at made.room
+    let room : length c.deadlines < setup.limits.deadlines = rw found at made.room in
+    omega (arith, room, within.deadlines)
 
-pub can_enter_in : (parts : Parts) (case : ℕ) (served : ℤ) (need : Need) (c : CaseRecordView) → motion_refusal parts case served need ≡ None → parts.case case ≡ Some c → length c.motions < most_motions
-can_enter_in parts case served need c h found = rw found at (can_enter parts case served need h)
+pub can_enter_in : (setup : CourtSetup) → AreLimits setup.limits → (parts : Parts) (case : ℕ) (served : ℤ) (need : Need) (c : CaseRecordView) → motion_refusal setup parts case served need ≡ None → parts.case case ≡ Some c → length c.motions < most_motions
+can_enter_in setup within parts case served need c h found =
+    let room : length c.motions < setup.limits.motions = rw found at (can_enter setup parts case served need h) in
+    omega (arith, room, within.motions)
 
-pub can_record_in : (setup : CourtSetup) (parts : Parts) (case : ℕ) (fact : Fact) (c : CaseRecordView) → refusal setup parts (command.Fact case fact) ≡ None → parts.case case ≡ Some c → is_kept fact ≡ true → length c.facts < most_facts
-can_record_in setup parts case fact c h found kept = rw found at (can_record setup parts case fact h kept)
+pub can_record_in : (setup : CourtSetup) → AreLimits setup.limits → (parts : Parts) (case : ℕ) (fact : Fact) (c : CaseRecordView) → refusal setup parts (command.Fact case fact) ≡ None → parts.case case ≡ Some c → is_kept fact ≡ true → length c.facts < most_facts
+can_record_in setup within parts case fact c h found kept =
+    let room : length c.facts < setup.limits.facts = rw found at (can_record setup parts case fact h kept) in
+    omega (arith, room, within.facts)
 
 -- an extension that may be granted has a length, and is of the period's kind
 pub record CanExtend (row : DeadlineRowView) (request : Request) : Type 0 where

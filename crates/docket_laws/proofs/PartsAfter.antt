@@ -39,10 +39,10 @@ calendar_value None old new e = ap value.Calendar e
 calendar_value (Some bookings) old new e = ap value.Calendar e
 
 -- a case that may be opened isn't open
-may_open : (setup : CourtSetup) (rows : Rows) (case : ℕ) (filed : ℤ) → open_case_refusal (parts_of rows) case filed ≡ None → (parts_of rows).case case ≡ None
+may_open : (setup : CourtSetup) (rows : Rows) (case : ℕ) (filed : ℤ) → open_case_refusal setup (parts_of rows) case filed ≡ None → (parts_of rows).case case ≡ None
 unfolding open_case_refusal
 may_open setup rows case filed h =
-    let n = none_of (open_case_checks (parts_of rows) case filed) h in
+    let n = none_of (open_case_checks setup (parts_of rows) case filed) h in
     nothing_found _ (when-None _ _ n.1.1.0)
 
 -- to book is to move the hearing of a motion that has none
@@ -60,7 +60,7 @@ written_as_moved parts s (Room room) = refl
 written_as_moved parts s (Case n) = refl
 
 module _ (setup : CourtSetup) (rows : Rows) (sound : AreSound setup rows) where
-  after_opening : (case : ℕ) (filed : ℤ) → open_case_refusal (parts_of rows) case filed ≡ None → (part : PartId) → IsAfter rows (OpenCase case filed) part
+  after_opening : (case : ℕ) (filed : ℤ) → open_case_refusal setup (parts_of rows) case filed ≡ None → (part : PartId) → IsAfter rows (OpenCase case filed) part
   unfolding parts_of
   after_opening case filed h Court = refl
   after_opening case filed h (Judge judge) = refl

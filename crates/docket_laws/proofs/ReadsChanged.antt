@@ -48,7 +48,7 @@ module _ (p q : Parts) where
   changed_same command case (Case n) here = ap (option_map (λ c. value.Case (Some c))) (case_same command n (same_case p q n here))
 
 module _ (setup : CourtSetup) (p q : Parts) where
-  case_read : (command : Command) → IsNumbered command → AgreeOn setup p q (wanted setup q command) → CaseSame p q command
+  case_read : (command : Command) → IsNumbered setup command → AgreeOn setup p q (wanted setup q command) → CaseSame p q command
   case_read (Book s) n agree = case_agrees setup p q s.case (Court ∷ calendars_of setup s.judges s.room) n agree
   case_read (MoveHearing s) n agree =
       case_agrees setup p q s.case (Court ∷ calendars_now setup q s.case s.motion ++ calendars_of setup s.judges s.room) n agree
@@ -57,18 +57,18 @@ module _ (setup : CourtSetup) (p q : Parts) where
   case_read _ n agree = tt
 
   -- what is written into a part that holds the same, where the parts agree on what is read
-  pub changed_rests : (command : Command) → IsNumbered command → AgreeOn setup p q (wanted setup q command) → (part : PartId) → part_value p part ≡ part_value q part → changed p command part ≡ changed q command part
+  pub changed_rests : (command : Command) → IsNumbered setup command → AgreeOn setup p q (wanted setup q command) → (part : PartId) → part_value p part ≡ part_value q part → changed p command part ≡ changed q command part
   changed_rests command n agree part here = changed_same p q command (case_read command n agree) part here
 
   -- the same is wanted
-  pub wanted_rests : (command : Command) → IsNumbered command → AgreeOn setup p q (wanted setup q command) → wanted setup p command ≡ wanted setup q command
+  pub wanted_rests : (command : Command) → IsNumbered setup command → AgreeOn setup p q (wanted setup q command) → wanted setup p command ≡ wanted setup q command
   wanted_rests (MoveHearing s) n agree = rw (case_read (MoveHearing s) n agree) refl
   wanted_rests (Cancel case motion) n agree = rw (case_read (Cancel case motion) n agree) refl
   wanted_rests (Fact case (Ruled motion how dated)) n agree = rw (case_read (Fact case (Ruled motion how dated)) n agree) refl
   wanted_rests _ n agree = refl
 
   -- what is answered
-  made_rests : (command : Command) → IsNumbered command → AgreeOn setup p q (wanted setup q command) → answer_if_made setup p command ≡ answer_if_made setup q command
+  made_rests : (command : Command) → IsNumbered setup command → AgreeOn setup p q (wanted setup q command) → answer_if_made setup p command ≡ answer_if_made setup q command
   made_rests (Start case period event second service) n agree = rw (days_agree setup p q case [] n agree, case_agrees setup p q case (Court ∷ []) n agree) refl
   made_rests (FileAct case deadline filing) n agree = rw (days_agree setup p q case [] n agree, case_agrees setup p q case (Court ∷ []) n agree) refl
   made_rests (Extend case deadline request) n agree = rw (days_agree setup p q case [] n agree, case_agrees setup p q case (Court ∷ []) n agree) refl

@@ -41,8 +41,8 @@ lookup-append test (x ∷ xs) ys = elim (cases_Bool (test x.0)) [
 
 module _ (setup : CourtSetup) where
   -- what is wanted of a case stays so where more of the other parts is wanted
-  about_longer : (test : PartId → Bool) (case : ℕ) (xs ys : List PartId) → (list_any test xs ≡ true → list_any test ys ≡ true) → list_any test (about_case case xs) ≡ true → list_any test (about_case case ys) ≡ true
-  about_longer test case xs ys more h = elim (cases_Bool (is_case_number case)) [
+  about_longer : (test : PartId → Bool) (case : ℕ) (xs ys : List PartId) → (list_any test xs ≡ true → list_any test ys ≡ true) → list_any test (about_case setup case xs) ≡ true → list_any test (about_case setup case ys) ≡ true
+  about_longer test case xs ys more h = elim (cases_Bool (is_case_number setup case)) [
     | inl numbered ↦ rw numbered (or_back (test (Case case)) (list_any test xs) (list_any test ys) more (rw numbered at h))
     | inr fails ↦ absurd (false≢true (rw fails at h))
   ]
@@ -153,8 +153,8 @@ module _ (setup : CourtSetup) where
     few None = omega arith
     few (Some h) = few_calendars h.judges h.room
 
-  few_about : (case n : ℕ) (others : List PartId) → length others ≤ n → length (about_case case others) ≤ n + 1
-  few_about case n others few = elim (cases_Bool (is_case_number case)) [
+  few_about : (case n : ℕ) (others : List PartId) → length others ≤ n → length (about_case setup case others) ≤ n + 1
+  few_about case n others few = elim (cases_Bool (is_case_number setup case)) [
     | inl numbered ↦ rw numbered (omega (arith, few))
     | inr fails ↦ rw fails (omega arith)
   ]

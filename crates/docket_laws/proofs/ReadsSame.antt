@@ -73,16 +73,16 @@ module _ (setup : CourtSetup) (p q : Parts) where
   agree_back : (xs ys : List PartId) → AgreeOn (xs ++ ys) → AgreeOn ys
   agree_back xs ys agree part among = agree part (list_any-append (same_part part) xs ys ∙ or_right _ _ among)
 
-  agree_about : (case : ℕ) (others : List PartId) → is_case_number case ≡ true → AgreeOn (about_case case others) → AgreeOn (Case case ∷ others)
+  agree_about : (case : ℕ) (others : List PartId) → is_case_number setup case ≡ true → AgreeOn (about_case setup case others) → AgreeOn (Case case ∷ others)
   agree_about case others numbered agree = rw numbered at agree
 
-  pub case_agrees : (case : ℕ) (others : List PartId) → is_case_number case ≡ true → AgreeOn (about_case case others) → p.case case ≡ q.case case
+  pub case_agrees : (case : ℕ) (others : List PartId) → is_case_number setup case ≡ true → AgreeOn (about_case setup case others) → p.case case ≡ q.case case
   case_agrees case others numbered agree = same_case p q case (agree_head (Case case) others (agree_about case others numbered agree))
 
-  others_agree : (case : ℕ) (others : List PartId) → is_case_number case ≡ true → AgreeOn (about_case case others) → AgreeOn others
+  others_agree : (case : ℕ) (others : List PartId) → is_case_number setup case ≡ true → AgreeOn (about_case setup case others) → AgreeOn others
   others_agree case others numbered agree = agree_tail (Case case) others (agree_about case others numbered agree)
 
-  pub days_agree : (case : ℕ) (others : List PartId) → is_case_number case ≡ true → AgreeOn (about_case case (Court ∷ others)) → p.days ≡ q.days
+  pub days_agree : (case : ℕ) (others : List PartId) → is_case_number setup case ≡ true → AgreeOn (about_case setup case (Court ∷ others)) → p.days ≡ q.days
   days_agree case others numbered agree = same_days p q (agree_head Court others (others_agree case (Court ∷ others) numbered agree))
 
   agree_judges : (judges : List ℕ) → AgreeOn (map Judge judges) → All (λ j. p.judge j ≡ q.judge j) judges
@@ -112,104 +112,104 @@ module _ (setup : CourtSetup) (p q : Parts) where
       ap first_of (map_agree (λ j. first_conflict (p.judge j) h.day h.first h.count except) (λ j. first_conflict (q.judge j) h.day h.first h.count except) h.judges (λ k d within. ap (λ bookings. first_conflict bookings h.day h.first h.count except) (agree k d within)))
 
   -- Refusals: what isn't read isn't used, or another line refuses before.
-  open_case_rests : (case : ℕ) (filed : ℤ) → p.days.from ≡ q.days.from → p.days.to ≡ q.days.to → AgreeOn (about_case case []) → open_case_refusal p case filed ≡ open_case_refusal q case filed
+  open_case_rests : (case : ℕ) (filed : ℤ) → p.days.from ≡ q.days.from → p.days.to ≡ q.days.to → AgreeOn (about_case setup case []) → open_case_refusal setup p case filed ≡ open_case_refusal setup q case filed
   unfolding open_case_refusal
-  open_case_rests case filed from to agree = elim (cases_Bool (is_case_number case)) [
+  open_case_rests case filed from to agree = elim (cases_Bool (is_case_number setup case)) [
     | inl numbered ↦ rw (from, to, case_agrees case [] numbered agree) refl
     | inr fails ↦ rw fails refl
   ]
 
-  motion_rests : (case : ℕ) (served : ℤ) (need : Need) → p.days.from ≡ q.days.from → p.days.to ≡ q.days.to → AgreeOn (about_case case []) → motion_refusal p case served need ≡ motion_refusal q case served need
+  motion_rests : (case : ℕ) (served : ℤ) (need : Need) → p.days.from ≡ q.days.from → p.days.to ≡ q.days.to → AgreeOn (about_case setup case []) → motion_refusal setup p case served need ≡ motion_refusal setup q case served need
   unfolding motion_refusal
-  motion_rests case served need from to agree = elim (cases_Bool (is_case_number case)) [
+  motion_rests case served need from to agree = elim (cases_Bool (is_case_number setup case)) [
     | inl numbered ↦ rw (from, to, case_agrees case [] numbered agree) refl
     | inr fails ↦ rw fails refl
   ]
 
-  start_rests : (case : ℕ) (period : Period) (event : EventView) (second : Option ℤ) (service : Option ServiceKind) → AgreeOn (about_case case (Court ∷ [])) → start_deadline_refusal setup p case period event second service ≡ start_deadline_refusal setup q case period event second service
+  start_rests : (case : ℕ) (period : Period) (event : EventView) (second : Option ℤ) (service : Option ServiceKind) → AgreeOn (about_case setup case (Court ∷ [])) → start_deadline_refusal setup p case period event second service ≡ start_deadline_refusal setup q case period event second service
   unfolding start_deadline_refusal
-  start_rests case period event second service agree = elim (cases_Bool (is_case_number case)) [
+  start_rests case period event second service agree = elim (cases_Bool (is_case_number setup case)) [
     | inl numbered ↦ rw (days_agree case [] numbered agree, case_agrees case (Court ∷ []) numbered agree) refl
     | inr fails ↦ rw fails refl
   ]
 
-  file_act_rests : (case deadline : ℕ) (filing : Filing) → AgreeOn (about_case case (Court ∷ [])) → file_act_refusal setup p case deadline filing ≡ file_act_refusal setup q case deadline filing
+  file_act_rests : (case deadline : ℕ) (filing : Filing) → AgreeOn (about_case setup case (Court ∷ [])) → file_act_refusal setup p case deadline filing ≡ file_act_refusal setup q case deadline filing
   unfolding file_act_refusal
-  file_act_rests case deadline filing agree = elim (cases_Bool (is_case_number case)) [
+  file_act_rests case deadline filing agree = elim (cases_Bool (is_case_number setup case)) [
     | inl numbered ↦ rw (days_agree case [] numbered agree, case_agrees case (Court ∷ []) numbered agree) refl
     | inr fails ↦ rw fails refl
   ]
 
-  extend_rests : (case deadline : ℕ) (request : Request) → AgreeOn (about_case case (Court ∷ [])) → extend_refusal setup p case deadline request ≡ extend_refusal setup q case deadline request
+  extend_rests : (case deadline : ℕ) (request : Request) → AgreeOn (about_case setup case (Court ∷ [])) → extend_refusal setup p case deadline request ≡ extend_refusal setup q case deadline request
   unfolding extend_refusal
-  extend_rests case deadline request agree = elim (cases_Bool (is_case_number case)) [
+  extend_rests case deadline request agree = elim (cases_Bool (is_case_number setup case)) [
     | inl numbered ↦ rw (days_agree case [] numbered agree, case_agrees case (Court ∷ []) numbered agree) refl
     | inr fails ↦ rw fails refl
   ]
 
-  end_rests : (case deadline : ℕ) (why : Ending) (dated : ℤ) → AgreeOn (about_case case (Court ∷ [])) → end_refusal p case deadline why dated ≡ end_refusal q case deadline why dated
+  end_rests : (case deadline : ℕ) (why : Ending) (dated : ℤ) → AgreeOn (about_case setup case (Court ∷ [])) → end_refusal setup p case deadline why dated ≡ end_refusal setup q case deadline why dated
   unfolding end_refusal
-  end_rests case deadline why dated agree = elim (cases_Bool (is_case_number case)) [
+  end_rests case deadline why dated agree = elim (cases_Bool (is_case_number setup case)) [
     | inl numbered ↦ rw (days_agree case [] numbered agree, case_agrees case (Court ∷ []) numbered agree) refl
     | inr fails ↦ rw fails refl
   ]
 
-  resume_rests : (case deadline : ℕ) (since : Option ℤ) (dated : ℤ) → AgreeOn (about_case case (Court ∷ [])) → resume_refusal setup p case deadline since dated ≡ resume_refusal setup q case deadline since dated
+  resume_rests : (case deadline : ℕ) (since : Option ℤ) (dated : ℤ) → AgreeOn (about_case setup case (Court ∷ [])) → resume_refusal setup p case deadline since dated ≡ resume_refusal setup q case deadline since dated
   unfolding resume_refusal
-  resume_rests case deadline since dated agree = elim (cases_Bool (is_case_number case)) [
+  resume_rests case deadline since dated agree = elim (cases_Bool (is_case_number setup case)) [
     | inl numbered ↦ rw (days_agree case [] numbered agree, case_agrees case (Court ∷ []) numbered agree) refl
     | inr fails ↦ rw fails refl
   ]
 
-  close_rests : (case : ℕ) (dated : ℤ) → AgreeOn (about_case case (Court ∷ [])) → close_refusal p case dated ≡ close_refusal q case dated
+  close_rests : (case : ℕ) (dated : ℤ) → AgreeOn (about_case setup case (Court ∷ [])) → close_refusal setup p case dated ≡ close_refusal setup q case dated
   unfolding close_refusal
-  close_rests case dated agree = elim (cases_Bool (is_case_number case)) [
+  close_rests case dated agree = elim (cases_Bool (is_case_number setup case)) [
     | inl numbered ↦ rw (days_agree case [] numbered agree, case_agrees case (Court ∷ []) numbered agree) refl
     | inr fails ↦ rw fails refl
   ]
 
-  reopen_rests : (case : ℕ) (dated : ℤ) → AgreeOn (about_case case (Court ∷ [])) → reopen_refusal p case dated ≡ reopen_refusal q case dated
+  reopen_rests : (case : ℕ) (dated : ℤ) → AgreeOn (about_case setup case (Court ∷ [])) → reopen_refusal setup p case dated ≡ reopen_refusal setup q case dated
   unfolding reopen_refusal
-  reopen_rests case dated agree = elim (cases_Bool (is_case_number case)) [
+  reopen_rests case dated agree = elim (cases_Bool (is_case_number setup case)) [
     | inl numbered ↦ rw (days_agree case [] numbered agree, case_agrees case (Court ∷ []) numbered agree) refl
     | inr fails ↦ rw fails refl
   ]
 
-  rule_rests : (case motion : ℕ) (dated : ℤ) (others : List PartId) → AgreeOn (about_case case (Court ∷ others)) → rule_refusal p case motion dated ≡ rule_refusal q case motion dated
+  rule_rests : (case motion : ℕ) (dated : ℤ) (others : List PartId) → AgreeOn (about_case setup case (Court ∷ others)) → rule_refusal setup p case motion dated ≡ rule_refusal setup q case motion dated
   unfolding rule_refusal
-  rule_rests case motion dated others agree = elim (cases_Bool (is_case_number case)) [
+  rule_rests case motion dated others agree = elim (cases_Bool (is_case_number setup case)) [
     | inl numbered ↦ rw (days_agree case others numbered agree, case_agrees case (Court ∷ others) numbered agree) refl
     | inr fails ↦ rw fails refl
   ]
 
-  assign_rests : (case judge : ℕ) (referred : Option ℕ) (dated : ℤ) → AgreeOn (about_case case (Court ∷ [])) → assign_refusal setup p case judge referred dated ≡ assign_refusal setup q case judge referred dated
+  assign_rests : (case judge : ℕ) (referred : Option ℕ) (dated : ℤ) → AgreeOn (about_case setup case (Court ∷ [])) → assign_refusal setup p case judge referred dated ≡ assign_refusal setup q case judge referred dated
   unfolding assign_refusal
-  assign_rests case judge referred dated agree = elim (cases_Bool (is_case_number case)) [
+  assign_rests case judge referred dated agree = elim (cases_Bool (is_case_number setup case)) [
     | inl numbered ↦ rw (days_agree case [] numbered agree, case_agrees case (Court ∷ []) numbered agree) refl
     | inr fails ↦ rw fails refl
   ]
 
-  title_rests : (case : ℕ) → AgreeOn (about_case case (Court ∷ [])) → title_refusal p case ≡ title_refusal q case
+  title_rests : (case : ℕ) → AgreeOn (about_case setup case (Court ∷ [])) → title_refusal setup p case ≡ title_refusal setup q case
   unfolding title_refusal
-  title_rests case agree = elim (cases_Bool (is_case_number case)) [
+  title_rests case agree = elim (cases_Bool (is_case_number setup case)) [
     | inl numbered ↦ rw (case_agrees case (Court ∷ []) numbered agree) refl
     | inr fails ↦ rw fails refl
   ]
 
-  label_rests : (case : ℕ) (kind : Counted) (number : ℕ) → AgreeOn (about_case case (Court ∷ [])) → label_refusal p case kind number ≡ label_refusal q case kind number
+  label_rests : (case : ℕ) (kind : Counted) (number : ℕ) → AgreeOn (about_case setup case (Court ∷ [])) → label_refusal setup p case kind number ≡ label_refusal setup q case kind number
   unfolding label_refusal
-  label_rests case counted.Deadline number agree = elim (cases_Bool (is_case_number case)) [
+  label_rests case counted.Deadline number agree = elim (cases_Bool (is_case_number setup case)) [
     | inl numbered ↦ rw (case_agrees case (Court ∷ []) numbered agree) refl
     | inr fails ↦ rw fails refl
   ]
-  label_rests case counted.Motion number agree = elim (cases_Bool (is_case_number case)) [
+  label_rests case counted.Motion number agree = elim (cases_Bool (is_case_number setup case)) [
     | inl numbered ↦ rw (case_agrees case (Court ∷ []) numbered agree) refl
     | inr fails ↦ rw fails refl
   ]
 
-  cancel_rests : (case motion : ℕ) (others : List PartId) → AgreeOn (about_case case others) → cancel_refusal p case motion ≡ cancel_refusal q case motion
+  cancel_rests : (case motion : ℕ) (others : List PartId) → AgreeOn (about_case setup case others) → cancel_refusal setup p case motion ≡ cancel_refusal setup q case motion
   unfolding cancel_refusal
-  cancel_rests case motion others agree = elim (cases_Bool (is_case_number case)) [
+  cancel_rests case motion others agree = elim (cases_Bool (is_case_number setup case)) [
     | inl numbered ↦ rw (case_agrees case others numbered agree) refl
     | inr fails ↦ rw fails refl
   ]
@@ -242,9 +242,9 @@ module _ (setup : CourtSetup) (p q : Parts) where
     ]
   ]
 
-  book_rests : (s : Setting) → AgreeOn (about_case s.case (Court ∷ calendars_of setup s.judges s.room)) → book_refusal setup p s ≡ book_refusal setup q s
+  book_rests : (s : Setting) → AgreeOn (about_case setup s.case (Court ∷ calendars_of setup s.judges s.room)) → book_refusal setup p s ≡ book_refusal setup q s
   unfolding book_refusal
-  book_rests s agree = elim (cases_Bool (is_case_number s.case)) [
+  book_rests s agree = elim (cases_Bool (is_case_number setup s.case)) [
     | inl numbered ↦
         let calendars = calendars_of setup s.judges s.room in
         let here = case_agrees s.case (Court ∷ calendars) numbered agree in
@@ -253,9 +253,9 @@ module _ (setup : CourtSetup) (p q : Parts) where
     | inr fails ↦ rw fails refl
   ]
 
-  move_rests : (s : Setting) (now : List PartId) → AgreeOn (about_case s.case (Court ∷ now ++ calendars_of setup s.judges s.room)) → move_refusal setup p s ≡ move_refusal setup q s
+  move_rests : (s : Setting) (now : List PartId) → AgreeOn (about_case setup s.case (Court ∷ now ++ calendars_of setup s.judges s.room)) → move_refusal setup p s ≡ move_refusal setup q s
   unfolding move_refusal
-  move_rests s now agree = elim (cases_Bool (is_case_number s.case)) [
+  move_rests s now agree = elim (cases_Bool (is_case_number setup s.case)) [
     | inl numbered ↦
         let calendars = now ++ calendars_of setup s.judges s.room in
         let here = case_agrees s.case (Court ∷ calendars) numbered agree in

@@ -33,11 +33,11 @@ front_none test xs ys none = (or_parts _ _ (sym (list_any-append test xs ys) ∙
 back_none : (test : PartId → Bool) (xs ys : List PartId) → list_any test (xs ++ ys) ≡ false → list_any test ys ≡ false
 back_none test xs ys none = (or_parts _ _ (sym (list_any-append test xs ys) ∙ none)).1
 
-others_none : (test : PartId → Bool) (case : ℕ) (others : List PartId) → is_case_number case ≡ true → list_any test (about_case case others) ≡ false → list_any test others ≡ false
-others_none test case others numbered none = (or_parts _ _ (rw numbered at none)).1
+others_none : (setup : CourtSetup) (test : PartId → Bool) (case : ℕ) (others : List PartId) → is_case_number setup case ≡ true → list_any test (about_case setup case others) ≡ false → list_any test others ≡ false
+others_none setup test case others numbered none = (or_parts _ _ (rw numbered at none)).1
 
-other_case : (n case : ℕ) (others : List PartId) → is_case_number case ≡ true → list_any (same_part (Case n)) (about_case case others) ≡ false → (n == case) ≡ false
-other_case n case others numbered none = (or_parts _ _ (rw numbered at none)).0
+other_case : (setup : CourtSetup) (n case : ℕ) (others : List PartId) → is_case_number setup case ≡ true → list_any (same_part (Case n)) (about_case setup case others) ≡ false → (n == case) ≡ false
+other_case setup n case others numbered none = (or_parts _ _ (rw numbered at none)).0
 
 -- a hearing that fails a test does so too where only a later one is looked at
 none_ahead : (test : Hearing → Bool) (day : ℤ) (found : Option Hearing) → has_one test found ≡ false → has_one test (if_ahead day found) ≡ false
@@ -92,40 +92,40 @@ module _ (setup : CourtSetup) (p : Parts) (settable : (case motion : ℕ) → If
   days_unread (Inaccessible day from to) none = absurd (true≢false none)
   days_unread _ none = refl
 
-  case_unread : (command : Command) → IsNumbered command → (n : ℕ) → is_wanted setup p command (Case n) ≡ false → case_written p command n ≡ None
-  case_unread (OpenCase case filed) is n none = rw (other_case n case [] is none) refl
-  case_unread (Start case period event second service) is n none = rw (other_case n case (Court ∷ []) is none) refl
-  case_unread (FileAct case deadline filing) is n none = rw (other_case n case (Court ∷ []) is none) refl
-  case_unread (Extend case deadline request) is n none = rw (other_case n case (Court ∷ []) is none) refl
-  case_unread (Motion case served need) is n none = rw (other_case n case [] is none) refl
-  case_unread (Book s) is n none = rw (other_case n s.case _ is none) refl
-  case_unread (MoveHearing s) is n none = rw (other_case n s.case _ is none) refl
-  case_unread (Cancel case motion) is n none = rw (other_case n case _ is none) refl
-  case_unread (Fact case fact) is n none = rw (other_case n case (Court ∷ calendars_taken setup p case fact) is none) refl
+  case_unread : (command : Command) → IsNumbered setup command → (n : ℕ) → is_wanted setup p command (Case n) ≡ false → case_written p command n ≡ None
+  case_unread (OpenCase case filed) is n none = rw (other_case setup n case [] is none) refl
+  case_unread (Start case period event second service) is n none = rw (other_case setup n case (Court ∷ []) is none) refl
+  case_unread (FileAct case deadline filing) is n none = rw (other_case setup n case (Court ∷ []) is none) refl
+  case_unread (Extend case deadline request) is n none = rw (other_case setup n case (Court ∷ []) is none) refl
+  case_unread (Motion case served need) is n none = rw (other_case setup n case [] is none) refl
+  case_unread (Book s) is n none = rw (other_case setup n s.case _ is none) refl
+  case_unread (MoveHearing s) is n none = rw (other_case setup n s.case _ is none) refl
+  case_unread (Cancel case motion) is n none = rw (other_case setup n case _ is none) refl
+  case_unread (Fact case fact) is n none = rw (other_case setup n case (Court ∷ calendars_taken setup p case fact) is none) refl
   case_unread _ is n none = refl
 
   judge_unread : (command : Command) → refusal setup p command ≡ None → (judge : ℕ) → is_wanted setup p command (Judge judge) ≡ false → judge_written p command judge ≡ None
   judge_unread (Book s) made judge none =
       let test = same_part (Judge judge) in
       let places = book_places setup p s made in
-      let others = others_none test s.case (Court ∷ calendars_of setup s.judges s.room) (numbered setup p (Book s) made) none in
+      let others = others_none setup test s.case (Court ∷ calendars_of setup s.judges s.room) (numbered setup p (Book s) made) none in
       let away = not_sitting setup judge s.judges s.room places.panel places.judges others in
       rw (away, may_book setup p s made) refl
   judge_unread (MoveHearing s) made judge none =
       let test = same_part (Judge judge) in
       let places = move_places setup p s made in
       let now = calendars_now setup p s.case s.motion in
-      let others = others_none test s.case (Court ∷ now ++ calendars_of setup s.judges s.room) (numbered setup p (MoveHearing s) made) none in
+      let others = others_none setup test s.case (Court ∷ now ++ calendars_of setup s.judges s.room) (numbered setup p (MoveHearing s) made) none in
       let away = not_sitting setup judge s.judges s.room places.panel places.judges (back_none test now (calendars_of setup s.judges s.room) others) in
       let before = not_before setup judge (hearing_in p s.case s.motion) (settable s.case s.motion) (front_none test now (calendars_of setup s.judges s.room) others) in
       rw (away, before) refl
   judge_unread (Cancel case motion) made judge none =
-      let others = others_none (same_part (Judge judge)) case (calendars_now setup p case motion) (numbered setup p (Cancel case motion) made) none in
+      let others = others_none setup (same_part (Judge judge)) case (calendars_now setup p case motion) (numbered setup p (Cancel case motion) made) none in
       let before = not_before setup judge (hearing_in p case motion) (settable case motion) others in
       rw before refl
   judge_unread (Fact case (Ruled motion how dated)) made judge none =
       let now = calendars_now setup p case motion in
-      let others = others_none (same_part (Judge judge)) case (Court ∷ now) (numbered setup p (Fact case (Ruled motion how dated)) made) none in
+      let others = others_none setup (same_part (Judge judge)) case (Court ∷ now) (numbered setup p (Fact case (Ruled motion how dated)) made) none in
       let before = not_before setup judge (hearing_in p case motion) (settable case motion) others in
       let later = none_ahead (λ (h : Hearing). sits judge h.judges) dated (hearing_in p case motion) before in
       rw later refl
@@ -134,23 +134,23 @@ module _ (setup : CourtSetup) (p : Parts) (settable : (case motion : ℕ) → If
   room_unread : (command : Command) → refusal setup p command ≡ None → (room : ℕ) → is_wanted setup p command (Room room) ≡ false → room_written p command room ≡ None
   room_unread (Book s) made room none =
       let test = same_part (Room room) in
-      let others = others_none test s.case (Court ∷ calendars_of setup s.judges s.room) (numbered setup p (Book s) made) none in
+      let others = others_none setup test s.case (Court ∷ calendars_of setup s.judges s.room) (numbered setup p (Book s) made) none in
       let away = not_there setup room s.judges s.room (book_places setup p s made).room others in
       rw (away, may_book setup p s made) refl
   room_unread (MoveHearing s) made room none =
       let test = same_part (Room room) in
       let now = calendars_now setup p s.case s.motion in
-      let others = others_none test s.case (Court ∷ now ++ calendars_of setup s.judges s.room) (numbered setup p (MoveHearing s) made) none in
+      let others = others_none setup test s.case (Court ∷ now ++ calendars_of setup s.judges s.room) (numbered setup p (MoveHearing s) made) none in
       let away = not_there setup room s.judges s.room (move_places setup p s made).room (back_none test now (calendars_of setup s.judges s.room) others) in
       let before = not_in setup room (hearing_in p s.case s.motion) (settable s.case s.motion) (front_none test now (calendars_of setup s.judges s.room) others) in
       rw (away, before) refl
   room_unread (Cancel case motion) made room none =
-      let others = others_none (same_part (Room room)) case (calendars_now setup p case motion) (numbered setup p (Cancel case motion) made) none in
+      let others = others_none setup (same_part (Room room)) case (calendars_now setup p case motion) (numbered setup p (Cancel case motion) made) none in
       let before = not_in setup room (hearing_in p case motion) (settable case motion) others in
       rw before refl
   room_unread (Fact case (Ruled motion how dated)) made room none =
       let now = calendars_now setup p case motion in
-      let others = others_none (same_part (Room room)) case (Court ∷ now) (numbered setup p (Fact case (Ruled motion how dated)) made) none in
+      let others = others_none setup (same_part (Room room)) case (Court ∷ now) (numbered setup p (Fact case (Ruled motion how dated)) made) none in
       let before = not_in setup room (hearing_in p case motion) (settable case motion) others in
       let later = none_ahead (λ (h : Hearing). h.room == room) dated (hearing_in p case motion) before in
       rw later refl

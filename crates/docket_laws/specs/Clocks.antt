@@ -12,6 +12,7 @@ pub record IsSameSetup (a b : CourtSetup) : Type 0 where
   pub days : a.days ≡ b.days
   pub judges : a.judges ≡ b.judges
   pub rooms : a.rooms ≡ b.rooms
+  pub limits : a.limits ≡ b.limits
 
 -- by two such values a command is refused alike, answered alike and leaves the same rows, and a query shows the same
 pub record DocketsDoNotRestOnHowAZoneIsKept : Type 0 where

@@ -45,8 +45,8 @@ value_written writes part = lookup (same_part part) writes
 
 -- The laws
 
--- where there is a next part, fewer parts were read than a command may read; a court has at most 32 judges, and then no
--- command reads more than 33 parts
+-- where there is a next part, fewer parts were read than a command may read; a court has at most 1,000 judges, and then no
+-- command reads more than 1,001 parts
 pub record ReadingEnds : Type 0 where
   pub fewer : (setup : CourtSetup) (command : Command) (reads : List (PartId × PartValue)) (part : PartId) → WereRead setup command reads → next_part setup command reads ≡ Some part → length reads < most_reads setup
   pub most : (setup : CourtSetup) → setup.judges ≤ most_names → most_reads setup ≤ most_names + 1

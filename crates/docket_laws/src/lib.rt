@@ -4,6 +4,7 @@
 mod clocks;
 mod facts;
 mod lawful;
+mod office;
 mod opening;
 mod parts;
 mod reads;
@@ -18,6 +19,7 @@ pub use lawful::{
     every_hearing_has_its_notice, every_hearing_lies_on_a_court_day_within_office_hours,
     no_judge_or_room_is_booked_twice, rows_stay_lawful, rows_stay_sound,
 };
+pub use office::the_office_holds_so_many;
 pub use opening::the_opening_docket_is_lawful;
 pub use parts::{
     commands_rest_on_parts, parts_follow_the_steps_of_rows, parts_stand_for_rows_after,

@@ -2,8 +2,8 @@
 
 ghost use Rattle.docket_laws.specs.Reads.{CommandsRestOnPartsWanted, DecisionsAreSteps, DecisionsRestOnReads, PartsAreReadAndWrittenOnce, ReadingEnds};
 
-/// Reading ends: where there is a next part, fewer parts were read than a command may read. A court has at most 32
-/// judges, and then no command reads more than 33 parts.
+/// Reading ends: where there is a next part, fewer parts were read than a command may read. A court has at most 1,000
+/// judges, and then no command reads more than 1,001 parts.
 pub fn reading_ends()
     ensures { ReadingEnds }
 {}

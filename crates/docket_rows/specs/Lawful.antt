@@ -45,7 +45,7 @@ pub record IsSettable (setup : CourtSetup) (h : Hearing) : Type 0 where
 pub record AreSound (setup : CourtSetup) (rows : Rows) : Type 0 where
   pub first_day : rows.days.from ≡ setup.days.from
   pub last_day : rows.days.to ≡ setup.days.to
-  pub case_numbers : All (λ (c : DocketedCase). is_case_number c.case ≡ true) rows.cases
+  pub case_numbers : All (λ (c : DocketedCase). is_case_number setup c.case ≡ true) rows.cases
   pub case_once : AllPairs (λ (a b : DocketedCase). is_case a.case b ≡ false) rows.cases
   pub deadlines_of_cases : All (λ (d : DocketedDeadline). IsSome (find (is_case d.case) rows.cases)) rows.deadlines
   pub deadlines_numbered : (case : ℕ) → map (λ (d : DocketedDeadline). d.number) (filter (is_deadline_in case) rows.deadlines) ≡ range_with_len 1 (length (filter (is_deadline_in case) rows.deadlines))

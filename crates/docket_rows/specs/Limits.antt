@@ -1,24 +1,24 @@
--- How much a docket holds at most.
+-- How much a docket holds at most, in any court. A court's setup says how much its own docket holds, which is never more.
 use Rattle.std.specs.Prelude.{ℕ}
 
 -- the greatest number of a case, of which the least is 1
-abbrev pub last_case : ℕ
-last_case = 4096
+abbrev pub most_cases : ℕ
+most_cases = 1000000
 
 -- the judges of a court, and its rooms: the court's file names no more of either
 abbrev pub most_names : ℕ
-most_names = 32
+most_names = 1000
 
 -- the deadlines and the motions of a case
 abbrev pub most_deadlines : ℕ
-most_deadlines = 64
+most_deadlines = 4096
 
 abbrev pub most_motions : ℕ
-most_motions = 64
+most_motions = 4096
 
 -- the facts that are recorded of a case
 abbrev pub most_facts : ℕ
-most_facts = 512
+most_facts = 16384
 
 -- the extensions of a deadline
 abbrev pub most_grants : ℕ

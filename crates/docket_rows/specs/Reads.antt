@@ -36,23 +36,23 @@ calendars_taken setup parts case Titled = []
 calendars_taken setup parts case (Labelled counted number) = []
 
 -- the parts of a command about a case; none where there can be no such case
-abbrev pub about_case : (case : ℕ) → List PartId → List PartId
-about_case case others = if is_case_number case then Case case ∷ others else []
+abbrev pub about_case : CourtSetup → (case : ℕ) → List PartId → List PartId
+about_case setup case others = if is_case_number setup case then Case case ∷ others else []
 
 -- the parts that a command reads, where those that it has read show `parts`; a part that is named twice is read once
 abbrev pub wanted : CourtSetup → Parts → Command → List PartId
-wanted setup parts (OpenCase case filed) = about_case case []
-wanted setup parts (Start case period event second service) = about_case case (Court ∷ [])
-wanted setup parts (FileAct case deadline filing) = about_case case (Court ∷ [])
-wanted setup parts (Extend case deadline request) = about_case case (Court ∷ [])
-wanted setup parts (Motion case served need) = about_case case []
-wanted setup parts (Book s) = about_case s.case (Court ∷ calendars_of setup s.judges s.room)
+wanted setup parts (OpenCase case filed) = about_case setup case []
+wanted setup parts (Start case period event second service) = about_case setup case (Court ∷ [])
+wanted setup parts (FileAct case deadline filing) = about_case setup case (Court ∷ [])
+wanted setup parts (Extend case deadline request) = about_case setup case (Court ∷ [])
+wanted setup parts (Motion case served need) = about_case setup case []
+wanted setup parts (Book s) = about_case setup s.case (Court ∷ calendars_of setup s.judges s.room)
 wanted setup parts (MoveHearing s) =
-    about_case s.case (Court ∷ calendars_now setup parts s.case s.motion ++ calendars_of setup s.judges s.room)
-wanted setup parts (Cancel case motion) = about_case case (calendars_now setup parts case motion)
+    about_case setup s.case (Court ∷ calendars_now setup parts s.case s.motion ++ calendars_of setup s.judges s.room)
+wanted setup parts (Cancel case motion) = about_case setup case (calendars_now setup parts case motion)
 wanted setup parts (Holiday day list) = Court ∷ map Judge (range_with_len 0 setup.judges)
 wanted setup parts (Inaccessible day from to) = Court ∷ []
-wanted setup parts (Fact case fact) = about_case case (Court ∷ calendars_taken setup parts case fact)
+wanted setup parts (Fact case fact) = about_case setup case (Court ∷ calendars_taken setup parts case fact)
 
 -- the part is among those read
 abbrev pub is_read : List (PartId × PartValue) → PartId → Bool

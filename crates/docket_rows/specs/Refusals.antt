@@ -28,16 +28,16 @@ use Rattle.docket_rows.specs.declared.refusal.Refusal.TheVariants.{NoSuchCase, C
 use Rattle.docket_rows.specs.CourtSetup.{CourtSetup}
 use Rattle.docket_rows.specs.Facts.{ended_in, suspended_by}
 use Rattle.docket_rows.specs.Hearings.{hearing_asked, has_judges, is_panel, fits_day, is_court_day, is_within_hours, is_need, lacks_last_service, missed_service, judge_clash, room_clash, all_booked, least, lacks_notice}
-use Rattle.docket_rows.specs.Limits.{most_deadlines, most_motions, most_facts, most_grants, most_dates, most_outages}
+use Rattle.docket_rows.specs.Limits.{most_grants, most_dates, most_outages}
 use Rattle.docket_rows.specs.Parts.{Parts}
 use Rattle.docket_rows.specs.Reasons.{refusal_of}
 use Rattle.docket_rows.specs.Seen.{has_one, is_case_number, has_case, deadlines_in, deadline_in, motions_in, motion_in, hearing_in, facts_in, is_closed, first_ahead, started, shown_now}
 
 -- Cases
 
-abbrev pub open_case_checks : Parts → (case : ℕ) → (filed : ℤ) → List (Option Refusal)
-open_case_checks parts case filed =
-    (when (not (is_case_number case)) NoSuchCase
+abbrev pub open_case_checks : CourtSetup → Parts → (case : ℕ) → (filed : ℤ) → List (Option Refusal)
+open_case_checks setup parts case filed =
+    (when (not (is_case_number setup case)) NoSuchCase
     ∷ when (not (is_covered parts.days filed)) BadDay
     ∷ when (is_some (parts.case case)) CaseIsOpen
     ∷ [])
@@ -47,17 +47,17 @@ open_case_checks parts case filed =
 -- the third line is the three by which a period is refused when it starts
 abbrev pub start_deadline_checks : CourtSetup → Parts → (case : ℕ) → Period → EventView → (second : Option ℤ) → Option ServiceKind → List (Option Refusal)
 start_deadline_checks setup parts case period event second service =
-    (when (not (has_case parts case)) NoSuchCase
+    (when (not (has_case setup parts case)) NoSuchCase
     ∷ when (is_closed parts case) CaseIsClosed
     ∷ option_map refusal_of (start_refusal parts.days period event second service)
-    ∷ when (nat_le most_deadlines (length (deadlines_in parts case))) Full
+    ∷ when (nat_le setup.limits.deadlines (length (deadlines_in parts case))) Full
     ∷ when (is_beyond (shown_now setup parts (started period event second service))) Beyond
     ∷ [])
 
 abbrev pub file_act_checks : CourtSetup → Parts → (case deadline : ℕ) → Filing → List (Option Refusal)
 file_act_checks setup parts case deadline filing =
     let row = deadline_in parts case deadline in
-    (when (not (has_case parts case)) NoSuchCase
+    (when (not (has_case setup parts case)) NoSuchCase
     ∷ when (is_closed parts case) CaseIsClosed
     ∷ when (is_none row) NoSuchDeadline
     ∷ when (not (is_covered parts.days filing.day)) BadDay
@@ -69,7 +69,7 @@ file_act_checks setup parts case deadline filing =
 abbrev pub extend_checks : CourtSetup → Parts → (case deadline : ℕ) → Request → List (Option Refusal)
 extend_checks setup parts case deadline request =
     let row = deadline_in parts case deadline in
-    (when (not (has_case parts case)) NoSuchCase
+    (when (not (has_case setup parts case)) NoSuchCase
     ∷ when (is_closed parts case) CaseIsClosed
     ∷ when (is_none row) NoSuchDeadline
     ∷ when (has_one (λ row. is_some row.filed) row) AlreadyMet
@@ -82,61 +82,61 @@ abbrev pub no_suspender : Parts → (case : ℕ) → Ending → Option Refusal
 no_suspender parts case why = option_and_then (λ motion. when (is_none (motion_in parts case motion)) NoSuchMotion) (suspended_by why)
 
 -- no act is recorded for the deadline, and it isn't ended
-abbrev pub end_checks : Parts → (case deadline : ℕ) → Ending → (dated : ℤ) → List (Option Refusal)
-end_checks parts case deadline why dated =
+abbrev pub end_checks : CourtSetup → Parts → (case deadline : ℕ) → Ending → (dated : ℤ) → List (Option Refusal)
+end_checks setup parts case deadline why dated =
     let row = deadline_in parts case deadline in
-    (when (not (has_case parts case)) NoSuchCase
+    (when (not (has_case setup parts case)) NoSuchCase
     ∷ when (is_closed parts case) CaseIsClosed
     ∷ when (is_none row) NoSuchDeadline
     ∷ no_suspender parts case why
     ∷ when (not (is_covered parts.days dated)) BadDay
     ∷ when (has_one (λ row. is_some row.filed) row) AlreadyMet
     ∷ when (is_some (ended_in (facts_in parts case) deadline)) AlreadyEnded
-    ∷ when (nat_le most_facts (length (facts_in parts case))) Full
+    ∷ when (nat_le setup.limits.facts (length (facts_in parts case))) Full
     ∷ [])
 
 -- the deadline has its days as before, or runs anew from a day
 abbrev pub resume_checks : CourtSetup → Parts → (case deadline : ℕ) → (from : Option ℤ) → (dated : ℤ) → List (Option Refusal)
 resume_checks setup parts case deadline from dated =
     let row = deadline_in parts case deadline in
-    (when (not (has_case parts case)) NoSuchCase
+    (when (not (has_case setup parts case)) NoSuchCase
     ∷ when (is_closed parts case) CaseIsClosed
     ∷ when (is_none row) NoSuchDeadline
     ∷ when (not (is_covered parts.days dated && is_covered_if_given parts.days from)) BadDay
     ∷ when (has_one (λ row. is_some row.filed) row) AlreadyMet
     ∷ when (is_none (ended_in (facts_in parts case) deadline)) NotEnded
     ∷ when (has_one (λ row. is_beyond (shown_now setup parts (anew_if row from))) row) Beyond
-    ∷ when (nat_le most_facts (length (facts_in parts case))) Full
+    ∷ when (nat_le setup.limits.facts (length (facts_in parts case))) Full
     ∷ [])
 
 -- Closed cases: they take no command about them but the one that reopens them
 
-abbrev pub close_checks : Parts → (case : ℕ) → (dated : ℤ) → List (Option Refusal)
-close_checks parts case dated =
-    (when (not (has_case parts case)) NoSuchCase
+abbrev pub close_checks : CourtSetup → Parts → (case : ℕ) → (dated : ℤ) → List (Option Refusal)
+close_checks setup parts case dated =
+    (when (not (has_case setup parts case)) NoSuchCase
     ∷ when (is_closed parts case) CaseIsClosed
     ∷ when (not (is_covered parts.days dated)) BadDay
     ∷ option_map (HearingAhead case) (first_ahead dated (motions_in parts case))
-    ∷ when (nat_le most_facts (length (facts_in parts case))) Full
+    ∷ when (nat_le setup.limits.facts (length (facts_in parts case))) Full
     ∷ [])
 
-abbrev pub reopen_checks : Parts → (case : ℕ) → (dated : ℤ) → List (Option Refusal)
-reopen_checks parts case dated =
-    (when (not (has_case parts case)) NoSuchCase
+abbrev pub reopen_checks : CourtSetup → Parts → (case : ℕ) → (dated : ℤ) → List (Option Refusal)
+reopen_checks setup parts case dated =
+    (when (not (has_case setup parts case)) NoSuchCase
     ∷ when (not (is_closed parts case)) NotClosed
     ∷ when (not (is_covered parts.days dated)) BadDay
-    ∷ when (nat_le most_facts (length (facts_in parts case))) Full
+    ∷ when (nat_le setup.limits.facts (length (facts_in parts case))) Full
     ∷ [])
 
 -- Rulings: a motion may be ruled on again, and a hearing that is set is no reason to refuse
 
-abbrev pub rule_checks : Parts → (case motion : ℕ) → (dated : ℤ) → List (Option Refusal)
-rule_checks parts case motion dated =
-    (when (not (has_case parts case)) NoSuchCase
+abbrev pub rule_checks : CourtSetup → Parts → (case motion : ℕ) → (dated : ℤ) → List (Option Refusal)
+rule_checks setup parts case motion dated =
+    (when (not (has_case setup parts case)) NoSuchCase
     ∷ when (is_closed parts case) CaseIsClosed
     ∷ when (is_none (motion_in parts case motion)) NoSuchMotion
     ∷ when (not (is_covered parts.days dated)) BadDay
-    ∷ when (nat_le most_facts (length (facts_in parts case))) Full
+    ∷ when (nat_le setup.limits.facts (length (facts_in parts case))) Full
     ∷ [])
 
 -- Assignments
@@ -151,19 +151,19 @@ is_named_twice judge referred = has_one (λ other. other == judge) referred
 
 abbrev pub assign_checks : CourtSetup → Parts → (case judge : ℕ) → (referred : Option ℕ) → (dated : ℤ) → List (Option Refusal)
 assign_checks setup parts case judge referred dated =
-    (when (not (has_case parts case)) NoSuchCase
+    (when (not (has_case setup parts case)) NoSuchCase
     ∷ when (is_closed parts case) CaseIsClosed
     ∷ when (not (are_judges setup judge referred)) NoSuchJudge
     ∷ when (is_named_twice judge referred) BadPanel
     ∷ when (not (is_covered parts.days dated)) BadDay
-    ∷ when (nat_le most_facts (length (facts_in parts case))) Full
+    ∷ when (nat_le setup.limits.facts (length (facts_in parts case))) Full
     ∷ [])
 
 -- What cases, deadlines and motions are called: a text takes no room in the docket
 
-abbrev pub title_checks : Parts → (case : ℕ) → List (Option Refusal)
-title_checks parts case =
-    (when (not (has_case parts case)) NoSuchCase
+abbrev pub title_checks : CourtSetup → Parts → (case : ℕ) → List (Option Refusal)
+title_checks setup parts case =
+    (when (not (has_case setup parts case)) NoSuchCase
     ∷ when (is_closed parts case) CaseIsClosed
     ∷ [])
 
@@ -172,22 +172,22 @@ abbrev pub not_counted : Parts → (case : ℕ) → Counted → (number : ℕ) �
 not_counted parts case counted.Deadline number = when (is_none (deadline_in parts case number)) NoSuchDeadline
 not_counted parts case counted.Motion number = when (is_none (motion_in parts case number)) NoSuchMotion
 
-abbrev pub label_checks : Parts → (case : ℕ) → Counted → (number : ℕ) → List (Option Refusal)
-label_checks parts case kind number =
-    (when (not (has_case parts case)) NoSuchCase
+abbrev pub label_checks : CourtSetup → Parts → (case : ℕ) → Counted → (number : ℕ) → List (Option Refusal)
+label_checks setup parts case kind number =
+    (when (not (has_case setup parts case)) NoSuchCase
     ∷ when (is_closed parts case) CaseIsClosed
     ∷ not_counted parts case kind number
     ∷ [])
 
 -- Motions
 
-abbrev pub motion_checks : Parts → (case : ℕ) → (served : ℤ) → Need → List (Option Refusal)
-motion_checks parts case served need =
-    (when (not (has_case parts case)) NoSuchCase
+abbrev pub motion_checks : CourtSetup → Parts → (case : ℕ) → (served : ℤ) → Need → List (Option Refusal)
+motion_checks setup parts case served need =
+    (when (not (has_case setup parts case)) NoSuchCase
     ∷ when (is_closed parts case) CaseIsClosed
     ∷ when (not (is_covered parts.days served)) BadDay
     ∷ when (not (is_need need)) BadLength
-    ∷ when (nat_le most_motions (length (motions_in parts case))) Full
+    ∷ when (nat_le setup.limits.motions (length (motions_in parts case))) Full
     ∷ [])
 
 -- Hearings
@@ -197,7 +197,7 @@ motion_checks parts case served need =
 abbrev pub hearing_checks : CourtSetup → Parts → Setting → (set : Option Refusal) → (except : Option (ℕ × ℕ)) → List (Option Refusal)
 hearing_checks setup parts s set except =
     let motion = motion_in parts s.case s.motion in
-    (when (not (has_case parts s.case)) NoSuchCase
+    (when (not (has_case setup parts s.case)) NoSuchCase
     ∷ when (is_closed parts s.case) CaseIsClosed
     ∷ when (is_none motion) NoSuchMotion
     ∷ when (not (has_judges setup s.judges)) NoSuchJudge
@@ -220,9 +220,9 @@ book_checks setup parts s = hearing_checks setup parts s (when (is_some (hearing
 abbrev pub move_checks : CourtSetup → Parts → Setting → List (Option Refusal)
 move_checks setup parts s = hearing_checks setup parts s (when (is_none (hearing_in parts s.case s.motion)) NotSet) (Some (s.case, s.motion))
 
-abbrev pub cancel_checks : Parts → (case motion : ℕ) → List (Option Refusal)
-cancel_checks parts case motion =
-    (when (not (has_case parts case)) NoSuchCase
+abbrev pub cancel_checks : CourtSetup → Parts → (case motion : ℕ) → List (Option Refusal)
+cancel_checks setup parts case motion =
+    (when (not (has_case setup parts case)) NoSuchCase
     ∷ when (is_closed parts case) CaseIsClosed
     ∷ when (is_none (motion_in parts case motion)) NoSuchMotion
     ∷ when (is_none (hearing_in parts case motion)) NotSet
@@ -258,8 +258,8 @@ outage_checks parts day from to =
 
 -- The first refusal of each command, or none.
 
-unfoldable pub open_case_refusal : Parts → (case : ℕ) → (filed : ℤ) → Option Refusal
-open_case_refusal parts case filed = first_of (open_case_checks parts case filed)
+unfoldable pub open_case_refusal : CourtSetup → Parts → (case : ℕ) → (filed : ℤ) → Option Refusal
+open_case_refusal setup parts case filed = first_of (open_case_checks setup parts case filed)
 
 unfoldable pub start_deadline_refusal : CourtSetup → Parts → (case : ℕ) → Period → EventView → (second : Option ℤ) → Option ServiceKind → Option Refusal
 start_deadline_refusal setup parts case period event second service = first_of (start_deadline_checks setup parts case period event second service)
@@ -270,32 +270,32 @@ file_act_refusal setup parts case deadline filing = first_of (file_act_checks se
 unfoldable pub extend_refusal : CourtSetup → Parts → (case deadline : ℕ) → Request → Option Refusal
 extend_refusal setup parts case deadline request = first_of (extend_checks setup parts case deadline request)
 
-unfoldable pub end_refusal : Parts → (case deadline : ℕ) → Ending → (dated : ℤ) → Option Refusal
-end_refusal parts case deadline why dated = first_of (end_checks parts case deadline why dated)
+unfoldable pub end_refusal : CourtSetup → Parts → (case deadline : ℕ) → Ending → (dated : ℤ) → Option Refusal
+end_refusal setup parts case deadline why dated = first_of (end_checks setup parts case deadline why dated)
 
 unfoldable pub resume_refusal : CourtSetup → Parts → (case deadline : ℕ) → (from : Option ℤ) → (dated : ℤ) → Option Refusal
 resume_refusal setup parts case deadline from dated = first_of (resume_checks setup parts case deadline from dated)
 
-unfoldable pub close_refusal : Parts → (case : ℕ) → (dated : ℤ) → Option Refusal
-close_refusal parts case dated = first_of (close_checks parts case dated)
+unfoldable pub close_refusal : CourtSetup → Parts → (case : ℕ) → (dated : ℤ) → Option Refusal
+close_refusal setup parts case dated = first_of (close_checks setup parts case dated)
 
-unfoldable pub reopen_refusal : Parts → (case : ℕ) → (dated : ℤ) → Option Refusal
-reopen_refusal parts case dated = first_of (reopen_checks parts case dated)
+unfoldable pub reopen_refusal : CourtSetup → Parts → (case : ℕ) → (dated : ℤ) → Option Refusal
+reopen_refusal setup parts case dated = first_of (reopen_checks setup parts case dated)
 
-unfoldable pub rule_refusal : Parts → (case motion : ℕ) → (dated : ℤ) → Option Refusal
-rule_refusal parts case motion dated = first_of (rule_checks parts case motion dated)
+unfoldable pub rule_refusal : CourtSetup → Parts → (case motion : ℕ) → (dated : ℤ) → Option Refusal
+rule_refusal setup parts case motion dated = first_of (rule_checks setup parts case motion dated)
 
 unfoldable pub assign_refusal : CourtSetup → Parts → (case judge : ℕ) → (referred : Option ℕ) → (dated : ℤ) → Option Refusal
 assign_refusal setup parts case judge referred dated = first_of (assign_checks setup parts case judge referred dated)
 
-unfoldable pub title_refusal : Parts → (case : ℕ) → Option Refusal
-title_refusal parts case = first_of (title_checks parts case)
+unfoldable pub title_refusal : CourtSetup → Parts → (case : ℕ) → Option Refusal
+title_refusal setup parts case = first_of (title_checks setup parts case)
 
-unfoldable pub label_refusal : Parts → (case : ℕ) → Counted → (number : ℕ) → Option Refusal
-label_refusal parts case kind number = first_of (label_checks parts case kind number)
+unfoldable pub label_refusal : CourtSetup → Parts → (case : ℕ) → Counted → (number : ℕ) → Option Refusal
+label_refusal setup parts case kind number = first_of (label_checks setup parts case kind number)
 
-unfoldable pub motion_refusal : Parts → (case : ℕ) → (served : ℤ) → Need → Option Refusal
-motion_refusal parts case served need = first_of (motion_checks parts case served need)
+unfoldable pub motion_refusal : CourtSetup → Parts → (case : ℕ) → (served : ℤ) → Need → Option Refusal
+motion_refusal setup parts case served need = first_of (motion_checks setup parts case served need)
 
 unfoldable pub book_refusal : CourtSetup → Parts → Setting → Option Refusal
 book_refusal setup parts s = first_of (book_checks setup parts s)
@@ -303,8 +303,8 @@ book_refusal setup parts s = first_of (book_checks setup parts s)
 unfoldable pub move_refusal : CourtSetup → Parts → Setting → Option Refusal
 move_refusal setup parts s = first_of (move_checks setup parts s)
 
-unfoldable pub cancel_refusal : Parts → (case motion : ℕ) → Option Refusal
-cancel_refusal parts case motion = first_of (cancel_checks parts case motion)
+unfoldable pub cancel_refusal : CourtSetup → Parts → (case motion : ℕ) → Option Refusal
+cancel_refusal setup parts case motion = first_of (cancel_checks setup parts case motion)
 
 unfoldable pub holiday_refusal : CourtSetup → Parts → (day : ℤ) → HolidayList → Option Refusal
 holiday_refusal setup parts day list = first_of (holiday_checks setup parts day list)
@@ -313,29 +313,29 @@ unfoldable pub outage_refusal : Parts → (day : ℤ) → (from to : ℕ) → Op
 outage_refusal parts day from to = first_of (outage_checks parts day from to)
 
 abbrev pub refusal : CourtSetup → Parts → Command → Option Refusal
-refusal setup parts (OpenCase case filed) = open_case_refusal parts case filed
+refusal setup parts (OpenCase case filed) = open_case_refusal setup parts case filed
 refusal setup parts (Start case period event second service) = start_deadline_refusal setup parts case period event second service
 refusal setup parts (FileAct case deadline filing) = file_act_refusal setup parts case deadline filing
 refusal setup parts (Extend case deadline request) = extend_refusal setup parts case deadline request
-refusal setup parts (Motion case served need) = motion_refusal parts case served need
+refusal setup parts (Motion case served need) = motion_refusal setup parts case served need
 refusal setup parts (Book s) = book_refusal setup parts s
 refusal setup parts (MoveHearing s) = move_refusal setup parts s
-refusal setup parts (Cancel case motion) = cancel_refusal parts case motion
+refusal setup parts (Cancel case motion) = cancel_refusal setup parts case motion
 refusal setup parts (Holiday day list) = holiday_refusal setup parts day list
 refusal setup parts (Inaccessible day from to) = outage_refusal parts day from to
-refusal setup parts (Fact case (Ended deadline why dated)) = end_refusal parts case deadline why dated
+refusal setup parts (Fact case (Ended deadline why dated)) = end_refusal setup parts case deadline why dated
 refusal setup parts (Fact case (Resumed deadline day dated)) = resume_refusal setup parts case deadline day dated
-refusal setup parts (Fact case (Closed why dated)) = close_refusal parts case dated
-refusal setup parts (Fact case (Reopened dated)) = reopen_refusal parts case dated
-refusal setup parts (Fact case (Ruled motion how dated)) = rule_refusal parts case motion dated
+refusal setup parts (Fact case (Closed why dated)) = close_refusal setup parts case dated
+refusal setup parts (Fact case (Reopened dated)) = reopen_refusal setup parts case dated
+refusal setup parts (Fact case (Ruled motion how dated)) = rule_refusal setup parts case motion dated
 refusal setup parts (Fact case (Assigned judge referred dated)) = assign_refusal setup parts case judge referred dated
-refusal setup parts (Fact case Titled) = title_refusal parts case
-refusal setup parts (Fact case (Labelled kind number)) = label_refusal parts case kind number
+refusal setup parts (Fact case Titled) = title_refusal setup parts case
+refusal setup parts (Fact case (Labelled kind number)) = label_refusal setup parts case kind number
 
 -- Queries
 
-abbrev pub sheet_checks : Parts → (case : ℕ) → List (Option Refusal)
-sheet_checks parts case = when (not (has_case parts case)) NoSuchCase ∷ []
+abbrev pub sheet_checks : CourtSetup → Parts → (case : ℕ) → List (Option Refusal)
+sheet_checks setup parts case = when (not (has_case setup parts case)) NoSuchCase ∷ []
 
 abbrev pub judge_day_checks : CourtSetup → Parts → (judge : ℕ) → (day : ℤ) → List (Option Refusal)
 judge_day_checks setup parts judge day =
@@ -349,6 +349,6 @@ compute_checks parts period event second service = option_map refusal_of (start_
 
 -- the first refusal of a query, or none
 unfoldable pub query_refusal : CourtSetup → Parts → Query → Option Refusal
-query_refusal setup parts (Sheet case) = first_of (sheet_checks parts case)
+query_refusal setup parts (Sheet case) = first_of (sheet_checks setup parts case)
 query_refusal setup parts (JudgeDay judge day) = first_of (judge_day_checks setup parts judge day)
 query_refusal setup parts (Compute period event second service) = first_of (compute_checks parts period event second service)

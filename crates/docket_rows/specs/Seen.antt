@@ -10,7 +10,6 @@ use Rattle.docket_rows.specs.declared.hearing.Hearing.{Hearing}
 use Rattle.docket_rows.specs.CourtSetup.{CourtSetup}
 use Rattle.docket_rows.specs.Cases.{CaseRecordView, NumberedDeadline, NumberedMotion}
 use Rattle.docket_rows.specs.Facts.{closing_in}
-use Rattle.docket_rows.specs.Limits.{last_case}
 use Rattle.docket_rows.specs.Parts.{Parts}
 
 -- there is one, and it passes the test
@@ -18,12 +17,12 @@ abbrev pub has_one : {A : Type 0} → (A → Bool) → Option A → Bool
 has_one test found = option_map_or test found false
 
 -- cases are numbered from 1 on
-abbrev pub is_case_number : ℕ → Bool
-is_case_number case = nat_le 1 case && nat_le case last_case
+abbrev pub is_case_number : CourtSetup → ℕ → Bool
+is_case_number setup case = nat_le 1 case && nat_le case setup.limits.cases
 
 -- the case is open
-abbrev pub has_case : Parts → (case : ℕ) → Bool
-has_case parts case = is_case_number case && is_some (parts.case case)
+abbrev pub has_case : CourtSetup → Parts → (case : ℕ) → Bool
+has_case setup parts case = is_case_number setup case && is_some (parts.case case)
 
 -- the deadlines of the case, and the one of that number
 abbrev pub deadlines_in : Parts → (case : ℕ) → List NumberedDeadline

@@ -4,7 +4,7 @@ pub use Rattle.docket_rows.specs.Rows.{DocketedCase, DocketedDeadline, DocketedM
 pub use Rattle.docket_rows.specs.Cases.{NumberedDeadline, NumberedMotion, CaseRecordView, numbered_deadlines, numbered_motions}
 pub use Rattle.docket_rows.specs.Parts.{Parts, hearing_of, deadline_shown, motion_shown, fact_shown, facts_of, case_shown, need_of, last_served, sits, first_judge, booked, judge_calendar, room_calendar, part_value, same_part, read_of, days_in, calendar_in, case_in}
 unfoldable pub use Rattle.docket_rows.specs.Parts.{parts_of, parts_read}
-pub use Rattle.docket_rows.specs.Limits.{last_case, most_names, most_deadlines, most_motions, most_facts, most_grants, most_dates, most_outages}
+pub use Rattle.docket_rows.specs.Limits.{most_cases, most_names, most_deadlines, most_motions, most_facts, most_grants, most_dates, most_outages}
 pub use Rattle.docket_rows.specs.Seen.{has_one, is_case_number, has_case, deadlines_in, deadline_in, motions_in, motion_in, hearing_in, facts_in, is_closed, is_heard_after, first_ahead, if_ahead, hearing_ahead, next_deadline, next_motion, started, shown_now}
 pub use Rattle.docket_rows.specs.Facts.{is_kept, keep_fact, add_fact, closed_then, ended_then, is_ruled_after, later_ruling, ruled_then, is_assigned_after, assigned_then, fact_dated, is_by, closed_by, ruled_by, assigned_then_by, ending_word, suspended_by, ending_naming, closing_word, ruling_word, fact_subject, fact_naming}
 unfoldable pub use Rattle.docket_rows.specs.Facts.{closing_in, ended_in, ending_in, ruling_in, assigned_in, closing_by, ruling_by, assigned_by}

@@ -18,7 +18,7 @@ use std::alloc::AllocError;
 pub enum Command {
     /// Opens a case.
     OpenCase {
-        /// The number of the case, 1 to 4,096.
+        /// The number of the case, from 1 on.
         case: u32,
         /// The day on which it was filed.
         filed: Day,

@@ -81,9 +81,9 @@ pub struct DatedRuling {
 #[derive(Clone, Copy, Debug, PartialEq, Eq)]
 pub struct Assignment {
     /// The number of the judge who has it, in the court's file.
-    pub judge: u8,
+    pub judge: u16,
     /// The number of the judge to whom it is referred, if it is.
-    pub referred: Option<u8>,
+    pub referred: Option<u16>,
     /// The day of the order or the paper that says so, from which on it counts.
     pub dated: Day,
 }
@@ -133,9 +133,9 @@ pub enum Fact {
     /// The case is assigned to a judge, and may be referred to another.
     Assigned {
         /// The number of the judge who has it, in the court's file.
-        judge: u8,
+        judge: u16,
         /// The number of the judge to whom it is referred, if it is.
-        referred: Option<u8>,
+        referred: Option<u16>,
         /// The day of the order or the paper that says so.
         dated: Day,
     },

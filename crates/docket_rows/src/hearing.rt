@@ -11,7 +11,7 @@ pub struct Hearing {
     /// The judges before whom it is held.
     pub judges: Panel,
     /// The number of its room.
-    pub room: u8,
+    pub room: u16,
     /// Its day.
     pub day: Day,
     /// The first slot that it takes: slot s begins at minute 15·s of the day.
@@ -32,7 +32,7 @@ pub struct Setting {
     /// The judges before whom the hearing is to be held.
     pub judges: Panel,
     /// The number of its room.
-    pub room: u8,
+    pub room: u16,
     /// Its day.
     pub day: Day,
     /// The first slot: slot s begins at minute 15·s of the day.

@@ -30,9 +30,7 @@ pub use fact::{
     ending_in,
 };
 pub use hearing::{Hearing, Setting};
-pub use limits::{
-    LAST_CASE, MOST_DATES, MOST_DEADLINES, MOST_FACTS, MOST_GRANTS, MOST_MOTIONS, MOST_OUTAGES,
-};
+pub use limits::{MOST_DATES, MOST_GRANTS, MOST_OUTAGES};
 pub use motion::MotionRecord;
 pub use part::{PartId, PartValue};
 pub use query::Query;

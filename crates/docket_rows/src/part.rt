@@ -13,9 +13,9 @@ pub enum PartId {
     /// The days of the court.
     Court,
     /// The calendar of the judge with that number.
-    Judge(u8),
+    Judge(u16),
     /// The calendar of the room with that number.
-    Room(u8),
+    Room(u16),
     /// The case with that number.
     Case(u32),
 }

@@ -10,7 +10,7 @@ pub enum Query {
     /// The sheet of the case with that number.
     Sheet(u32),
     /// The bookings of the judge with that number on a day.
-    JudgeDay(u8, Day),
+    JudgeDay(u16, Day),
     /// The end of a period: the period, its event, the second day and the kind of service, where it takes them.
     Compute(Period, Event, Option<Day>, Option<ServiceKind>),
 }

@@ -9,7 +9,7 @@ use rule_periods::PeriodRefusal;
 /// A refusal. Its number and its name are those of `number` and `name`.
 #[derive(Clone, Copy, Debug, PartialEq, Eq)]
 pub enum Refusal {
-    /// The case's number isn't 1 to 4,096, or the case isn't open.
+    /// The docket takes no case of that number, or the case isn't open.
     NoSuchCase,
     /// The case is open already.
     CaseIsOpen,

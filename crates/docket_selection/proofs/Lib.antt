@@ -4,5 +4,6 @@ pub mod ClosedLemmas
 pub mod DueLemmas
 pub mod OrderLemmas
 pub mod PendingLemmas
+pub mod SheetLemmas
 pub mod ExplainedLemmas
 pub mod ChangesLemmas

@@ -26,7 +26,7 @@ pub struct DayBookings {
 pub fn bookings_on(
     alloc: Global,
     docket: &Docket,
-    judge: u8,
+    judge: u16,
     days: &[Day],
 ) -> Result<Vec<DayBookings>, AllocError>
     ensures { (docketed : Rows) → StandsFor docket.now docketed → IfOk result (λ list. list.items ≡ map (day_bookings docket.now.setup docketed judge) days.now) }

@@ -15,7 +15,7 @@ use std::alloc::{AllocError, Global};
 #[derive(Debug, Drop)]
 pub struct JudgeCalendar {
     /// The number of the judge in the court's file.
-    pub judge: u8,
+    pub judge: u16,
     /// The bookings, by day and first slot.
     pub bookings: Bookings,
 }
@@ -45,7 +45,7 @@ fn push_calendars(
     list: &mut Vec<JudgeCalendar>,
     docket: &Docket,
     choice: &Choice,
-    count: u8,
+    count: u16,
 ) -> Result<(), AllocError>
     ensures { (docketed : Rows) → StandsFor docket.now docketed → OnOk result (list.new.items ≡ list.old.items ++ calendars_from docket.now.setup docketed choice.now 0 count) }
 {
@@ -61,7 +61,7 @@ fn push_calendar(
     list: &mut Vec<JudgeCalendar>,
     docket: &Docket,
     choice: &Choice,
-    judge: u8,
+    judge: u16,
 ) -> Result<(), AllocError>
     ensures { (docketed : Rows) → StandsFor docket.now docketed → OnOk result (list.new.items ≡ list.old.items ++ calendar_chosen docket.now.setup docketed choice.now judge) }
 {
@@ -73,7 +73,7 @@ fn push_calendar(
 #[tactic(auto, using(crate::proofs::DueLemmas::nothing_more))]
 fn push_calendar_with(
     list: &mut Vec<JudgeCalendar>,
-    judge: u8,
+    judge: u16,
     bookings: Vec<Booking>,
 ) -> Result<(), AllocError>
     ensures { OnOk result (list.new.items ≡ list.old.items ++ calendar_with judge bookings.items) }
@@ -93,7 +93,7 @@ fn bookings_chosen(
     alloc: Global,
     docket: &Docket,
     choice: &Choice,
-    judge: u8,
+    judge: u16,
 ) -> Result<Vec<Booking>, AllocError>
     ensures { (docketed : Rows) → StandsFor docket.now docketed → IfOk result (λ list. list.items ≡ chosen_bookings docket.now.setup docketed choice.now judge) }
 {

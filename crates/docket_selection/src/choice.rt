@@ -16,7 +16,7 @@ pub struct Choice {
     /// The number of a judge in the court's file: hearings before that judge, and the deadlines of the cases before that judge. A
     /// case is before the judges to whom it is assigned and referred; one that isn't assigned, before those of its hearings. None:
     /// any judge.
-    pub judge: Option<u8>,
+    pub judge: Option<u16>,
     /// Whether the deadlines are those of the cases that aren't before the judge, in place of those that are.
     pub elsewhere: bool,
     /// The number of a case. None: any case.
@@ -94,7 +94,7 @@ pub(crate) fn are_deadlines_chosen(choice: &Choice, closed: &Option<Closure>, be
 }
 
 /// Whether a case that is assigned so and has these motions is before the judge.
-fn is_case_before(judge: u8, assigned: &Option<Assignment>, motions: &[SheetMotion]) -> bool
+fn is_case_before(judge: u16, assigned: &Option<Assignment>, motions: &[SheetMotion]) -> bool
     ensures { result ≡ is_case_before judge assigned.now motions.now }
 {
     match assigned {
@@ -104,7 +104,7 @@ fn is_case_before(judge: u8, assigned: &Option<Assignment>, motions: &[SheetMoti
 }
 
 /// Whether the judge has the case, or it is referred to the judge.
-fn has_assigned(judge: u8, assignment: &Assignment) -> bool
+fn has_assigned(judge: u16, assignment: &Assignment) -> bool
     ensures { result ≡ has_assigned judge assignment.now }
 {
     if assignment.judge == judge {
@@ -127,14 +127,14 @@ pub(crate) fn has_hearing(choice: &Choice, motions: &[SheetMotion]) -> bool
 }
 
 /// Whether the judge is in the panel of a hearing of these motions.
-fn sits_in_any(judge: u8, motions: &[SheetMotion]) -> bool
+fn sits_in_any(judge: u16, motions: &[SheetMotion]) -> bool
     ensures { result ≡ sits_in_any judge motions.now }
 {
     motions.iter().any(|motion| sits_in(judge, &motion.hearing))
 }
 
 /// Whether there is a hearing, and the judge is in its panel.
-fn sits_in(judge: u8, hearing: &Option<SheetHearing>) -> bool
+fn sits_in(judge: u16, hearing: &Option<SheetHearing>) -> bool
     ensures { result ≡ sits_in judge hearing.now }
 {
     match hearing {
@@ -144,7 +144,7 @@ fn sits_in(judge: u8, hearing: &Option<SheetHearing>) -> bool
 }
 
 /// Whether the judge is in the panel.
-fn sits(judge: u8, panel: &Panel) -> bool
+fn sits(judge: u16, panel: &Panel) -> bool
     ensures { result ≡ sits judge panel.now }
 {
     panel.judges().contains(&judge)

@@ -29,7 +29,7 @@ pub enum PendingKind {
 #[derive(Clone, Copy, Debug, PartialEq, Eq)]
 pub struct PendingItem {
     /// The number of the judge who has the case, in the court's file. None where it isn't assigned.
-    pub judge: Option<u8>,
+    pub judge: Option<u16>,
     /// The number of the case.
     pub case: u32,
     /// The number of the motion in its case. None for the case itself.
@@ -40,7 +40,7 @@ pub struct PendingItem {
 
 /// The types inside an item. The checker finds them only where they have names, so a function that has a `Vec` of items has
 /// a variable of this type.
-pub type PendingTypes = Option<(PendingItem, Option<u8>, Option<u32>, Day)>;
+pub type PendingTypes = Option<(PendingItem, Option<u16>, Option<u32>, Day)>;
 
 /// What has been pending for long on that day, under the judge who has the case: by the numbers of the judges, and last what no judge
 /// has; for each by case and motion. Six months, and three years, are calendar months, as `Day::has_passed` counts them. Rulings, closings
@@ -66,7 +66,7 @@ fn pending_among(
     alloc: Global,
     docket: &Docket,
     sheets: &[Sheet],
-    judges: u8,
+    judges: u16,
     kind: PendingKind,
     day: Day,
 ) -> Result<Vec<PendingItem>, AllocError>
@@ -84,7 +84,7 @@ fn push_judges(
     list: &mut Vec<PendingItem>,
     docket: &Docket,
     sheets: &[Sheet],
-    count: u8,
+    count: u16,
     kind: PendingKind,
     day: Day,
 ) -> Result<(), AllocError>
@@ -102,7 +102,7 @@ fn push_judge(
     list: &mut Vec<PendingItem>,
     docket: &Docket,
     sheets: &[Sheet],
-    judge: u8,
+    judge: u16,
     kind: PendingKind,
     day: Day,
 ) -> Result<(), AllocError>
@@ -116,7 +116,7 @@ fn push_sheets(
     list: &mut Vec<PendingItem>,
     docket: &Docket,
     sheets: &[Sheet],
-    judge: Option<u8>,
+    judge: Option<u16>,
     kind: PendingKind,
     day: Day,
 ) -> Result<(), AllocError>
@@ -135,7 +135,7 @@ fn push_sheet(
     list: &mut Vec<PendingItem>,
     docket: &Docket,
     sheet: &Sheet,
-    judge: Option<u8>,
+    judge: Option<u16>,
     kind: PendingKind,
     day: Day,
 ) -> Result<(), AllocError>
@@ -156,7 +156,7 @@ fn push_pending(
     list: &mut Vec<PendingItem>,
     sheet: &Sheet,
     facts: &[Fact],
-    judge: Option<u8>,
+    judge: Option<u16>,
     kind: PendingKind,
     day: Day,
 ) -> Result<(), AllocError>
@@ -184,7 +184,7 @@ fn push_motions(
     case: u32,
     facts: &[Fact],
     motions: &[SheetMotion],
-    judge: Option<u8>,
+    judge: Option<u16>,
     day: Day,
 ) -> Result<(), AllocError>
     ensures { OnOk result (list.new.items ≡ list.old.items ++ flat_map (motion_if_pending day judge case facts.now) motions.now) }
@@ -203,7 +203,7 @@ fn push_motion(
     case: u32,
     facts: &[Fact],
     motion: &SheetMotion,
-    judge: Option<u8>,
+    judge: Option<u16>,
     day: Day,
 ) -> Result<(), AllocError>
     ensures { OnOk result (list.new.items ≡ list.old.items ++ motion_if_pending day judge case facts.now motion.now) }
@@ -215,7 +215,7 @@ fn push_motion(
 /// The motion, if it was served more than six months before the day and wasn't decided by then.
 fn pending_motion(
     day: Day,
-    judge: Option<u8>,
+    judge: Option<u16>,
     case: u32,
     facts: &[Fact],
     motion: &SheetMotion,
@@ -236,7 +236,7 @@ fn pending_motion(
 }
 
 /// The case, if it was filed more than three years before the day.
-fn pending_case(day: Day, judge: Option<u8>, case: u32, filed: Day) -> Option<PendingItem>
+fn pending_case(day: Day, judge: Option<u16>, case: u32, filed: Day) -> Option<PendingItem>
     ensures { result ≡ pending_case day judge case filed }
 {
     if day.has_passed(36, filed) {
@@ -273,7 +273,7 @@ fn decides(ruling: Ruling) -> bool
 }
 
 /// Whether a case that is assigned so is listed under the judge: one that isn't is under none.
-fn is_listed_under(judge: Option<u8>, assigned: &Option<Assignment>) -> bool
+fn is_listed_under(judge: Option<u16>, assigned: &Option<Assignment>) -> bool
     ensures { result ≡ is_listed_under judge assigned.now }
 {
     match assigned {
@@ -283,7 +283,7 @@ fn is_listed_under(judge: Option<u8>, assigned: &Option<Assignment>) -> bool
 }
 
 /// Whether this is the judge.
-fn is_judge(judge: Option<u8>, number: u8) -> bool
+fn is_judge(judge: Option<u16>, number: u16) -> bool
     ensures { result ≡ has_one (λ other. other == number) judge }
 {
     match judge {

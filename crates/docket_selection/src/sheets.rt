@@ -8,15 +8,23 @@ ghost use Rattle.docket_selection.specs.Sheets.{open_sheets, sheet_seen, sheets_
 
 use crate::choice::{Choice, has_hearing, is_before, is_case_chosen};
 use docket_core::Docket;
-use docket_rows::{LAST_CASE, Query, Sheet, View};
+use docket_rows::{Query, Sheet, View};
 use std::alloc::{AllocError, Global};
 
 /// The sheets of all open cases, by their numbers. `Err` says that memory ran out.
 pub fn sheets_of(alloc: Global, docket: &Docket) -> Result<Vec<Sheet>, AllocError>
     ensures { (docketed : Rows) → StandsFor docket.now docketed → IfOk result (λ list. list.items ≡ open_sheets docket.now.setup docketed) }
 {
+    first_sheets(alloc, docket, docket.last_case())
+}
+
+/// The sheets of those of the first `count` cases that are open.
+fn first_sheets(alloc: Global, docket: &Docket, count: u32) -> Result<Vec<Sheet>, AllocError>
+    requires { count ≤ 1000000 }
+    ensures { (docketed : Rows) → StandsFor docket.now docketed → IfOk result (λ list. list.items ≡ sheets_from docket.now.setup docketed 1 count) }
+{
     let mut list = Vec::new(alloc);
-    push_sheets(alloc, &mut list, docket, 1, LAST_CASE)?;
+    push_sheets(alloc, &mut list, docket, 1, count)?;
     Ok(list)
 }
 
@@ -58,7 +66,7 @@ fn push_sheets(
     first: u32,
     count: u32,
 ) -> Result<(), AllocError>
-    requires numbers { first + count ≤ 5_000 }
+    requires numbers { first + count ≤ 1_000_001 }
     ensures { (docketed : Rows) → StandsFor docket.now docketed → OnOk result (list.new.items ≡ list.old.items ++ sheets_from docket.now.setup docketed first count) }
 {
     for case in first..first + count {

@@ -1,13 +1,12 @@
 -- What differs between two dockets: each case that is open or closed in one alone or is assigned otherwise, each deadline that ends
 -- otherwise or is ended in one alone, and each motion that is heard or ruled on otherwise.
-use Rattle.std.specs.Prelude.{ℕ, List, [], ◌++◌, codes, if◌then◌else◌}
+use Rattle.std.specs.Prelude.{ℕ, max, List, [], ◌++◌, codes, if◌then◌else◌}
 use Rattle.std.specs.List.{flat_map, list_any, range_with_len}
 use Rattle.case_numbers.specs.declared.names.NamedCase.{NamedCase}
 use Rattle.court_days.specs.Words.{CourtView}
 use Rattle.docket_rows.specs.declared.command.Counted.{Counted}
 use Rattle.docket_rows.specs.declared.command.Counted.TheVariants.{Deadline, Motion}
 use Rattle.docket_rows.specs.declared.view.View.{View}
-use Rattle.docket_rows.specs.Words.{last_case}
 use Rattle.docket_shifts.specs.Assignments.{assignment_shift}
 use Rattle.docket_shifts.specs.Closings.{closing_shift}
 use Rattle.docket_shifts.specs.Compared.{ShownRows, sheet_in}
@@ -44,6 +43,6 @@ unfoldable pub shifts_from : (before after : ShownRows) → (first count : ℕ) 
 shifts_from before after first count = flat_map (case_shifts before after) (range_with_len first count)
 
 -- A line for each case that is open in one docket alone or is closed or assigned otherwise, for each deadline that ends otherwise after
--- than before, and for each motion that is heard or ruled on otherwise, by the numbers of the cases.
+-- than before, and for each motion that is heard or ruled on otherwise, by the numbers of the cases: of all that either docket can have.
 abbrev pub shifts : (before after : ShownRows) → List ℕ
-shifts before after = shifts_from before after 1 last_case
+shifts before after = shifts_from before after 1 (max before.court.limits.cases after.court.limits.cases)

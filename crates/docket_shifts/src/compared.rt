@@ -1,6 +1,7 @@
 //! One of two dockets that are compared.
-ghost use Rattle.std.specs.Prelude.{◌≡◌, IfOk};
+ghost use Rattle.std.specs.Prelude.{◌≡◌, ◌<◌, ◌≤◌, ℕ, None, IfOk};
 ghost use Rattle.docket_rows.specs.Words.{Rows, setup_of};
+ghost use Rattle.docket_core.specs.Words.{parts_held};
 ghost use Rattle.office_texts.specs.Run.Words.{Holds};
 
 use case_numbers::Cases;
@@ -35,6 +36,15 @@ impl<'a> Model for Compared<'a> {
 
 impl<'a> Compared<'a> {
     ghost use Rattle.docket_shifts.specs.Compared.{rows_shown, sheet_in};
+
+    // A number below which each open case is, or at it.
+    pub(crate) fn last_case(&self) -> u32
+        ensures few { result ≤ self.now.docket.setup.limits.cases }
+        ensures most { result ≤ 1000000 }
+        ensures none { (n : ℕ) → result < n → (parts_held self.now.docket).case n ≡ None }
+    {
+        self.docket.last_case()
+    }
 
     // The sheet of a case, or why there is none, by the numbers of its deadlines and motions.
     pub(crate) fn sheet(&self, alloc: Global, case: u32) -> Result<View, AllocError>

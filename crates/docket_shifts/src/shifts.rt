@@ -1,5 +1,5 @@
 //! What differs between two dockets.
-ghost use Rattle.std.specs.Prelude.{◌+◌, ◌≤◌, OnOk};
+ghost use Rattle.std.specs.Prelude.{◌≡◌, ◌+◌, ◌≤◌, max, OnOk};
 ghost use Rattle.std.specs.List.{flat_map};
 ghost use Rattle.docket_rows.specs.declared.command.Counted.TheVariants.{Deadline, Motion};
 ghost use Rattle.docket_rows.specs.Words.{Rows, setup_of};
@@ -17,7 +17,7 @@ use crate::line::push_shift;
 use crate::sheets::{ends_in, filed_in, hearings_in};
 use crate::texts::{NumberedText, has_number, text_under};
 use case_numbers::Cases;
-use docket_rows::{Counted, LAST_CASE, View};
+use docket_rows::{Counted, View};
 use std::alloc::{AllocError, Global};
 
 // Adds the line of what was shown under a number, unless it still is.
@@ -220,7 +220,7 @@ fn push_cases(
     first: u32,
     count: u32,
 ) -> Result<(), AllocError>
-    requires numbers { first + count ≤ 5_000 }
+    requires numbers { first + count ≤ 1_000_001 }
     ensures { (was is : Rows) → Holds (setup_of before.now.court) before.now.docket was → Holds (setup_of after.now.court) after.now.docket is
         → OnOk result (AddsText text.old text.new (shifts_from (rows_shown before.now was) (rows_shown after.now is) first count)) }
 {
@@ -242,5 +242,13 @@ pub fn push_shifts(
     ensures { (was is : Rows) → Holds (setup_of before.now.court) before.now.docket was → Holds (setup_of after.now.court) after.now.docket is
         → OnOk result (AddsText text.old text.new (shifts (rows_shown before.now was) (rows_shown after.now is))) }
 {
-    push_cases(alloc, text, before, after, 1, LAST_CASE)
+    let had = before.last_case();
+    let has = after.last_case();
+    push_cases(alloc, text, before, after, 1, greater(had, has))
+}
+
+fn greater(one: u32, other: u32) -> u32
+    ensures { result ≡ max one other }
+{
+    if one <= other { other } else { one }
 }

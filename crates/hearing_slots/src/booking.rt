@@ -21,7 +21,7 @@ pub struct Booking {
     /// The number of the motion in its case.
     pub motion: u32,
     /// In a judge's calendar the room; in a room's calendar the first judge of the panel.
-    pub other: u8,
+    pub other: u16,
     /// The day of the hearing.
     pub day: Day,
     /// The first slot that the hearing takes.

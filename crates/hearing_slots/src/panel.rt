@@ -9,7 +9,7 @@ use std::marker::Model;
 #[derive(Clone, Copy, Debug, PartialEq, Eq)]
 pub struct Panel {
     // Past the first `count` there are zeros.
-    numbers: [u8; 3],
+    numbers: [u16; 3],
     count: u8,
 }
 
@@ -31,7 +31,7 @@ impl Model for Panel {
 
 impl Panel {
     /// The panel of these judges. None where the slice has not one to three numbers.
-    pub fn new(numbers: &[u8]) -> Option<Panel>
+    pub fn new(numbers: &[u16]) -> Option<Panel>
         ensures some { IsSome result ↔ ((1 ≤ length numbers.now) × (length numbers.now ≤ 3)) }
         ensures value { IfSome result (λ panel. panel ≡ numbers.now) }
     {
@@ -45,7 +45,7 @@ impl Panel {
     }
 
     /// The numbers of the judges, in the order in which they were named.
-    pub fn judges(&self) -> &[u8]
+    pub fn judges(&self) -> &[u16]
         ensures value { result.now ≡ self.now }
         ensures one_to_three { (1 ≤ length self.now) × (length self.now ≤ 3) }
     {

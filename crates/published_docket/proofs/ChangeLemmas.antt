@@ -65,15 +65,15 @@ module _ (setup : CourtSetup) where
   abbrev cell_put : ℕ → Option PartValue → Cell → Cell
   cell_put version written was = option_map_or (λ value. record { version = version; value = value }) written was
 
-  put_cell : (version : ℕ) (writes : List (PartId × PartValue)) (cells : List Cell) (part : PartId) (d : Cell) → HasCell part → All HasCell (parts_named writes) → cell_of part < length cells
+  put_cell : (version : ℕ) (writes : List (PartId × PartValue)) (cells : List Cell) (part : PartId) (d : Cell) → HasCell setup part → All (HasCell setup) (parts_named writes) → cell_of part < length cells
       → get_or (put_all version writes cells) (cell_of part) d ≡ cell_put version (write_to (docket_rules setup) part writes) (get_or cells (cell_of part) d)
   put_cell version [] cells part d has have below = refl
   put_cell version (w ∷ ws) cells part d has have below =
       let r = docket_rules setup in
       let rest = put_all version ws cells in
       let new : Cell = record { version = version; value = w.1 } in
-      let too : HasCell w.0 = All-head HasCell w.0 (parts_named ws) have in
-      let others : All HasCell (parts_named ws) = All-tail HasCell w.0 (parts_named ws) have in
+      let too : HasCell setup w.0 = All-head (HasCell setup) w.0 (parts_named ws) have in
+      let others : All (HasCell setup) (parts_named ws) = All-tail (HasCell setup) w.0 (parts_named ws) have in
       elim (cases_Bool (r.same_part part w.0)) [
         | inl same ↦
             let e : part ≡ w.0 = (docket_lawful setup).parts_equal part w.0 same in
@@ -81,24 +81,24 @@ module _ (setup : CourtSetup) where
             let within : cell_of part < length rest = omega (arith, below, put_length version ws cells) in
             rw (same, at) (get_or-set_same rest (cell_of part) new d within)
         | inr other ↦
-            let apart : cell_of part ≢ cell_of w.0 = λ e. false≢true (sym other ∙ (ap (r.same_part part) (sym (cells_differ part w.0 has too e)) ∙ (docket_lawful setup).part_itself part)) in
+            let apart : cell_of part ≢ cell_of w.0 = λ e. false≢true (sym other ∙ (ap (r.same_part part) (sym (cells_differ setup part w.0 has too e)) ∙ (docket_lawful setup).part_itself part)) in
             rw other (get_or-set_other rest (cell_of w.0) (cell_of part) new d apart ∙ put_cell version ws cells part d has others below)
       ]
 
   -- all that a command reads has cells, and so has all that it writes
   module _ (small : IsSmall setup) where
-    reads_have : (command : Command) (before reads : List (PartId × PartValue)) → AreReadAfter (docket_rules setup) command before reads → All HasCell (parts_named reads)
-    reads_have command before [] in_order = All-nil HasCell
+    reads_have : (command : Command) (before reads : List (PartId × PartValue)) → AreReadAfter (docket_rules setup) command before reads → All (HasCell setup) (parts_named reads)
+    reads_have command before [] in_order = All-nil (HasCell setup)
     reads_have command before (x ∷ xs) in_order =
-        All-cons HasCell x.0 (parts_named xs) (cell_next setup small command before x.0 in_order.0) (reads_have command (before ++ x ∷ []) xs in_order.1)
+        All-cons (HasCell setup) x.0 (parts_named xs) (cell_next setup small command before x.0 in_order.0) (reads_have command (before ++ x ∷ []) xs in_order.1)
 
-    writes_have : (values : PartId → PartValue) (command : Command) → All HasCell (parts_named (writes_on (docket_rules setup) values command))
+    writes_have : (values : PartId → PartValue) (command : Command) → All (HasCell setup) (parts_named (writes_on (docket_rules setup) values command))
     writes_have values command =
         let r = docket_rules setup in
         let reads = reads_on r values command in
         let whole = (reads_whole r (docket_lawful setup) values command).0 in
         let have = reads_have command [] reads whole.in_order in
-        All-weaker (Contains (parts_named reads)) HasCell (λ part among. All-contains HasCell (parts_named reads) part have among) (parts_named (writes_on r values command)) ((docket_lawful setup).writes_are_read command reads whole)
+        All-weaker (Contains (parts_named reads)) (HasCell setup) (λ part among. All-contains (HasCell setup) (parts_named reads) part have among) (parts_named (writes_on r values command)) ((docket_lawful setup).writes_are_read command reads whole)
 
     -- what an entry writes leaves each cell as it is after that entry
     pub replayed_push : (log : List (Entry Command Answer)) (e : Entry Command Answer) (cells : List Cell) → IsReplayed setup log cells

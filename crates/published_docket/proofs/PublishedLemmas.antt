@@ -21,7 +21,7 @@ use Rattle.published_docket.specs.Trails.{TrailView, IsBeginning}
 use Rattle.published_docket.specs.Boards.{BoardView, IsShown, known_of}
 use Rattle.published_docket.specs.Changes.{put_all}
 use Rattle.published_docket.specs.Published.{Extends, Published, MayShow, Sees}
-use Rattle.published_docket.specs.Cells.{IsSmall, opening_cells}
+use Rattle.published_docket.specs.Cells.{IsSmall, cell_count, opening_cells}
 use Rattle.published_docket.proofs.ChangeLemmas.{replayed_push}
 use Rattle.published_docket.proofs.CellLemmas.{opening_replayed}
 
@@ -114,7 +114,7 @@ opens x shown = record { shown = shown; known = λ j u e. ⊎_elim (λ (none : g
   nothing : (j : ℕ) (u : Option Known) → get_elem? [] j ≡ some u → ⊥
   nothing j u none = cc none
 
-pub opening_shown : (setup : CourtSetup) (trail : TrailView) → IsSmall setup → trail.log ≡ [] → IsShown (record { parts = setup; trail = trail; cells = opening_cells setup 4161 })
+pub opening_shown : (setup : CourtSetup) (trail : TrailView) → IsSmall setup → trail.log ≡ [] → IsShown (record { parts = setup; trail = trail; cells = opening_cells setup (cell_count setup) })
 opening_shown setup trail small none = record { small = small; legal = rw none (legal_empty (docket_rules setup)); cells = rw none (opening_replayed setup) }
 
 -- an entry that may follow, and the cells that it writes, may be shown

@@ -2,7 +2,7 @@
 
 ghost use Rattle.std.specs.Prelude.{◌≡◌, IfOk, option_copied, slice_get, slice_set};
 ghost use Rattle.published_docket.specs.Boards.{IsShown};
-ghost use Rattle.published_docket.specs.Cells.{HasCell, opening_cells, cell_after, cell_of};
+ghost use Rattle.published_docket.specs.Cells.{HasCell, cell_count, opening_cells, cell_after, cell_of};
 
 use crate::cell::Cell;
 use crate::cells::{cell_of, opening_cells};
@@ -37,7 +37,7 @@ impl Board {
         parts: &DocketParts,
         trail: &Trail,
     ) -> Result<Board, AllocError>
-        ensures { IfOk result (λ s. s ≡ record { parts = parts.now; trail = trail.now; cells = opening_cells parts.now 4161 }) }
+        ensures { IfOk result (λ s. s ≡ record { parts = parts.now; trail = trail.now; cells = opening_cells parts.now (cell_count parts.now) }) }
     {
         Ok(Board {
             parts: parts.copy()?,
@@ -70,7 +70,7 @@ impl Board {
     // The cell of a part.
     fn cell(&self, part: PartId) -> &Cell
         requires shown { IsShown self.now }
-        requires cell { HasCell part }
+        requires cell { HasCell self.now.parts part }
         ensures { result.now ≡ cell_after self.now.parts self.now.trail.log part }
     {
         match self.cell_at(part) {
@@ -82,7 +82,7 @@ impl Board {
     /// The version of a part.
     pub(crate) fn version(&self, part: PartId) -> u64
         requires shown { IsShown self.now }
-        requires cell { HasCell part }
+        requires cell { HasCell self.now.parts part }
         ensures { result ≡ (cell_after self.now.parts self.now.trail.log part).version }
     {
         self.cell(part).version
@@ -92,7 +92,7 @@ impl Board {
     /// counted.
     pub(crate) fn value(&self, part: PartId) -> Result<PartValue, AllocError>
         requires shown { IsShown self.now }
-        requires cell { HasCell part }
+        requires cell { HasCell self.now.parts part }
         ensures { IfOk result (λ value. value ≡ (cell_after self.now.parts self.now.trail.log part).value) }
     {
         self.cell(part).value.copy()

@@ -51,7 +51,7 @@ pub fn show(alloc: Global, shown: &Board, query: &Query) -> Result<View, AllocEr
 
 /// The calendar of the judge after the history that is seen. It takes no memory.
 #[tactic(auto, using(crate::proofs::SightLemmas::shown_calendar))]
-pub fn calendar(shown: &Board, judge: u8) -> CalendarRef<'_>
+pub fn calendar(shown: &Board, judge: u16) -> CalendarRef<'_>
     requires shown { IsShown shown.now }
     requires judge { judge < shown.now.parts.judges }
     ensures { bookings_seen result ≡ (parts_of (rows_of shown.now.parts shown.now.trail.log)).judge judge }

@@ -58,11 +58,11 @@ impl Sight for Board {
         }
     }
 
-    fn judge(&self, judge: u8) -> CalendarRef<'_> {
+    fn judge(&self, judge: u16) -> CalendarRef<'_> {
         CalendarRef::shared(calendar_shown(self, PartId::Judge(judge)))
     }
 
-    fn room(&self, room: u8) -> CalendarRef<'_> {
+    fn room(&self, room: u16) -> CalendarRef<'_> {
         CalendarRef::shared(calendar_shown(self, PartId::Room(room)))
     }
 }

@@ -1,6 +1,8 @@
 -- Why a command or a question is refused that names what there isn't, or what is out of its range.
 use Rattle.std.specs.Prelude.{ℕ, ℤ, ◌&&◌, List, [], ◌++◌, Option, Some, None, codes, if◌then◌else◌}
+use Rattle.std.specs.Fmt.{decimal}
 use Rattle.court_clock.specs.Words.{day_text}
+use Rattle.court_days.specs.declared.limits.Limits.{Limits}
 use Rattle.court_days.specs.Words.{DaysView}
 use Rattle.rule6.specs.declared.service.ServiceKind.{ServiceKind}
 use Rattle.rule_periods.specs.declared.period.Entered.{Entered}
@@ -29,6 +31,13 @@ span_text words c = words ++ day_text c.from ++ codes " to " ++ day_text c.to
 unfoldable pub span_line : (words : List ℕ) → DaysView → List ℕ
 span_line words c = ours_line (span_text words c)
 
+-- words, how many the docket takes at most, and more words
+abbrev pub most_text : (words : List ℕ) → (most : ℕ) → (after : List ℕ) → List ℕ
+most_text words most after = words ++ decimal most ++ after
+
+unfoldable pub most_line : (words : List ℕ) → (most : ℕ) → (after : List ℕ) → List ℕ
+most_line words most after = ours_line (most_text words most after)
+
 -- how long a period may be
 abbrev pub period_words : List ℕ
 period_words = codes "a period is 1 to 3650 days, or 1 to 8760 hours"
@@ -44,14 +53,14 @@ length_lines (Inaccessible day from to) = ours_line (codes "an outage ends after
 length_lines command = []
 
 -- how many of what a command adds the docket holds
-abbrev pub full_lines : Command → List ℕ
-full_lines (Start case period event second service) = ours_line (codes "a case has 64 deadlines at most")
-full_lines (Extend case deadline request) = ours_line (codes "a deadline has 32 extensions at most")
-full_lines (Motion case served need) = ours_line (codes "a case has 64 motions at most")
-full_lines (Holiday day list) = ours_line (codes "a list of holidays has 4096 dates at most")
-full_lines (Inaccessible day from to) = ours_line (codes "the docket has 512 outages at most")
-full_lines (Fact case fact) = ours_line (codes "a case has 512 such rows at most")
-full_lines command = []
+abbrev pub full_lines : Limits → Command → List ℕ
+full_lines limits (Start case period event second service) = most_line (codes "a case has ") limits.deadlines (codes " deadlines at most")
+full_lines limits (Extend case deadline request) = ours_line (codes "a deadline has 32 extensions at most")
+full_lines limits (Motion case served need) = most_line (codes "a case has ") limits.motions (codes " motions at most")
+full_lines limits (Holiday day list) = ours_line (codes "a list of holidays has 4096 dates at most")
+full_lines limits (Inaccessible day from to) = ours_line (codes "the docket has 512 outages at most")
+full_lines limits (Fact case fact) = most_line (codes "a case has ") limits.facts (codes " such rows at most")
+full_lines limits command = []
 
 -- who is named twice: a judge of a panel, or the judge to whom a case is referred
 abbrev pub panel_words : Command → List ℕ
@@ -95,39 +104,40 @@ abbrev pub listed_lines : Command → List ℕ
 listed_lines (Holiday day list) = note_line (Some day) (codes "the day is in that list already") (codes "ours")
 listed_lines command = []
 
--- the lines of such a refusal of a command; `motion` is that whose hearing the command asks for, and is called so
-unfoldable pub range_lines : DaysView → Command → (called : List ℕ) → Option SheetMotion → Refusal → List ℕ
-range_lines c command called motion NoSuchCase = ours_line (codes "the case isn't open; cases are 1 to 4096")
-range_lines c command called motion CaseIsOpen = ours_line (codes "the case is open already")
-range_lines c command called motion NoSuchDeadline = ours_line (codes "the case has no deadline of this number")
-range_lines c command called motion NoSuchMotion = ours_line (codes "the case has no motion of this number")
-range_lines c command called motion BadDay = span_line (codes "the days covered are ") c
-range_lines c command called motion Beyond = span_line (codes "beyond the days covered, ") c
-range_lines c command called motion BadLength = length_lines command
-range_lines c command called motion WrongService = service_lines command
-range_lines c command called motion Full = full_lines command
-range_lines c command called motion AlreadySet = taken_line called (codes " is heard, ") motion
-range_lines c command called motion NotSet = ours_line (codes "the motion has no hearing; `book` sets one")
-range_lines c command called motion AlreadyHoliday = listed_lines command
-range_lines c command called motion NoSuchJudge = ours_line (codes "the court's file names no such judge")
-range_lines c command called motion NoSuchRoom = ours_line (codes "the court's file names no such room")
-range_lines c command called motion BadPanel = ours_line (panel_words command)
-range_lines c command called motion CaseIsClosed = ours_line (codes "the case is closed; `reopen` opens it again")
-range_lines c command called motion NotClosed = ours_line (codes "the case isn't closed; `close` closes one")
-range_lines c command called motion AlreadyEnded = ours_line (codes "the deadline is ended; `resume` takes it up again")
-range_lines c command called motion NotEnded = ours_line (codes "the deadline isn't ended; `end` ends one")
-range_lines c command called motion refusal = []
+-- the lines of such a refusal of a command, where the docket holds so much at most; `motion` is that whose hearing the command asks for,
+-- and is called so
+unfoldable pub range_lines : DaysView → Limits → Command → (called : List ℕ) → Option SheetMotion → Refusal → List ℕ
+range_lines c limits command called motion NoSuchCase = most_line (codes "the case isn't open; cases are 1 to ") limits.cases (codes "")
+range_lines c limits command called motion CaseIsOpen = ours_line (codes "the case is open already")
+range_lines c limits command called motion NoSuchDeadline = ours_line (codes "the case has no deadline of this number")
+range_lines c limits command called motion NoSuchMotion = ours_line (codes "the case has no motion of this number")
+range_lines c limits command called motion BadDay = span_line (codes "the days covered are ") c
+range_lines c limits command called motion Beyond = span_line (codes "beyond the days covered, ") c
+range_lines c limits command called motion BadLength = length_lines command
+range_lines c limits command called motion WrongService = service_lines command
+range_lines c limits command called motion Full = full_lines limits command
+range_lines c limits command called motion AlreadySet = taken_line called (codes " is heard, ") motion
+range_lines c limits command called motion NotSet = ours_line (codes "the motion has no hearing; `book` sets one")
+range_lines c limits command called motion AlreadyHoliday = listed_lines command
+range_lines c limits command called motion NoSuchJudge = ours_line (codes "the court's file names no such judge")
+range_lines c limits command called motion NoSuchRoom = ours_line (codes "the court's file names no such room")
+range_lines c limits command called motion BadPanel = ours_line (panel_words command)
+range_lines c limits command called motion CaseIsClosed = ours_line (codes "the case is closed; `reopen` opens it again")
+range_lines c limits command called motion NotClosed = ours_line (codes "the case isn't closed; `close` closes one")
+range_lines c limits command called motion AlreadyEnded = ours_line (codes "the deadline is ended; `resume` takes it up again")
+range_lines c limits command called motion NotEnded = ours_line (codes "the deadline isn't ended; `end` ends one")
+range_lines c limits command called motion refusal = []
 
 -- which doesn't suit the period whose end is asked for
 abbrev pub service_asked : Query → List ℕ
 service_asked (Compute period event second service) = suits_line period second service
 service_asked query = []
 
--- the lines of a refusal of a question
-unfoldable pub query_lines : DaysView → Query → Refusal → List ℕ
-query_lines c query NoSuchCase = ours_line (codes "the case isn't open; cases are 1 to 4096")
-query_lines c query BadDay = span_line (codes "the days covered are ") c
-query_lines c query BadLength = ours_line period_words
-query_lines c query WrongService = service_asked query
-query_lines c query NoSuchJudge = ours_line (codes "the court's file names no such judge")
-query_lines c query refusal = []
+-- the lines of a refusal of a question, where cases are numbered to the first number
+unfoldable pub query_lines : (cases : ℕ) → DaysView → Query → Refusal → List ℕ
+query_lines cases c query NoSuchCase = most_line (codes "the case isn't open; cases are 1 to ") cases (codes "")
+query_lines cases c query BadDay = span_line (codes "the days covered are ") c
+query_lines cases c query BadLength = ours_line period_words
+query_lines cases c query WrongService = service_asked query
+query_lines cases c query NoSuchJudge = ours_line (codes "the court's file names no such judge")
+query_lines cases c query refusal = []

@@ -10,29 +10,30 @@ use crate::deadlines::{push_late, push_not_longer};
 use crate::hearings::{push_closed, push_hours, push_lost, push_short, push_taken};
 use crate::ranges::push_range;
 use court_clock::Clock;
-use court_days::Days;
+use court_days::{Days, Limits};
 use docket_rows::{Command, Refusal, SheetMotion};
 use reason_notes::push_recorded;
 use reason_texts::push_note;
 use rule_periods::{DeadlineRow, Request};
 use std::alloc::{AllocError, Global};
 
-/// Adds why a command is refused, in a line or a few: `row` is the deadline that the command is about, and `motion` the
-/// motion that the refusal names, or whose hearing the command asks for; `called` is what that motion is called. `Err` says
-/// that memory ran out.
+/// Adds why a command is refused, in a line or a few: `limits` says how much the docket holds at most, `row` is the deadline that the
+/// command is about, and `motion` the motion that the refusal names, or whose hearing the command asks for; `called` is what that motion
+/// is called. `Err` says that memory ran out.
 #[tactic(auto, unfolding(crate::specs::Lines::refusal_lines))]
 pub fn push_refusal(
     alloc: Global,
     text: &mut String,
     days: &Days,
     clock: &Clock,
+    limits: &Limits,
     command: &Command,
     row: Option<&DeadlineRow>,
     called: &str,
     motion: Option<SheetMotion>,
     refusal: &Refusal,
 ) -> Result<(), AllocError>
-    ensures { OnOk result (string_bytes text.new ≡ string_bytes text.old ++ refusal_lines days.now clock.now command.now (option_copied row.entry) called.now motion refusal.now) }
+    ensures { OnOk result (string_bytes text.new ≡ string_bytes text.old ++ refusal_lines days.now clock.now limits.now command.now (option_copied row.entry) called.now motion refusal.now) }
 {
     match *refusal {
         Refusal::AlreadyMet => push_recorded(alloc, text, days, clock, row),
@@ -94,7 +95,7 @@ pub fn push_refusal(
         Refusal::HearingThatDay(_, _) => push_taken(alloc, text, called, " is heard, ", motion),
         Refusal::HearingAhead(_, _) => push_taken(alloc, text, called, " is heard, ", motion),
         Refusal::NoticeLost(_, _) => push_both(alloc, text, called, &motion),
-        _ => push_range(alloc, text, days, command, called, motion, refusal),
+        _ => push_range(alloc, text, days, limits, command, called, motion, refusal),
     }
 }
 

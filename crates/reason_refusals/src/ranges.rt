@@ -1,11 +1,11 @@
 //! Why a command or a question is refused that names what there isn't, or what is out of its range.
 
 ghost use Rattle.std.specs.Prelude.{◌≡◌, ◌++◌, OnOk, string_bytes};
-ghost use Rattle.reason_refusals.specs.Ranges.{entered_words, full_lines, kind_words, length_lines, listed_lines, ours_line, panel_words, query_lines, range_lines, rule_words, second_words, service_asked, service_lines, span_line, span_text, suits_line, suits_words};
+ghost use Rattle.reason_refusals.specs.Ranges.{entered_words, full_lines, kind_words, length_lines, listed_lines, most_line, most_text, ours_line, panel_words, query_lines, range_lines, rule_words, second_words, service_asked, service_lines, span_line, span_text, suits_line, suits_words};
 
 use crate::hearings::push_taken;
 use court_clock::{Day, Direction};
-use court_days::Days;
+use court_days::{Days, Limits};
 use docket_rows::{Command, Query, Refusal, SheetMotion};
 use reason_texts::push_note;
 use rule_periods::{Entered, Length, Period, RulePeriod, ServiceRule};
@@ -13,7 +13,7 @@ use rule6::ServiceKind;
 use std::alloc::{AllocError, Global};
 use std::fmt::Write;
 
-const NO_CASE: &str = "the case isn't open; cases are 1 to 4096";
+const NO_CASE: &str = "the case isn't open; cases are 1 to ";
 
 const NO_JUDGE: &str = "the court's file names no such judge";
 
@@ -21,22 +21,23 @@ const PERIOD: &str = "a period is 1 to 3650 days, or 1 to 8760 hours";
 
 const HEARING: &str = "a hearing is 15 minutes or more, on one day";
 
-/// Adds why a command is refused that names what there isn't, or what is out of its range: `motion` is that whose
-/// hearing it asks for, and is called so. `Err` says that memory ran out.
+/// Adds why a command is refused that names what there isn't, or what is out of its range, where the docket holds so much at most:
+/// `motion` is that whose hearing the command asks for, and is called so. `Err` says that memory ran out.
 #[tactic(auto, unfolding(crate::specs::Ranges::range_lines))]
 pub(crate) fn push_range(
     alloc: Global,
     text: &mut String,
     days: &Days,
+    limits: &Limits,
     command: &Command,
     called: &str,
     motion: Option<SheetMotion>,
     refusal: &Refusal,
 ) -> Result<(), AllocError>
-    ensures { OnOk result (string_bytes text.new ≡ string_bytes text.old ++ range_lines days.now command.now called.now motion refusal.now) }
+    ensures { OnOk result (string_bytes text.new ≡ string_bytes text.old ++ range_lines days.now limits.now command.now called.now motion refusal.now) }
 {
     match *refusal {
-        Refusal::NoSuchCase => push_ours(text, NO_CASE),
+        Refusal::NoSuchCase => push_most(alloc, text, NO_CASE, limits.cases, ""),
         Refusal::CaseIsOpen => push_ours(text, "the case is open already"),
         Refusal::NoSuchDeadline => push_ours(text, "the case has no deadline of this number"),
         Refusal::NoSuchMotion => push_ours(text, "the case has no motion of this number"),
@@ -44,7 +45,7 @@ pub(crate) fn push_range(
         Refusal::Beyond => push_span(alloc, text, "beyond the days covered, ", days),
         Refusal::BadLength => push_length(text, command),
         Refusal::WrongService => push_service(text, command),
-        Refusal::Full => push_full(text, command),
+        Refusal::Full => push_full(alloc, text, limits, command),
         Refusal::AlreadySet => push_taken(alloc, text, called, " is heard, ", motion),
         Refusal::NotSet => push_ours(text, "the motion has no hearing; `book` sets one"),
         Refusal::AlreadyHoliday => push_listed(text, command),
@@ -62,19 +63,20 @@ pub(crate) fn push_range(
     }
 }
 
-/// Adds why a question is refused. `Err` says that memory ran out.
+/// Adds why a question is refused, where cases are numbered to `cases`. `Err` says that memory ran out.
 #[tactic(auto, unfolding(crate::specs::Ranges::query_lines))]
 pub fn push_query_refusal(
     alloc: Global,
     text: &mut String,
+    cases: u32,
     days: &Days,
     query: &Query,
     refusal: &Refusal,
 ) -> Result<(), AllocError>
-    ensures { OnOk result (string_bytes text.new ≡ string_bytes text.old ++ query_lines days.now query.now refusal.now) }
+    ensures { OnOk result (string_bytes text.new ≡ string_bytes text.old ++ query_lines cases days.now query.now refusal.now) }
 {
     match *refusal {
-        Refusal::NoSuchCase => push_ours(text, NO_CASE),
+        Refusal::NoSuchCase => push_most(alloc, text, NO_CASE, cases, ""),
         Refusal::BadDay => push_span(alloc, text, "the days covered are ", days),
         Refusal::BadLength => push_ours(text, PERIOD),
         Refusal::WrongService => push_service_asked(text, query),
@@ -108,6 +110,29 @@ fn push_span_text(text: &mut String, words: &str, days: &Days) -> Result<(), All
     write!(text, "{from} to {to}")
 }
 
+/// Adds words, how many the docket takes at most, and more words.
+#[tactic(auto, unfolding(crate::specs::Ranges::most_line))]
+fn push_most(
+    alloc: Global,
+    text: &mut String,
+    words: &str,
+    most: u32,
+    after: &str,
+) -> Result<(), AllocError>
+    ensures { OnOk result (string_bytes text.new ≡ string_bytes text.old ++ most_line words.now most after.now) }
+{
+    let mut what = String::new(alloc);
+    push_most_text(&mut what, words, most, after)?;
+    push_ours(text, what.as_str())
+}
+
+fn push_most_text(text: &mut String, words: &str, most: u32, after: &str) -> Result<(), AllocError>
+    ensures { OnOk result (string_bytes text.new ≡ string_bytes text.old ++ most_text words.now most after.now) }
+{
+    text.push_str(words)?;
+    write!(text, "{most}{after}")
+}
+
 /// Adds how long what a command asks for may be.
 fn push_length(text: &mut String, command: &Command) -> Result<(), AllocError>
     ensures { OnOk result (string_bytes text.new ≡ string_bytes text.old ++ length_lines command.now) }
@@ -129,16 +154,39 @@ fn push_length(text: &mut String, command: &Command) -> Result<(), AllocError>
 }
 
 /// Adds how many of what a command adds the docket holds.
-fn push_full(text: &mut String, command: &Command) -> Result<(), AllocError>
-    ensures { OnOk result (string_bytes text.new ≡ string_bytes text.old ++ full_lines command.now) }
+fn push_full(
+    alloc: Global,
+    text: &mut String,
+    limits: &Limits,
+    command: &Command,
+) -> Result<(), AllocError>
+    ensures { OnOk result (string_bytes text.new ≡ string_bytes text.old ++ full_lines limits.now command.now) }
 {
     match *command {
-        Command::Start { .. } => push_ours(text, "a case has 64 deadlines at most"),
+        Command::Start { .. } => push_most(
+            alloc,
+            text,
+            "a case has ",
+            limits.deadlines,
+            " deadlines at most",
+        ),
         Command::Extend { .. } => push_ours(text, "a deadline has 32 extensions at most"),
-        Command::Motion { .. } => push_ours(text, "a case has 64 motions at most"),
+        Command::Motion { .. } => push_most(
+            alloc,
+            text,
+            "a case has ",
+            limits.motions,
+            " motions at most",
+        ),
         Command::Holiday { .. } => push_ours(text, "a list of holidays has 4096 dates at most"),
         Command::Inaccessible { .. } => push_ours(text, "the docket has 512 outages at most"),
-        Command::Fact { .. } => push_ours(text, "a case has 512 such rows at most"),
+        Command::Fact { .. } => push_most(
+            alloc,
+            text,
+            "a case has ",
+            limits.facts,
+            " such rows at most",
+        ),
         _ => Ok(()),
     }
 }

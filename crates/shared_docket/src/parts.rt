@@ -34,7 +34,7 @@ impl DocketParts {
     /// The parts of this court's docket. `Err` says that memory ran out.
     pub fn new(court: &Court) -> Result<DocketParts, AllocError>
         ensures value { IfOk result (λ parts. parts ≡ setup_of court.now) }
-        ensures few { IfOk result (λ parts. (parts.judges ≤ 32) × (parts.rooms ≤ 32)) }
+        ensures few { IfOk result (λ parts. (parts.judges ≤ 1000) × (parts.rooms ≤ 1000)) }
     {
         Ok(DocketParts {
             rules: DocketRules::new(court)?,
@@ -57,6 +57,14 @@ impl DocketParts {
         ensures { result.now ≡ self.now.days }
     {
         &self.days
+    }
+
+    /// The greatest number of a case.
+    pub fn most_cases(&self) -> u32
+        ensures value { result ≡ self.now.limits.cases }
+        ensures few { result ≤ 1000000 }
+    {
+        self.rules.most_cases()
     }
 
     /// What the query shows of what is seen, or why it is refused. No part is copied. `Err` says that memory ran out.

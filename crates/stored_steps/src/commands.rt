@@ -18,7 +18,7 @@ type CommandTypes = Option<
         Grant,
         Request,
         Fact,
-        (Ending, Closing, Ruling, Option<u8>, Counted),
+        (Ending, Closing, Ruling, Option<u16>, Counted),
     ),
 >;
 

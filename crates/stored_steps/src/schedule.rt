@@ -19,7 +19,7 @@ type StepTypes = Option<
         Grant,
         Request,
         Fact,
-        (Ending, Closing, Ruling, Option<u8>, Counted),
+        (Ending, Closing, Ruling, Option<u16>, Counted),
     ),
 >;
 

@@ -1,14 +1,14 @@
 -- The names that the desk takes, and those of clerk_office among them.
-use Rattle.std.proofs.Common.{◌≡◌, ◌∙◌, ◌+◌, ◌<◌, ◌≤◌, ◌&&◌, ◌||◌, ◌==◌, ℕ, Bool, true, false, not, cond, List, [], ◌∷◌, ◌++◌, All, Result, Ok, Err, length, nat_le, nat_lt, refl, sym, ap, subst, arith}
+use Rattle.std.proofs.Common.{◌≡◌, ◌∙◌, ◌+◌, ◌<◌, ◌≤◌, ◌&&◌, ◌||◌, ◌==◌, ℕ, Bool, true, false, not, cond, List, [], ◌∷◌, ◌++◌, All, Result, Ok, Err, length, nat_le, nat_lt, ok_or, refl, sym, ap, subst, arith, if◌then◌else◌}
 use Rattle.std.proofs.lemmas.Bool.Decides.{nat_tests}
 use Rattle.std.proofs.lemmas.List.Elements.{All-append, All-cons, All-nil}
 use Rattle.std.specs.Char.{is_ascii_alphabetic, is_ascii_digit}
 use Rattle.std.specs.List.{list_all}
-use Rattle.toml.specs.Data.{Data, Items, Members, item, no_items}
+use Rattle.toml.specs.Data.{Data, Items, Members, as_array, item, no_items}
 use Rattle.court_file_text.specs.declared.fault.CourtFault.{CourtFault}
-use Rattle.court_file_text.specs.declared.fault.CourtFault.TheVariants.{BadName, TwiceNamed}
+use Rattle.court_file_text.specs.declared.fault.CourtFault.TheVariants.{BadName, TooMany, TwiceNamed, WrongKind}
 use Rattle.court_file_text.specs.declared.key.Key.{Key}
-use Rattle.court_file_text.specs.Words.{◌>>=◌, and_desk_name, and_name, begins_control, desk_names_at, each_item, has_control, is_desk_name, is_control_byte, is_desk_name_byte, is_name, is_name_byte, is_named, list_at, must, names_at, text_of}
+use Rattle.court_file_text.specs.Words.{◌>>=◌, and_desk_name, and_name, begins_control, desk_names_at, each_item, has_control, is_desk_name, is_control_byte, is_desk_name_byte, is_name, is_name_byte, is_named, item_count, list_at, must, names_at, text_of, value_at}
 use Rattle.court_days.proofs.CourtLemmas.OpeningLemmas.{steps}
 
 both : (x y : Bool) → (x && y) ≡ true → (x ≡ true) × (y ≡ true)
@@ -90,12 +90,12 @@ desk_bytes (b ∷ rest) all =
     let parts = both (is_name_byte b) (list_all is_name_byte rest) all in
     ap (λ (c : Bool). c && list_all is_desk_name_byte rest) (desk_byte b (range b parts.0).0) ∙ desk_bytes rest parts.1
 
-longer : (n : ℕ) → nat_le n 32 ≡ true → nat_le n 128 ≡ true
-longer n few = by (nat_le n 128) refl
+longer : (n most : ℕ) → 32 ≤ most → nat_le n 32 ≡ true → nat_le n most ≡ true
+longer n most above few = by (nat_le n most) refl
   where
-    by : (x : Bool) → nat_le n 128 ≡ x → x ≡ true
+    by : (x : Bool) → nat_le n most ≡ x → x ≡ true
     by true ex = refl
-    by false ex = let less = at_most n 32 few in let more : 128 < n = grind (arith, nat_tests) in absurd (omega (arith, less, more))
+    by false ex = let less = at_most n 32 few in let more : most < n = grind (arith, nat_tests) in absurd (omega (arith, above, less, more))
 
 -- a name of clerk_office is one that the desk takes
 pub name_too : (text : List ℕ) → is_name text ≡ true → is_desk_name text ≡ true
@@ -103,7 +103,7 @@ name_too text is =
     let parts = both (nat_le 1 (length text)) (nat_le (length text) 32 && list_all is_name_byte text) is in
     let more = both (nat_le (length text) 32) (list_all is_name_byte text) parts.1 in
     ap (λ (b : Bool). b && (nat_le (length text) 128 && (not (has_control text) && list_all is_desk_name_byte text))) parts.0
-    ∙ ap (λ (b : Bool). b && (not (has_control text) && list_all is_desk_name_byte text)) (longer (length text) more.0)
+    ∙ ap (λ (b : Bool). b && (not (has_control text) && list_all is_desk_name_byte text)) (longer (length text) 128 (omega arith) more.0)
     ∙ ap (λ (b : Bool). not b && list_all is_desk_name_byte text) (no_control text more.1)
     ∙ desk_bytes text more.1
 
@@ -129,11 +129,32 @@ items_too k names all (item value rest) e =
     ap (λ (r : Result (List (List ℕ)) CourtFault). r >>= λ so_far. each_item (and_desk_name k) so_far rest) (item_too k names more.0 value more.1)
     ∙ items_too k more.0 all rest more.2
 
+-- a list that is short enough, or the fault that it isn't
+abbrev if_few : Key → (few : Bool) → Items → Result Items CourtFault
+if_few k few items = if few then Ok items else Err (TooMany k)
+
+is_few : (k : Key) (found items : Items) (few : Bool) → if_few k few found ≡ Ok items → few ≡ true
+is_few k found items true e = refl
+is_few k found items false e = absurd (cc e)
+
+-- a list that is short enough for clerk_office is so for the desk
+list_too : (k : Key) (document : Members) (items : Items) → list_at k 32 document ≡ Ok items → list_at k 1000 document ≡ Ok items
+unfolding list_at
+list_too k document items e =
+    let value = steps (value_at k document) _ items e in
+    let found = steps (ok_or (as_array value.0) (WrongKind k)) _ items value.2 in
+    let few = is_few k found.0 items (nat_le (item_count found.0) 32) found.2 in
+    ap (λ (r : Result Data CourtFault). r >>= λ v. ok_or (as_array v) (WrongKind k) >>= λ xs. if_few k (nat_le (item_count xs) 1000) xs) value.1
+    ∙ ap (λ (r : Result Items CourtFault). r >>= λ xs. if_few k (nat_le (item_count xs) 1000) xs) found.1
+    ∙ ap (λ (b : Bool). if_few k b found.0) (longer (item_count found.0) 1000 (omega arith) few)
+    ∙ sym (ap (λ (b : Bool). if_few k b found.0) few)
+    ∙ found.2
+
 pub names_too : (k : Key) (document : Members) (names : List (List ℕ)) → names_at k document ≡ Ok names → desk_names_at k document ≡ Ok names
 unfolding names_at desk_names_at
 names_too k document names e =
     let items = steps (list_at k 32 document) (λ items. each_item (and_name k) [] items) names e in
-    ap (λ (r : Result Items CourtFault). r >>= λ items. each_item (and_desk_name k) [] items) items.1
+    ap (λ (r : Result Items CourtFault). r >>= λ items. each_item (and_desk_name k) [] items) (list_too k document items.0 items.1)
     ∙ items_too k [] names items.0 items.2
 
 -- each name that is read is one
@@ -157,5 +178,5 @@ items_are k names all (item value rest) are e =
 pub names_are : (k : Key) (document : Members) (names : List (List ℕ)) → desk_names_at k document ≡ Ok names → All (λ name. is_desk_name name ≡ true) names
 unfolding desk_names_at
 names_are k document names e =
-    let items = steps (list_at k 32 document) (λ items. each_item (and_desk_name k) [] items) names e in
+    let items = steps (list_at k 1000 document) (λ items. each_item (and_desk_name k) [] items) names e in
     items_are k [] names items.0 (All-nil (λ name. is_desk_name name ≡ true)) items.2

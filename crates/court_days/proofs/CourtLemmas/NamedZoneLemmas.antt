@@ -7,6 +7,7 @@ use Rattle.court_days.specs.Court.{CourtFile, CourtView, IsSameCourt, court_in, 
 use Rattle.court_file_text.specs.Words.{◌>>=◌, names_at, no_period_names, text_at, toml_of}
 use Rattle.court_clock.specs.Words.{TextsNameClocks, Zone, zone_of_text, zone_view}
 use Rattle.court_days.specs.Days.{DaysView}
+use Rattle.court_days.specs.Limits.{office_limits}
 
 pub record IsNamed (zone : Zone) : Type 0 where
   pub text : List ℕ
@@ -25,7 +26,7 @@ read_zone members zone e = by (text_at key.Zone members) e
     by (Err fault) e = absurd (cc e)
 
 abbrev court : Zone → ℕ × ℕ → DaysView → List (List ℕ) → List (List ℕ) → CourtFile
-court zone hours days judges rooms = record { zone = zone; opens = hours.0; closes = hours.1; efiling_until = None; days = days; judges = judges; rooms = rooms; periods = no_period_names }
+court zone hours days judges rooms = record { zone = zone; opens = hours.0; closes = hours.1; efiling_until = None; days = days; judges = judges; rooms = rooms; periods = no_period_names; limits = office_limits }
 
 read_court : (members : _) (file : CourtFile) → court_of members ≡ Ok file → IsNamed file.zone
 unfolding court_of
@@ -67,4 +68,5 @@ same_court clocks bytes file said a b one other =
       judges = ap (λ f. f.judges) same;
       rooms = ap (λ f. f.rooms) same;
       periods = ap (λ f. f.periods) same;
+      limits = ap (λ f. f.limits) same;
     }

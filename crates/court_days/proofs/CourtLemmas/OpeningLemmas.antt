@@ -7,6 +7,7 @@ use Rattle.court_days.specs.Court.{CourtFile, court_in, court_of, days_at, hours
 use Rattle.court_file_text.specs.Words.{◌>>=◌, date_at, must, names_at, no_period_names, toml_of}
 use Rattle.court_days.specs.Court.Reading.{dates_at}
 use Rattle.court_days.specs.Days.{DaysView}
+use Rattle.court_days.specs.Limits.{office_limits}
 
 -- a reading in steps succeeds where its first step gives something and the rest succeeds with that
 pub steps : {A B : Type 0} (r : Result A CourtFault) (more : A → Result B CourtFault) (y : B) → (r >>= more) ≡ Ok y → (x : A) × (r ≡ Ok x) × (more x ≡ Ok y)
@@ -33,7 +34,7 @@ read_court members file e =
     let days = steps (days_at members) _ file hours.2 in
     let judges = steps (names_at key.Judges members) _ file days.2 in
     let rooms = steps (names_at key.Rooms members) _ file judges.2 in
-    let read : CourtFile = record { zone = zone.0; opens = hours.0.0; closes = hours.0.1; efiling_until = None; days = days.0; judges = judges.0; rooms = rooms.0; periods = no_period_names } in
+    let read : CourtFile = record { zone = zone.0; opens = hours.0.0; closes = hours.0.1; efiling_until = None; days = days.0; judges = judges.0; rooms = rooms.0; periods = no_period_names; limits = office_limits } in
     let same : read ≡ file = cc rooms.2 in
     sym (ap (λ (f : CourtFile). f.days.outages) same) ∙ read_days members days.0 days.1
 

@@ -1,6 +1,6 @@
 //! A command, applied to a docket in place.
 
-ghost use Rattle.std.specs.Prelude.{◌≡◌, true, None, set, get_or, IfOk, IfErr, IfSome, OnOk, OnErr};
+ghost use Rattle.std.specs.Prelude.{◌≡◌, ◌≤◌, true, None, Some, IfOk, IfErr, IfSome, OnOk, OnErr};
 ghost use Rattle.docket_rows.specs.Words.{refusal, answered, part_value};
 ghost use Rattle.docket_rows.specs.declared.part.PartId.{PartId};
 
@@ -14,8 +14,8 @@ use std::alloc::{AllocError, Global};
 impl Holdings {
     ghost use Rattle.docket_core.specs.Docket.{parts_held};
     ghost use Rattle.docket_decisions.specs.Words.{CanChangeRecord, takes_memory};
-    ghost use Rattle.docket_rows.specs.Words.{part_after, case_after, judge_change, room_change};
-    ghost use Rattle.docket_core.specs.Inside.Changes.{IsAfter, rebooked_docket};
+    ghost use Rattle.docket_rows.specs.Words.{case_of, part_after, judge_change, room_change};
+    ghost use Rattle.docket_core.specs.Inside.Changes.{IsAfter, IsChangedAt, rebooked_docket};
     ghost use Rattle.docket_core.specs.Inside.Rebooking.{CanChangeAll};
 
     /// Decides the command on the docket as it is, and changes the docket in place where the command isn't refused. A
@@ -98,11 +98,14 @@ impl Holdings {
         number: u32,
         command: &Command,
     ) -> Result<(), AllocError>
-        requires { IfSome ((parts_held self.old).case number) (CanChangeRecord command.now) }
-        ensures ok { OnOk result (self.new ≡ record self.old { cases = set self.old.cases number (case_after command.now (get_or self.old.cases number None)) }) }
+        requires can { IfSome ((parts_held self.old).case number) (CanChangeRecord command.now) }
+        requires about { Some number ≡ case_of command.now }
+        requires within { number ≤ self.old.setup.limits.cases }
+        ensures same { self.new ≡ record self.old { cases = self.new.cases } }
+        ensures ok { OnOk result (IsChangedAt number command.now self.old.cases self.new.cases) }
         ensures err { OnErr result (self.new ≡ self.old) }
         ensures memory { OnErr result (takes_memory None command.now ≡ true) }
     {
-        cases::change(alloc, &mut self.cases, number, command)
+        cases::open_or_change(alloc, &mut self.cases, number, command)
     }
 }

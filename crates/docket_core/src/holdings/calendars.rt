@@ -47,12 +47,12 @@ fn closed(opened: OpenCalendar, change: &CalendarChange, is_made: bool) -> Calen
 fn rebook_rooms(
     alloc: Global,
     rebooking: &Rebooking,
-    number: u8,
+    number: u16,
     rooms: &mut [Calendar],
     cases: &mut [Option<CaseRecord>],
     command: &Command,
 ) -> Result<(), AllocError>
-    requires numbers { number + length rooms.old ≤ 32 }
+    requires numbers { number + length rooms.old ≤ 1000 }
     requires can { CanChangeAll number (room_change rebooking.now) rooms.old }
     requires case { IfSome (get_or cases.old rebooking.now.case None) (CanChangeRecord command.now) }
     ensures ok { OnOk result ((rooms.new ≡ calendars_after number (room_change rebooking.now) rooms.old) × (cases.new ≡ set cases.old rebooking.now.case (case_after command.now (get_or cases.old rebooking.now.case None)))) }
@@ -76,14 +76,14 @@ fn rebook_rooms(
 pub(crate) fn rebook(
     alloc: Global,
     rebooking: &Rebooking,
-    number: u8,
+    number: u16,
     judges: &mut [Calendar],
     rooms: &mut [Calendar],
     cases: &mut [Option<CaseRecord>],
     command: &Command,
 ) -> Result<(), AllocError>
-    requires numbers { number + length judges.old ≤ 32 }
-    requires rooms { length rooms.old ≤ 32 }
+    requires numbers { number + length judges.old ≤ 1000 }
+    requires rooms { length rooms.old ≤ 1000 }
     requires can { CanChangeAll number (judge_change rebooking.now) judges.old }
     requires can_rooms { CanChangeAll 0 (room_change rebooking.now) rooms.old }
     requires case { IfSome (get_or cases.old rebooking.now.case None) (CanChangeRecord command.now) }

@@ -65,7 +65,7 @@ pub(crate) fn judge_written(
     alloc: Global,
     seen: &Seen<'_>,
     command: &Command,
-    judge: u8,
+    judge: u16,
 ) -> Result<Option<SharedCalendar>, AllocError>
     requires { CanRebook (parts_read seen.now.rules.now seen.now.reads.now) command.now }
     ensures { IfOk result (λ c. c ≡ judge_written (parts_read seen.now.rules.now seen.now.reads.now) command.now judge) }
@@ -85,7 +85,7 @@ pub(crate) fn room_written(
     alloc: Global,
     seen: &Seen<'_>,
     command: &Command,
-    room: u8,
+    room: u16,
 ) -> Result<Option<SharedCalendar>, AllocError>
     requires { CanRebook (parts_read seen.now.rules.now seen.now.reads.now) command.now }
     ensures { IfOk result (λ c. c ≡ room_written (parts_read seen.now.rules.now seen.now.reads.now) command.now room) }

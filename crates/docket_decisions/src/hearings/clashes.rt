@@ -20,7 +20,7 @@ pub(crate) struct Span {
 pub(crate) fn judge_clash<S: Sight>(
     sight: &S,
     except: Option<(u32, u32)>,
-    judges: &[u8],
+    judges: &[u16],
     span: &Span,
 ) -> Option<Booking>
     requires some_slot { 1 ≤ span.now.count }
@@ -43,7 +43,7 @@ pub(crate) fn judge_clash<S: Sight>(
 pub(crate) fn room_clash<S: Sight>(
     sight: &S,
     except: Option<(u32, u32)>,
-    room: u8,
+    room: u16,
     span: &Span,
 ) -> Option<Booking>
     requires some_slot { 1 ≤ span.now.count }

@@ -6,7 +6,7 @@ ghost use Rattle.docket_rows.specs.Words.{sits, has_judges, is_distinct, is_pane
 use crate::rules::DocketRules;
 
 /// Whether the judge is one of these.
-pub fn sits(judge: u8, panel: &[u8]) -> bool
+pub fn sits(judge: u16, panel: &[u16]) -> bool
     ensures { result ≡ sits judge panel.now }
 {
     match panel {
@@ -16,7 +16,7 @@ pub fn sits(judge: u8, panel: &[u8]) -> bool
 }
 
 /// Whether every judge of the panel is one of the court's.
-pub(crate) fn has_judges(rules: &DocketRules, panel: &[u8]) -> bool
+pub(crate) fn has_judges(rules: &DocketRules, panel: &[u16]) -> bool
     ensures { result ≡ has_judges rules.now panel.now }
 {
     match panel {
@@ -26,7 +26,7 @@ pub(crate) fn has_judges(rules: &DocketRules, panel: &[u8]) -> bool
 }
 
 /// Whether no judge is named twice.
-fn is_distinct(panel: &[u8]) -> bool
+fn is_distinct(panel: &[u16]) -> bool
     ensures { result ≡ is_distinct panel.now }
 {
     match panel {
@@ -36,7 +36,7 @@ fn is_distinct(panel: &[u8]) -> bool
 }
 
 /// Whether these are one to three judges, none of them twice.
-pub(crate) fn is_panel(panel: &[u8]) -> bool
+pub(crate) fn is_panel(panel: &[u16]) -> bool
     ensures { result ≡ is_panel panel.now }
 {
     1 <= panel.len() && panel.len() <= 3 && is_distinct(panel)

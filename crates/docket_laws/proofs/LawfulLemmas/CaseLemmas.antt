@@ -14,16 +14,16 @@ use Rattle.docket_laws.proofs.LawfulLemmas.SeenLemmas.{closed_in_rows}
 is_case-sym : (case : ℕ) (a b : DocketedCase) → b.case ≡ case → is_case case a ≡ false → is_case a.case b ≡ false
 is_case-sym case a b same h = grind (arith, nat_tests)
 
-pub sound_open_case : (setup : CourtSetup) (rows : Rows) (case : ℕ) (filed : ℤ) → AreSound setup rows → open_case_refusal (parts_of rows) case filed ≡ None → AreSound setup (rows_after rows (OpenCase case filed))
+pub sound_open_case : (setup : CourtSetup) (rows : Rows) (case : ℕ) (filed : ℤ) → AreSound setup rows → open_case_refusal setup (parts_of rows) case filed ≡ None → AreSound setup (rows_after rows (OpenCase case filed))
 unfolding open_case_refusal
 sound_open_case setup rows case filed s h =
-    let n = none_of (open_case_checks (parts_of rows) case filed) h in
+    let n = none_of (open_case_checks setup (parts_of rows) case filed) h in
     let closed = closed_in_rows rows case (when-None _ _ n.1.1.0) in
     let c : DocketedCase = record { case = case; filed = filed } in
     record {
       first_day = s.first_day;
       last_day = s.last_day;
-      case_numbers = All-push (λ (x : DocketedCase). is_case_number x.case ≡ true) rows.cases c s.case_numbers (when-not-None _ _ n.0);
+      case_numbers = All-push (λ (x : DocketedCase). is_case_number setup x.case ≡ true) rows.cases c s.case_numbers (when-not-None _ _ n.0);
       case_once = all_pairs_push (λ (a b : DocketedCase). is_case a.case b ≡ false) rows.cases c s.case_once (λ k d within. is_case-sym case (get_or rows.cases k d) c refl (closed k d within));
       deadlines_of_cases = All-weaker (λ (d : DocketedDeadline). IsSome (find (is_case d.case) rows.cases)) _ (λ d some. found_in_more (is_case d.case) rows.cases (c ∷ []) some) rows.deadlines s.deadlines_of_cases;
       deadlines_numbered = s.deadlines_numbered;

@@ -24,7 +24,7 @@ pub sound_start : (setup : CourtSetup) (rows : Rows) (case : ℕ) (period : Peri
 unfolding start_deadline_refusal
 sound_start setup rows case period event second service s h =
     let n = none_of (start_deadline_checks setup (parts_of rows) case period event second service) h in
-    let opened = is_open_of rows case (when-not-None _ _ n.0) in
+    let opened = is_open_of setup rows case (when-not-None _ _ n.0) in
     let d : DocketedDeadline = record { case = case; number = next_deadline (parts_of rows) case; row = started period event second service } in
     record {
       first_day = s.first_day;

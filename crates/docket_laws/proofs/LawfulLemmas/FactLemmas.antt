@@ -16,21 +16,21 @@ use Rattle.docket_laws.proofs.LawfulLemmas.SeenLemmas.{IsOpen, is_open_of}
 fact_open : (setup : CourtSetup) (rows : Rows) (case : ℕ) (fact : Fact) → refusal setup (parts_of rows) (command.Fact case fact) ≡ None → IsOpen rows case
 unfolding end_refusal resume_refusal close_refusal reopen_refusal rule_refusal assign_refusal title_refusal label_refusal
 fact_open setup rows case (Ended deadline why dated) h =
-    is_open_of rows case (when-not-None _ _ (none_of (end_checks (parts_of rows) case deadline why dated) h).0)
+    is_open_of setup rows case (when-not-None _ _ (none_of (end_checks setup (parts_of rows) case deadline why dated) h).0)
 fact_open setup rows case (Resumed deadline day dated) h =
-    is_open_of rows case (when-not-None _ _ (none_of (resume_checks setup (parts_of rows) case deadline day dated) h).0)
+    is_open_of setup rows case (when-not-None _ _ (none_of (resume_checks setup (parts_of rows) case deadline day dated) h).0)
 fact_open setup rows case (Closed why dated) h =
-    is_open_of rows case (when-not-None _ _ (none_of (close_checks (parts_of rows) case dated) h).0)
+    is_open_of setup rows case (when-not-None _ _ (none_of (close_checks setup (parts_of rows) case dated) h).0)
 fact_open setup rows case (Reopened dated) h =
-    is_open_of rows case (when-not-None _ _ (none_of (reopen_checks (parts_of rows) case dated) h).0)
+    is_open_of setup rows case (when-not-None _ _ (none_of (reopen_checks setup (parts_of rows) case dated) h).0)
 fact_open setup rows case (Ruled motion how dated) h =
-    is_open_of rows case (when-not-None _ _ (none_of (rule_checks (parts_of rows) case motion dated) h).0)
+    is_open_of setup rows case (when-not-None _ _ (none_of (rule_checks setup (parts_of rows) case motion dated) h).0)
 fact_open setup rows case (Assigned judge referred dated) h =
-    is_open_of rows case (when-not-None _ _ (none_of (assign_checks setup (parts_of rows) case judge referred dated) h).0)
+    is_open_of setup rows case (when-not-None _ _ (none_of (assign_checks setup (parts_of rows) case judge referred dated) h).0)
 fact_open setup rows case Titled h =
-    is_open_of rows case (when-not-None _ _ (none_of (title_checks (parts_of rows) case) h).0)
+    is_open_of setup rows case (when-not-None _ _ (none_of (title_checks setup (parts_of rows) case) h).0)
 fact_open setup rows case (Labelled counted number) h =
-    is_open_of rows case (when-not-None _ _ (none_of (label_checks (parts_of rows) case counted number) h).0)
+    is_open_of setup rows case (when-not-None _ _ (none_of (label_checks setup (parts_of rows) case counted number) h).0)
 
 -- what holds of all facts, and of one more that is kept or isn't
 all_with_kept : (P : DocketedFact → Type 0) (facts : List DocketedFact) (f : DocketedFact) (kept : Bool) → All P facts → P f → All P (facts ++ cond kept (f ∷ []) [])

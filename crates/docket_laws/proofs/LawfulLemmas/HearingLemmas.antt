@@ -82,7 +82,7 @@ some_of (Some x) h = refl
 placeable : (setup : CourtSetup) (rows : Rows) (s : Setting) (set : Option Refusal) (except : Option (ℕ × ℕ)) → NoneOf (hearing_checks setup (parts_of rows) s set except) → CanSet (parts_of rows) s → IsPlaceable setup rows s
 unfolding parts_of
 placeable setup rows s set except (no_case, (closed, (no_motion, (no_judge, (no_room, (bad_panel, (bad_day, (bad_length, (already, (no_court_day, (outside_hours, (beyond, (short, clashes))))))))))))) free =
-    let opened = is_open_of rows s.case (when-not-None _ _ no_case) in
+    let opened = is_open_of setup rows s.case (when-not-None _ _ no_case) in
     let found = is_found_of rows s.case s.motion opened.stands (some_of _ (when-None _ _ no_motion)) in
     let m = motion_shown rows found.motion in
     let last = has_last_service rows.days s.day (motion_in (parts_of rows) s.case s.motion) m found.seen (when-None _ _ beyond) in
@@ -186,7 +186,7 @@ pub none_older : (setup : CourtSetup) (rows : Rows) (s : Setting) → book_refus
 unfolding book_refusal
 none_older setup rows s h =
     let n = none_of (book_checks setup (parts_of rows) s) h in
-    let opened = is_open_of rows s.case (when-not-None _ _ n.0) in
+    let opened = is_open_of setup rows s.case (when-not-None _ _ n.0) in
     let found = is_found_of rows s.case s.motion opened.stands (some_of _ (when-None _ _ n.1.1.0)) in
     let unset = unset_in_rows rows s.case s.motion found (when-None _ _ n.1.1.1.1.1.1.1.1.0) in
     let all = filter_all (λ x. not (is_hearing s.case s.motion x)) rows.hearings (All-weaker (λ x. is_hearing s.case s.motion x ≡ false) _ (λ x other. not_from_false _ other) rows.hearings unset) in

@@ -21,11 +21,11 @@ next_in rows case c opened same =
     ap (λ n. n + 1) (count_motions_in rows case opened.stands)
     ∙ ap (λ k. length (filter (is_motion_in k) rows.motions) + 1) here
 
-pub sound_motion : (setup : CourtSetup) (rows : Rows) (case : ℕ) (served : ℤ) (need : Need) → AreSound setup rows → motion_refusal (parts_of rows) case served need ≡ None → AreSound setup (rows_after rows (Motion case served need))
+pub sound_motion : (setup : CourtSetup) (rows : Rows) (case : ℕ) (served : ℤ) (need : Need) → AreSound setup rows → motion_refusal setup (parts_of rows) case served need ≡ None → AreSound setup (rows_after rows (Motion case served need))
 unfolding motion_refusal
 sound_motion setup rows case served need s h =
-    let n = none_of (motion_checks (parts_of rows) case served need) h in
-    let opened = is_open_of rows case (when-not-None _ _ n.0) in
+    let n = none_of (motion_checks setup (parts_of rows) case served need) h in
+    let opened = is_open_of setup rows case (when-not-None _ _ n.0) in
     let m : DocketedMotion = record { case = case; number = next_motion (parts_of rows) case; served = served; need = need } in
     record {
       first_day = s.first_day;
@@ -65,11 +65,11 @@ not_set_yet setup rows case s opened h some of_case of_motion =
     omega (arith, number, within, next, of_motion)
 
 -- a docket stays lawful, as the motion has no hearing yet
-pub lawful_motion : (setup : CourtSetup) (rows : Rows) (case : ℕ) (served : ℤ) (need : Need) → AreSound setup rows → AreLawful setup rows → motion_refusal (parts_of rows) case served need ≡ None → AreLawful setup (rows_after rows (Motion case served need))
+pub lawful_motion : (setup : CourtSetup) (rows : Rows) (case : ℕ) (served : ℤ) (need : Need) → AreSound setup rows → AreLawful setup rows → motion_refusal setup (parts_of rows) case served need ≡ None → AreLawful setup (rows_after rows (Motion case served need))
 unfolding motion_refusal
 lawful_motion setup rows case served need s l h =
-    let n = none_of (motion_checks (parts_of rows) case served need) h in
-    let opened = is_open_of rows case (when-not-None _ _ n.0) in
+    let n = none_of (motion_checks setup (parts_of rows) case served need) h in
+    let opened = is_open_of setup rows case (when-not-None _ _ n.0) in
     let m : DocketedMotion = record { case = case; number = next_motion (parts_of rows) case; served = served; need = need } in
     record {
       apart = l.apart;

@@ -6,7 +6,7 @@ use Rattle.std.proofs.lemmas.Bool.{and_parts}
 use Rattle.std.proofs.lemmas.Bool.Decides.{nat_tests}
 use Rattle.std.proofs.lemmas.List.{length-map}
 use Rattle.hearing_slots.proofs.CallerLemmas.{find-None}
-use Rattle.docket_rows.specs.Words.{Rows, DocketedCase, DocketedMotion, DocketedHearing, CaseRecordView, NumberedMotion, parts_of, case_shown, motion_shown, deadline_shown, hearing_of, is_case, is_deadline_in, is_motion_in, is_motion, is_hearing, is_case_number, has_case, deadlines_in, motions_in, motion_in, hearing_in}
+use Rattle.docket_rows.specs.Words.{CourtSetup, Rows, DocketedCase, DocketedMotion, DocketedHearing, CaseRecordView, NumberedMotion, parts_of, case_shown, motion_shown, deadline_shown, hearing_of, is_case, is_deadline_in, is_motion_in, is_motion, is_hearing, is_case_number, has_case, deadlines_in, motions_in, motion_in, hearing_in}
 use Rattle.docket_laws.proofs.LawfulLemmas.ListLemmas.{found_of, found_stands, find-map-filter}
 
 -- a row that is found is that of its case, of its motion, or of the hearing of its motion
@@ -33,13 +33,12 @@ closed_in_rows rows case h = find-None (is_case case) rows.cases (of_shown (find
 
 -- an open case, as a command tests it
 pub record IsOpen (rows : Rows) (case : ℕ) : Type 0 where
-  pub numbered : is_case_number case ≡ true
   pub stands : IsSome (find (is_case case) rows.cases)
 
-pub is_open_of : (rows : Rows) (case : ℕ) → has_case (parts_of rows) case ≡ true → IsOpen rows case
-is_open_of rows case h =
-    let both = and_parts (is_case_number case) (is_some ((parts_of rows).case case)) h in
-    record { numbered = both.0; stands = open_in_rows rows case both.1 }
+pub is_open_of : (setup : CourtSetup) (rows : Rows) (case : ℕ) → has_case setup (parts_of rows) case ≡ true → IsOpen rows case
+is_open_of setup rows case h =
+    let both = and_parts (is_case_number setup case) (is_some ((parts_of rows).case case)) h in
+    record { stands = open_in_rows rows case both.1 }
 
 -- what the parts show of an open case
 pub shown_in_rows : (rows : Rows) (case : ℕ) → IsSome (find (is_case case) rows.cases) → (c : DocketedCase) × (c.case ≡ case) × ((parts_of rows).case case ≡ Some (case_shown rows c))

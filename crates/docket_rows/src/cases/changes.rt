@@ -18,7 +18,7 @@ use rule6::Filing;
 use std::alloc::{AllocError, Global};
 
 // The types inside a fact. The checker finds them only where they have names, so a function that keeps one has a variable of this type.
-type FactTypes = Option<(Option<Day>, Option<u8>)>;
+type FactTypes = Option<(Option<Day>, Option<u16>)>;
 
 impl CaseRecord {
     /// Adds a deadline. An error leaves the case as it was.

@@ -13,7 +13,7 @@ pub(crate) type CasesAssigned = HashMap<u32, bool>;
 /// The cases that the changes assigned or referred to the judge.
 pub(crate) fn cases_assigned(
     alloc: Global,
-    judge: Option<u8>,
+    judge: Option<u16>,
     changes: &[RowChange],
 ) -> Result<CasesAssigned, AllocError>
     ensures { IfOk result (NotesAssigned judge changes.now) }
@@ -28,7 +28,7 @@ pub(crate) fn cases_assigned(
 /// Notes the case of one change more, if it is assigned or referred to the judge.
 fn note_case(
     cases: &mut CasesAssigned,
-    judge: Option<u8>,
+    judge: Option<u16>,
     change: &Change,
 ) -> Result<(), AllocError>
     ensures { OnOk result ((case : ℕ) → is_noted case cases.new ≡ (if assigns judge case change.now then true else is_noted case cases.old)) }
@@ -40,7 +40,7 @@ fn note_case(
 }
 
 /// The case that a change assigns or refers to the judge, if it does.
-fn case_assigned(judge: Option<u8>, change: &Change) -> Option<u32>
+fn case_assigned(judge: Option<u16>, change: &Change) -> Option<u32>
     ensures { result ≡ case_assigned judge change.now }
 {
     match change {
@@ -56,7 +56,7 @@ fn case_assigned(judge: Option<u8>, change: &Change) -> Option<u32>
 }
 
 /// Whether the judge is the one to whom a case is assigned, or the one to whom it is referred.
-fn is_given_to(judge: Option<u8>, to: u8, referred: Option<u8>) -> bool
+fn is_given_to(judge: Option<u16>, to: u16, referred: Option<u16>) -> bool
     ensures { result ≡ is_given_to judge to referred }
 {
     let Some(judge) = judge else {

@@ -27,7 +27,7 @@ pub enum Change {
     /// The hearing of a motion.
     Hearing(HearingChange),
     /// The judges of the case of that number: it was assigned to the first, and may be referred to the second.
-    Judges(u32, u8, Option<u8>),
+    Judges(u32, u16, Option<u16>),
 }
 
 /// A change, with the row that made it.

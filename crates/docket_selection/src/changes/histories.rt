@@ -23,7 +23,7 @@ type Noted = HashMap<(u32, u32), HearingHistory>;
 /// case that is known; which cases were assigned or referred to that judge; and which row changed each case last.
 #[derive(Debug, Drop)]
 pub struct HearingHistories {
-    judge: Option<u8>,
+    judge: Option<u16>,
     changes: Vec<RowChange>,
     noted: Noted,
     motions: CaseMotions,
@@ -50,7 +50,7 @@ impl HearingHistories {
     /// The histories by these changes, as that judge saw them; with no judge, as all did. `Err` says that memory ran out.
     pub fn of_changes(
         alloc: Global,
-        judge: Option<u8>,
+        judge: Option<u16>,
         changes: Vec<RowChange>,
     ) -> Result<HearingHistories, AllocError>
         ensures { IfOk result (λ histories. histories ≡ record { judge = judge; changes = changes.items }) }
@@ -72,7 +72,7 @@ impl HearingHistories {
     }
 
     /// The judge who saw them so; none: all did.
-    pub fn judge(&self) -> Option<u8>
+    pub fn judge(&self) -> Option<u16>
         ensures { result ≡ self.now.judge }
     {
         self.judge
@@ -110,7 +110,7 @@ impl HearingHistories {
 }
 
 /// The history of each hearing, after the changes in their order.
-fn noted_by(alloc: Global, judge: Option<u8>, changes: &[RowChange]) -> Result<Noted, AllocError>
+fn noted_by(alloc: Global, judge: Option<u16>, changes: &[RowChange]) -> Result<Noted, AllocError>
     ensures { IfOk result (NotesHistories judge changes.now) }
 {
     let mut histories = HashMap::new(alloc);
@@ -121,7 +121,7 @@ fn noted_by(alloc: Global, judge: Option<u8>, changes: &[RowChange]) -> Result<N
 }
 
 /// Notes one change more.
-fn note(histories: &mut Noted, judge: Option<u8>, change: &Change) -> Result<(), AllocError>
+fn note(histories: &mut Noted, judge: Option<u16>, change: &Change) -> Result<(), AllocError>
     ensures { OnOk result ((case motion : ℕ) → noted case motion histories.new ≡ follow judge case motion (noted case motion histories.old) change.now) }
 {
     match change {
@@ -133,7 +133,7 @@ fn note(histories: &mut Noted, judge: Option<u8>, change: &Change) -> Result<(),
 /// Notes a change of a hearing.
 fn note_hearing(
     histories: &mut Noted,
-    judge: Option<u8>,
+    judge: Option<u16>,
     change: &HearingChange,
 ) -> Result<(), AllocError>
     ensures { OnOk result ((case motion : ℕ) → noted case motion histories.new ≡ followed judge case motion (noted case motion histories.old) change.now) }

@@ -16,7 +16,7 @@ pub struct HearingHistory {
 
 /// The hearing after a change that sets it, or takes it off.
 pub(crate) fn changed_to(
-    judge: Option<u8>,
+    judge: Option<u16>,
     before: Option<HearingHistory>,
     hearing: Option<Hearing>,
 ) -> Option<HearingHistory>
@@ -37,7 +37,7 @@ pub(crate) fn changed_to(
 }
 
 /// Whether the judge is in the panel of a hearing; each hearing is before any judge.
-fn is_before(judge: Option<u8>, hearing: &Hearing) -> bool
+fn is_before(judge: Option<u16>, hearing: &Hearing) -> bool
     ensures { result ≡ is_before judge hearing.now }
 {
     match judge {

@@ -10,4 +10,4 @@ use Rattle.reason_refusals.specs.Commands.Entries.{deadline_at, motion_at}
 
 unfoldable pub why_refused : CourtView → Parts → Command → (called : List ℕ) → Refusal → List ℕ
 why_refused court parts command called refusal =
-    refusal_lines parts.days court.clock command (deadline_at parts (deadline_asked command)) called (motion_at (setup_of court) parts (motion_of_refusal command refusal)) refusal
+    refusal_lines parts.days court.clock court.limits command (deadline_at parts (deadline_asked command)) called (motion_at (setup_of court) parts (motion_of_refusal command refusal)) refusal

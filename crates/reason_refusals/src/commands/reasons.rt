@@ -34,11 +34,13 @@ pub fn push_why_refused(
     let _types: MotionTypes = None;
     let row = deadline_at(docket, deadline_asked(command));
     let motion = motion_at(alloc, docket, motion_of_refusal(command, refusal))?;
+    let limits = court.limits();
     push_refusal(
         alloc,
         text,
         docket.days(),
         court.clock(),
+        &limits,
         command,
         row,
         called,

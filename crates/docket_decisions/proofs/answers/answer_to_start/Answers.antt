@@ -5,6 +5,3 @@ pub shown_at_start-shown-requires : goal.shown_at_start-shown-requires
 shown_at_start-shown-requires g c =
     let made = can_start _ _ _ _ _ _ _ c.requires in
     record { suits = made.suits; length = made.ranged }
-
-pub next_deadline-requires : goal.next_deadline-requires
-next_deadline-requires g c = (can_start _ _ _ _ _ _ _ c.requires).room

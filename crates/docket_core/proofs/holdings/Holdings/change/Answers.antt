@@ -2,7 +2,7 @@ use Rattle.std.proofs.Common.{option_and_then, ap, sym, subst, ◌∙◌}
 use Rattle.std.proofs.lemmas.Result.{on_ok_weaker}
 use Rattle.docket_core.specs.Inside.Changes.{IsAfter}
 use Rattle.docket_core.specs.Docket.{DocketView, HasPlaces, parts_held}
-use Rattle.docket_core.proofs.ApplyLemmas.{hearing_changed, only_case_changed}
+use Rattle.docket_core.proofs.ApplyLemmas.{hearing_changed, number_within, only_case_changed}
 use Rattle.docket_core.proofs.CaseLemmas.{can_change_record}
 use Rattle.docket_core.proofs.RebookingLemmas.{can_rebook, rebooked_case, can_change_all, judge_can_change, room_can_change}
 use Rattle.docket_core.proofs.holdings.Holdings.change.Goals as goal
@@ -13,7 +13,8 @@ rebooking_of-requires c = can_rebook _ _ _ c.requires
 pub rebook-requires-clause-case : goal.rebook-requires-clause-case
 rebook-requires-clause-case c =
     let d = c.args.self.now in
-    can_change_record d.setup (parts_held d) c.args.command.now _ c.requires
+    let places = subst (λ (d : DocketView). HasPlaces d.setup d.cases d.judges d.rooms) c.self.view_is c.self.invariant in
+    can_change_record d.setup places.limits (parts_held d) c.args.command.now _ c.requires
     (ap (option_and_then (parts_held d).case) (rebooked_case (parts_held d) c.args.command.now c.in-Some-rebooking_of.rebooking c.in-Some-rebooking_of.ensures))
 
 pub rebook-requires-clause-judges : goal.rebook-requires-clause-judges
@@ -31,14 +32,20 @@ returns-in-Some-rebooking_of-clause-ok c =
     let after = hearing_changed d c.args.command.now c.in-Some-rebooking_of.rebooking c.requires places.of_judges places.of_rooms c.in-Some-rebooking_of.ensures in
     on_ok_weaker c.rebook.result (λ e. subst (λ (n : DocketView). IsAfter d c.args.command.now n) (sym e) after) c.rebook.ensures.ok
 
-pub change_case-requires : goal.change_case-requires
-change_case-requires c =
-    can_change_record c.args.self.now.setup (parts_held c.args.self.now) c.args.command.now _ c.requires
-    (ap (option_and_then (parts_held c.args.self.now).case) (sym c.in-Some-case_of_command.ensures))
+pub change_case-requires-clause-can : goal.change_case-requires-clause-can
+change_case-requires-clause-can c =
+    let d = c.args.self.now in
+    let places = subst (λ (d : DocketView). HasPlaces d.setup d.cases d.judges d.rooms) c.self.view_is c.self.invariant in
+    can_change_record d.setup places.limits (parts_held d) c.args.command.now _ c.requires
+    (ap (option_and_then (parts_held d).case) (sym c.in-Some-case_of_command.ensures))
+
+pub change_case-requires-clause-within : goal.change_case-requires-clause-within
+change_case-requires-clause-within c =
+    let d = c.args.self.now in
+    number_within d.setup (parts_held d) c.args.command.now c.in-Some-case_of_command.number c.requires c.in-Some-case_of_command.ensures
 
 pub returns-in-Some-case_of_command-clause-ok : goal.returns-in-Some-case_of_command-clause-ok
 returns-in-Some-case_of_command-clause-ok c =
     let d = c.args.self.now in
-    let places = subst (λ (d : DocketView). HasPlaces d.setup d.cases d.judges d.rooms) c.self.view_is c.self.invariant in
-    let after = only_case_changed d.setup d c.args.command.now c.in-Some-case_of_command.number c.requires places.of_cases (sym c.in_ok-days.ensures.value ∙ c.in_default.is) (sym c.in_default-rebooking_of.ensures) c.in-Some-case_of_command.ensures in
-    on_ok_weaker c.change_case.result (λ e. subst (λ (n : DocketView). IsAfter d c.args.command.now n) (sym e) after) c.change_case.ensures.ok
+    on_ok_weaker c.change_case.result (λ changed. subst (λ (n : DocketView). IsAfter d c.args.command.now n) (sym c.change_case.ensures.same)
+    (only_case_changed d c.args.command.now c.in-Some-case_of_command.number _ (sym c.in_ok-days.ensures.value ∙ c.in_default.is) (sym c.in_default-rebooking_of.ensures) c.in-Some-case_of_command.ensures changed)) c.change_case.ensures.ok
