@@ -8,8 +8,8 @@ use Rattle.docket.specs.Reports.{past_of}
 use Rattle.docket.proofs.ReportLemmas.{found_of_entries}
 use Rattle.docket.proofs.reports.report_on.Goals as goal
 
-pub report_of_docket-found-requires : goal.report_of_docket-found-requires
-report_of_docket-found-requires c = (c.docket.ensures c.args.docketed.now.standing (batch_of c.args.entries.now) c.requires.docketed.stands.at).setup_is
+pub report_of_docket-requires : goal.report_of_docket-requires
+report_of_docket-requires c = (c.docket.ensures c.args.docketed.now.standing (batch_of c.args.entries.now) c.requires.docketed.stands.at).setup_is
 
 pub returns-in-Some : goal.returns-in-Some
 returns-in-Some c =
