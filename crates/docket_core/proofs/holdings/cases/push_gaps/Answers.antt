@@ -1,7 +1,11 @@
-use Rattle.std.proofs.Common.{◌≡◌, ◌++◌, ◌∷◌, [], List, Option, None, replicate, ap, ◌∙◌, arith}
+use Rattle.std.proofs.Common.{◌≡◌, ◌++◌, ◌∷◌, [], List, Option, None, replicate, refl, ap, sym, ◌∙◌, arith}
+use Rattle.std.proofs.lemmas.List.{append-nil}
 use Rattle.docket_rows.specs.Words.{CaseRecordView}
 use Rattle.docket_core.proofs.CaseLemmas.{one_more_gap}
 use Rattle.docket_core.proofs.holdings.cases.push_gaps.Goals as goal
+
+pub loop-gap-init : goal.loop-gap-init
+loop-gap-init c = record { items = sym (append-nil c.args.cases.now.items); len = omega arith; room = refl }
 
 pub loop-gap-preserved : goal.loop-gap-preserved
 loop-gap-preserved c =
