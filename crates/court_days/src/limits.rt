@@ -1,6 +1,6 @@
 //! How much the docket of a court holds at most.
 
-ghost use Rattle.std.specs.Prelude.{◌≡◌, min};
+ghost use Rattle.std.specs.Prelude.{◌≡◌, ◌≤◌, min};
 ghost use Rattle.court_days.specs.Limits.{AreLimits, desk_limits, least_limits, office_limits};
 
 /// What a docket holds at most.
@@ -57,7 +57,8 @@ pub(crate) fn least_limits(one: Limits, other: Limits) -> Limits
 }
 
 fn fewer(one: u32, other: u32) -> u32
-    ensures { result ≡ min one other }
+    ensures value { result ≡ min one other }
+    ensures within { result ≤ one }
 {
     if one <= other { one } else { other }
 }

@@ -32,10 +32,10 @@ number_within setup parts command n made is =
 
 -- a command that changes no days and no calendar changes its case
 pub only_case_changed : (d : DocketView) (command : Command) (n : ℕ) (cases : List (Option CaseRecordView)) → days_written d.days command ≡ None → rebooking_of (parts_held d) command ≡ None → Some n ≡ case_of command → IsChangedAt n command d.cases cases → IsAfter d command (record d { cases = cases })
-only_case_changed d command n cases days calendars is changed Court = rw days refl
-only_case_changed d command n cases days calendars is changed (Judge j) = rw calendars refl
-only_case_changed d command n cases days calendars is changed (Room k) = rw calendars refl
-only_case_changed d command n cases days calendars is changed (Case i) = rw (sym is) (case_changed_at command d.cases cases n i changed)
+only_case_changed d command n cases days calendars is made Court = rw days refl
+only_case_changed d command n cases days calendars is made (Judge j) = rw calendars refl
+only_case_changed d command n cases days calendars is made (Room k) = rw calendars refl
+only_case_changed d command n cases days calendars is made (Case i) = rw (sym is) (case_changed_at command d.cases cases n i made)
 
 -- Calendars
 

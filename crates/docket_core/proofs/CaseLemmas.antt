@@ -1,5 +1,5 @@
 -- What a command that isn't refused changes in its case.
-use Rattle.std.proofs.Common.{◌≡◌, ℕ, zero, suc, ◌+◌, ◌-◌, ◌<◌, ◌≤◌, ◌==◌, true, List, [], ◌∷◌, ◌++◌, length, get_or, set, replicate, Option, Some, None, IfSome, option_map, option_and_then, unwrap_or, if◌then◌else◌, refl, ap, sym, subst, ◌∙◌, arith, inl, inr}
+use Rattle.std.proofs.Common.{◌≡◌, ℕ, zero, suc, ◌+◌, ◌-◌, ◌<◌, ◌≤◌, ◌==◌, nat_lt, true, List, [], ◌∷◌, ◌++◌, length, get_or, set, replicate, Option, Some, None, IfSome, option_map, option_and_then, unwrap_or, if◌then◌else◌, refl, ap, sym, subst, ◌∙◌, arith, inl, inr}
 use Rattle.std.proofs.lemmas.Bool.{cases_Bool}
 use Rattle.std.proofs.lemmas.Bool.Decides.{nat_tests}
 use Rattle.std.proofs.lemmas.List.{append_assoc, get_or_past, get_or-set_other, get_or-set_same, length-append, length-replicate}
@@ -73,10 +73,10 @@ none_opened command cases n beyond none = record {
 
 -- places for cases that aren't open, one after another
 pub one_more_gap : (cases : List (Option CaseRecordView)) (n : ℕ) → (cases ++ replicate n None) ++ None ∷ [] ≡ cases ++ replicate (n + 1) None
-one_more_gap cases n = append_assoc cases (replicate n None) (None ∷ []) ∙ ap (λ gaps. cases ++ gaps) (sym (replicate_next n None))
+one_more_gap cases n = append_assoc cases (replicate n None) (None ∷ []) ∙ ap (λ (gaps : List (Option CaseRecordView)). cases ++ gaps) (sym (replicate_next n None))
 
 nowhere : {X : Type 0} (i : ℕ) (d : X) → get_or [] i d ≡ d
-nowhere i d = get_or_past [] i d (omega arith)
+nowhere i d = refl
 
 -- such places change no case, and a case after them none but its own
 gaps_alone : {X : Type 0} (count i : ℕ) (d : X) → get_or (replicate count d) i d ≡ d
@@ -95,21 +95,26 @@ end_beside [] x d (suc i) other = nowhere i d ∙ sym (nowhere (suc i) d)
 end_beside (y ∷ xs) x d zero other = refl
 end_beside (y ∷ xs) x d (suc i) other = end_beside xs x d i (λ same. other (ap suc same))
 
+-- how many places there are with the missing ones
+long : {X : Type 0} (xs : List X) (n : ℕ) (d : X) → length xs ≤ n → length (xs ++ replicate (n - length xs) d) ≡ n
+long xs n d beyond = omega (arith, length-append xs (replicate (n - length xs) d), length-replicate (n - length xs) d)
+
 -- a case that is opened beyond the end
 pub opened_beyond : (command : Command) (before after : List (Option CaseRecordView)) (n : ℕ) (case : CaseRecordView) → length before ≤ n → Some case ≡ case_after command None → after ≡ before ++ replicate (n - length before) None ++ Some case ∷ [] → IsChangedAt n command before after
 opened_beyond command before after n case beyond opens is =
-    let gaps : List (Option CaseRecordView) = replicate (n - length before) None in
-    let places : List (Option CaseRecordView) = before ++ gaps in
-    let gaps_are : length gaps ≡ n - length before = length-replicate (n - length before) None in
-    let long : length places ≡ n = omega (arith, beyond, length-append before gaps, gaps_are) in
+    let places : List (Option CaseRecordView) = before ++ replicate (n - length before) None in
+    let so_long : length places ≡ n = long before n None beyond in
     subst (λ (cases : List (Option CaseRecordView)). IsChangedAt n command before cases) (sym is) (record {
-      here = ap (λ (k : ℕ). get_or (places ++ Some case ∷ []) k None) (sym long) ∙ get_or-append_seam places (Some case) [] None ∙ opens ∙ sym (ap (case_after command) (get_or_past before n None beyond));
-      others = λ i other. end_beside places (Some case) None i (λ same. other (same ∙ long)) ∙ gaps_beside before (n - length before) i None;
+      here = ap (λ (k : ℕ). get_or (places ++ Some case ∷ []) k None) (sym so_long) ∙ (get_or-append_seam places (Some case) [] None ∙ (opens ∙ sym (ap (case_after command) (get_or_past before n None beyond))));
+      others = λ i other. end_beside places (Some case) None i (λ same. other (same ∙ so_long)) ∙ gaps_beside before (n - length before) i None;
     })
 
 -- it takes memory, as there are places for the first 4,096 from the start
 pub far_takes : (command : Command) (n : ℕ) (case : CaseRecordView) → Some n ≡ case_of command → Some case ≡ case_after command None → 4096 < n → takes_memory None command ≡ true
 far_takes (OpenCase number filed) n case is opens far =
     let same : n ≡ number = ap (λ o. unwrap_or o n) is in
-    grind (arith, nat_tests)
-far_takes _ n case is opens far = absurd (cc opens)
+    let takes : nat_lt 4096 number ≡ true = grind (arith, nat_tests) in
+    takes
+far_takes _ n case is opens far =
+    let none : Some case ≡ None = opens in
+    absurd (cc none)

@@ -86,7 +86,7 @@ impl Docket {
         self.holdings.is_open(case)
     }
 
-    /// A number below which each open case is, or at it: who walks over the cases needs go no further. It takes no memory.
+    /// No open case has a greater number: who walks over the cases needs go no further. It takes no memory.
     pub fn last_case(&self) -> u32
         ensures few { result ≤ self.now.setup.limits.cases }
         ensures most { result ≤ 1000000 }

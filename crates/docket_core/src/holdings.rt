@@ -77,7 +77,7 @@ impl Holdings {
         has_case(&self.rules, self, case)
     }
 
-    /// A number below which each open case is, or at it.
+    /// No open case has a greater number.
     pub fn last_case(&self) -> u32
         ensures few { result ≤ self.now.setup.limits.cases }
         ensures most { result ≤ 1000000 }

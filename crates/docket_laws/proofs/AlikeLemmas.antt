@@ -98,32 +98,32 @@ module _ (a b : CourtSetup) (same : IsSameSetup a b) where
 
   start_alike : (parts : Parts) (case : ℕ) (period : _) (event : _) (second : Option ℤ) (service : _) → start_deadline_refusal a parts case period event second service ≡ start_deadline_refusal b parts case period event second service
   unfolding start_deadline_refusal
-  start_alike parts case period event second service = rw (same.limits, end_alike parts (started period event second service)) refl
+  start_alike parts case period event second service = rw (end_alike parts (started period event second service), same.limits) refl
 
   file_act_alike : (parts : Parts) (case deadline : ℕ) (filing : Filing) → file_act_refusal a parts case deadline filing ≡ file_act_refusal b parts case deadline filing
   unfolding file_act_refusal
-  file_act_alike parts case deadline filing = rw (same.limits, beyond_alike parts (deadline_in parts case deadline)) refl
+  file_act_alike parts case deadline filing = rw (beyond_alike parts (deadline_in parts case deadline), same.limits) refl
 
   extend_alike : (parts : Parts) (case deadline : ℕ) (request : Request) → extend_refusal a parts case deadline request ≡ extend_refusal b parts case deadline request
   unfolding extend_refusal
   extend_alike parts case deadline request =
-      rw (same.limits, and_then_alike (λ row. option_map refusal_of (extension_refusal parts.days a.clock row request)) (λ row. option_map refusal_of (extension_refusal parts.days b.clock row request)) (deadline_in parts case deadline) (λ row. ap (option_map refusal_of) (extension_alike a.clock b.clock same.clock parts.days row request))) refl
+      rw (and_then_alike (λ row. option_map refusal_of (extension_refusal parts.days a.clock row request)) (λ row. option_map refusal_of (extension_refusal parts.days b.clock row request)) (deadline_in parts case deadline) (λ row. ap (option_map refusal_of) (extension_alike a.clock b.clock same.clock parts.days row request)), same.limits) refl
 
   resume_alike : (parts : Parts) (case deadline : ℕ) (from : Option ℤ) (dated : ℤ) → resume_refusal a parts case deadline from dated ≡ resume_refusal b parts case deadline from dated
   unfolding resume_refusal
-  resume_alike parts case deadline from dated = rw (same.limits, anew_alike parts from (deadline_in parts case deadline)) refl
+  resume_alike parts case deadline from dated = rw (anew_alike parts from (deadline_in parts case deadline), same.limits) refl
 
   assign_alike : (parts : Parts) (case judge : ℕ) (referred : Option ℕ) (dated : ℤ) → assign_refusal a parts case judge referred dated ≡ assign_refusal b parts case judge referred dated
   unfolding assign_refusal
-  assign_alike parts case judge referred dated = rw (same.limits, same.judges) refl
+  assign_alike parts case judge referred dated = rw (same.judges, same.limits) refl
 
   book_alike : (parts : Parts) (s : Setting) → book_refusal a parts s ≡ book_refusal b parts s
   unfolding book_refusal
-  book_alike parts s = rw (same.limits, same.judges, same.rooms, same.clock.opens, same.clock.closes) refl
+  book_alike parts s = rw (same.judges, same.rooms, same.clock.opens, same.clock.closes, same.limits) refl
 
   move_alike : (parts : Parts) (s : Setting) → move_refusal a parts s ≡ move_refusal b parts s
   unfolding move_refusal
-  move_alike parts s = rw (same.limits, same.judges, same.rooms, same.clock.opens, same.clock.closes) refl
+  move_alike parts s = rw (same.judges, same.rooms, same.clock.opens, same.clock.closes, same.limits) refl
 
   notice_alike : (parts : Parts) (list : HolidayList) (day : ℤ) → notice_lost a parts list day ≡ notice_lost b parts list day
   notice_alike parts Federal day = rw same.judges refl

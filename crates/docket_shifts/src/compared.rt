@@ -37,7 +37,7 @@ impl<'a> Model for Compared<'a> {
 impl<'a> Compared<'a> {
     ghost use Rattle.docket_shifts.specs.Compared.{rows_shown, sheet_in};
 
-    // A number below which each open case is, or at it.
+    // No open case of the docket has a greater number.
     pub(crate) fn last_case(&self) -> u32
         ensures few { result ≤ self.now.docket.setup.limits.cases }
         ensures most { result ≤ 1000000 }

@@ -101,6 +101,7 @@ impl Holdings {
         requires can { IfSome ((parts_held self.old).case number) (CanChangeRecord command.now) }
         requires about { Some number ≡ case_of command.now }
         requires within { number ≤ self.old.setup.limits.cases }
+        ensures setup { self.new.setup ≡ self.old.setup }
         ensures same { self.new ≡ record self.old { cases = self.new.cases } }
         ensures ok { OnOk result (IsChangedAt number command.now self.old.cases self.new.cases) }
         ensures err { OnErr result (self.new ≡ self.old) }

@@ -1,6 +1,6 @@
 //! The cases of a docket, changed in place.
 
-ghost use Rattle.std.specs.Prelude.{◌≡◌, ◌<◌, ◌≤◌, ◌+◌, ◌-◌, ◌++◌, ◌∷◌, [], true, None, Some, length, max, replicate, set, get_or, vec_capacity, IfSome, OnOk, OnErr};
+ghost use Rattle.std.specs.Prelude.{◌≡◌, ◌<◌, ◌≤◌, ◌+◌, ◌-◌, ◌++◌, ◌∷◌, [], true, None, Some, length, max, replicate, set, get_or, vec_len, vec_capacity, IfSome, OnOk, OnErr};
 ghost use Rattle.docket_rows.specs.Words.{case_after, case_of};
 ghost use Rattle.docket_decisions.specs.Words.{CanChangeRecord, takes_memory};
 ghost use Rattle.docket_core.specs.Inside.Changes.{IsChangedAt};
@@ -104,7 +104,7 @@ fn open_beyond(
     let Some(case) = opened(alloc, command) else {
         return Ok(());
     };
-    add_at(cases, number as usize, case)
+    add_at(cases, number, case)
 }
 
 /// The case that the command opens, if it opens one.
@@ -120,29 +120,36 @@ fn opened(alloc: Global, command: &Command) -> Option<CaseRecord>
 /// Adds the case at that place, with places before it for cases that aren't open. An error leaves the cases as they were.
 fn add_at(
     cases: &mut Vec<Option<CaseRecord>>,
-    place: usize,
+    place: u32,
     case: CaseRecord,
 ) -> Result<(), AllocError>
-    requires beyond { length cases.old.items ≤ place }
-    requires fits { place < 4294967296 }
+    requires { length cases.old.items ≤ place }
     ensures ok { OnOk result (cases.new.items ≡ cases.old.items ++ replicate (place - length cases.old.items) None ++ Some case ∷ []) }
     ensures err { OnErr result (cases.new.items ≡ cases.old.items) }
     ensures longer { length cases.old.items ≤ length cases.new.items }
     ensures few { length cases.new.items ≤ place + 1 }
 {
-    let count = place - cases.len();
+    let count = gaps_before(cases, place);
     cases.reserve(count + 1)?;
     push_gaps(cases, count);
     cases.push_reserved(Some(case));
     Ok(())
 }
 
+/// How many places are missing before that place.
+fn gaps_before(cases: &[Option<CaseRecord>], place: u32) -> usize
+    requires { length cases.now ≤ place }
+    ensures value { result ≡ place - length cases.now }
+    ensures few { result ≤ 4294967295 }
+{
+    place as usize - cases.len()
+}
+
 /// Adds this number of places for cases that aren't open. There must be room for one more.
-#[tactic(auto, using(crate::proofs::CaseLemmas::one_more_gap))]
 fn push_gaps(cases: &mut Vec<Option<CaseRecord>>, count: usize)
-    requires { length cases.old.items + count < vec_capacity cases.old }
+    requires { vec_len cases.old + count < vec_capacity cases.old }
     ensures items { cases.new.items ≡ cases.old.items ++ replicate count None }
-    ensures count { length cases.new.items ≡ length cases.old.items + count }
+    ensures len { vec_len cases.new ≡ vec_len cases.old + count }
     ensures room { vec_capacity cases.new ≡ vec_capacity cases.old }
 {
     for _gap in 0..count {

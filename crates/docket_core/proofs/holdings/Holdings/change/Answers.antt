@@ -48,4 +48,4 @@ pub returns-in-Some-case_of_command-clause-ok : goal.returns-in-Some-case_of_com
 returns-in-Some-case_of_command-clause-ok c =
     let d = c.args.self.now in
     on_ok_weaker c.change_case.result (λ changed. subst (λ (n : DocketView). IsAfter d c.args.command.now n) (sym c.change_case.ensures.same)
-    (only_case_changed d c.args.command.now c.in-Some-case_of_command.number _ (sym c.in_ok-days.ensures.value ∙ c.in_default.is) (sym c.in_default-rebooking_of.ensures) c.in-Some-case_of_command.ensures changed)) c.change_case.ensures.ok
+    (only_case_changed d c.args.command.now c.in-Some-case_of_command.number c.change_case.new.self.cases (sym c.in_ok-days.ensures.value ∙ c.in_default.is) (sym c.in_default-rebooking_of.ensures) c.in-Some-case_of_command.ensures changed)) c.change_case.ensures.ok

@@ -1,5 +1,6 @@
-use Rattle.std.proofs.Common.{◌≡◌, ap, arith}
+use Rattle.std.proofs.Common.{◌≡◌, OnOk, ap, subst, arith}
 use Rattle.docket_core.specs.Docket.{DocketView}
+use Rattle.docket_core.specs.Inside.Changes.{IsChangedAt}
 use Rattle.docket_core.proofs.holdings.Holdings.change_case.Goals as goal
 
 pub open_or_change-requires-clause-far : goal.open_or_change-requires-clause-far
@@ -19,3 +20,7 @@ invariant_of-self c =
       few_rooms = c.self.invariant.few_rooms;
       limits = c.self.invariant.limits;
     }
+
+pub returns-clause-ok : goal.returns-clause-ok
+returns-clause-ok c =
+    subst (λ (d : DocketView). OnOk c.open_or_change.result (IsChangedAt c.args.number c.args.command.now d.cases c.open_or_change.new.cases.items)) c.self.view_is c.open_or_change.ensures.ok
