@@ -10,4 +10,5 @@ no_court = record {
   judges = [];
   rooms = [];
   periods = record { texts = []; cites = []; triggers = []; shorts = [] };
+  limits = record { cases = 0; deadlines = 0; motions = 0; facts = 0 };
 }
