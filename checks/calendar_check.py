@@ -64,7 +64,7 @@ NO_TIMES = [
     *[(["due", "--days", count], "days <N>", A_COUNT) for count in ("0", "+7", "7d", "week", "1000000000", "")],
     (["ics", "--stamp", "2025-09-15"], "stamp <INSTANT>", "write it as 20250915T120000Z, in UTC"),
     (["due", "--case", "0"], "case <N>", A_CASE),
-    (["page", "--case", "4097"], "case <N>", A_CASE),
+    (["page", "--case", "1000001"], "case <N>", A_CASE),
     (["ics", "--case", "one"], "case <N>", A_CASE),
     (["json", "--case", "1:25-cv"], "case <N>", A_CASE),
 ]

@@ -64,7 +64,7 @@ def of_report(words):
     yield from ((words + place, b"", WORDS) for place in (" F --as-of x", " F --as-of=", " --input sound.txt --as-of 2", " --as-of 2"))
     if name not in ("week", "sql", "pending") and "--case" not in words and "--lines" not in words:
         yield from ((words + " F --case " + case, b"", ABSENT) for case in ("2", "1:25-cv-1"))
-        yield words + " F --case 4097", b"", WORDS
+        yield words + " F --case 1000001", b"", WORDS
     if "--lines" in words:
         yield from ((words + " F --" + more, b"", WORDS) for more in ("judge Ames", "case 1", "from 2025-03-03", "to 2025-04-01", "judge Ames --case 1"))
         yield words + " --input sound.txt --case 1", b"", WORDS
@@ -79,13 +79,13 @@ def of_report(words):
 
 def of_sheet(place, given):
     """The calls for a case's sheet of a folder, or of an input."""
-    yield from (("sheet {} {}".format(place, case), given, status) for case, status in (("1", 0), ("2", ABSENT), ("1:25-cv-8", ABSENT), ("4097", WORDS), ("0", WORDS)))
+    yield from (("sheet {} {}".format(place, case), given, status) for case, status in (("1", 0), ("2", ABSENT), ("1:25-cv-8", ABSENT), ("1000001", WORDS), ("0", WORDS)))
     yield from (("sheet {}{}".format(place, more), given, WORDS) for more in ("", " 1 1", " 1 --nothing"))
 
 
 def of_case():
     """The calls for the page of a case, which is of a folder alone."""
-    yield from (("case F " + case, b"", status) for case, status in (("1", 0), ("2", ABSENT), ("1:25-cv-8", ABSENT), ("4097", WORDS), ("0", WORDS)))
+    yield from (("case F " + case, b"", status) for case, status in (("1", 0), ("2", ABSENT), ("1:25-cv-8", ABSENT), ("1000001", WORDS), ("0", WORDS)))
     yield from (("case " + words, b"", WORDS) for words in ("", "F", "F 1 1", "F 1 --nothing", "F 1 --as-of 1", "--input sound.txt 1"))
     yield from (("case F 1" + BESIDE, b"", 0), ("case F 1" + FULL, b"", STREAM), ("case N 1", b"", JOURNAL), ("case E 1", b"", JOURNAL))
 
@@ -166,7 +166,7 @@ TABLE = [
     *of_kept("struck"), *of_kept("cases"), *of_kept("rows"), *of_folder("check"), *of_folder("log"), ("check F --as-of 1", b"", WORDS),
     *((("log S --" + more, b"", 0) for more in ("row 3", "by x", "from today", "to yesterday", "case 1", "json", "row 3 --json", "case 1 --json"))),
     *((("log S --" + more, b"", ABSENT) for more in ("row 99", "row 0", "row 99 --json", "row 1 --by x --from=-3d --to today", "case 4096"))),
-    *((("log S --case " + case, b"", status) for case, status in (("1:25-cv-8", ABSENT), ("4097", WORDS), ("0", WORDS), ("x", WORDS)))),
+    *((("log S --case " + case, b"", status) for case, status in (("1:25-cv-8", ABSENT), ("1000001", WORDS), ("0", WORDS), ("x", WORDS)))),
     *((("log S --" + more, b"", WORDS) for more in ("row x", "row=", "by=", "from x", "to 2025-02-30", "as-of 1"))),
     ("ask F --as-of 2", QUESTION, 0), ("ask F --as-of=-1d", QUESTION, 0), ("ask F --as-of x", QUESTION, WORDS), ("ask N --as-of 1", QUESTION, JOURNAL),
     ("enter F --as-of 1", NEW, WORDS), ("try F --as-of 1", NEW, WORDS),

@@ -20,7 +20,7 @@ def kinds_of(judges, rooms, shorts):
         return names + [short for short, name in shorts.items() if name in names]
 
     return [
-        ("{},sheet,12", ["1", "12", "64"], lambda text: number_in(text, 1, 64)),
+        ("{},sheet,12", ["1", "12", "64"], lambda text: number_in(text, 1, 65535)),
         ("1,sheet,{}", ["7", "12", "409", "1:25-cv-01234", "25-cv-12-ABC", "4:25-CR-00007-A.B.C.", "26-CV-2011 (MTL)", "25-cv-7 (JRT/DLM)",
                         "3:2026cv02011", "25bk7", "1:2025-mj-12-AB", "CV-26-02011-PHX-MTL", "CR-26-11-Tuc (AB)", "CV-26-11-ABC"], case_in),
         ("1,file,12,{},2025-09-29,18:10,electronic", ["3", "12", "120"], subject_in),

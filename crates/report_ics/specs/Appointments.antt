@@ -1,5 +1,5 @@
 -- What a calendar program shows: what is selected of the docket, and what was taken off the calendar.
-use Rattle.std.specs.Prelude.{ℕ, ℤ, ◌==◌, Bool, true, ◌&&◌, ◌||◌, not, List, ◌++◌, Option, Some, None, is_some, length, map, option_to_list, if◌then◌else◌}
+use Rattle.std.specs.Prelude.{ℕ, ℤ, ◌==◌, min, Bool, true, ◌&&◌, ◌||◌, not, List, ◌++◌, Option, Some, None, is_some, length, map, option_to_list, if◌then◌else◌}
 use Rattle.std.specs.List.{flat_map, range_with_len}
 use Rattle.std.specs.Option.{option_and_then}
 use Rattle.docket_rows.specs.Words.{most_cases}
@@ -9,7 +9,7 @@ use Rattle.docket_selection.specs.declared.item.Matter.{Matter}
 use Rattle.docket_selection.specs.declared.item.Matter.TheVariants.{Deadline, Hearing}
 use Rattle.docket_selection.specs.Words.{is_due, is_ended, set_item}
 use Rattle.docket_selection.specs.declared.changes.history.HearingHistory.{HearingHistory}
-use Rattle.docket_selection.specs.Changes.Words.{FollowedChanges, history_of, motions_named, revision_of, was_assigned}
+use Rattle.docket_selection.specs.Changes.Words.{FollowedChanges, history_of, last_heard, motions_named, revision_of, was_assigned}
 use Rattle.report_ics.specs.declared.appointment.Appointment.{Appointment}
 
 -- an item as it is set; a deadline that was ended is off
@@ -43,9 +43,9 @@ off_of_case choice followed case =
 unfoldable pub off_from : Choice → FollowedChanges → (first count : ℕ) → List Appointment
 off_from choice followed first count = flat_map (off_of_case choice followed) (range_with_len first count)
 
--- those of all cases
+-- those of all cases that a docket can have, up to the last one of which a hearing was set or taken off
 abbrev pub off_hearings : Choice → FollowedChanges → List Appointment
-off_hearings choice followed = off_from choice followed 1 most_cases
+off_hearings choice followed = off_from choice followed 1 (min most_cases (last_heard followed.changes))
 
 -- the hearings that the judge had in a case, also of motions that are none any more
 unfoldable pub histories_of_case : FollowedChanges → (case : ℕ) → List HearingHistory

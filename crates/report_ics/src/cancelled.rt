@@ -1,7 +1,9 @@
 //! Hearings that are off.
 
-ghost use Rattle.std.specs.Prelude.{◌≡◌, ◌+◌, ◌≤◌, ◌++◌, option_to_list, OnOk};
+ghost use Rattle.std.specs.Prelude.{◌≡◌, ◌+◌, ◌≤◌, ◌++◌, min, option_to_list, OnOk};
 ghost use Rattle.std.specs.List.{flat_map};
+ghost use Rattle.docket_rows.specs.Words.{most_cases};
+ghost use Rattle.docket_selection.specs.Changes.Words.{last_heard};
 ghost use Rattle.report_ics.specs.Appointments.{chosen_only, item_of, off_from, off_hearing, off_hearings, off_of_case, set_off};
 
 use crate::appointment::{Appointment, AppointmentTypes};
@@ -21,7 +23,22 @@ pub(crate) fn push_off(
 ) -> Result<(), AllocError>
     ensures { OnOk result (list.new.items ≡ list.old.items ++ off_hearings choice.now histories.now) }
 {
-    push_off_from(list, choice, histories, 1, LAST_CASE)
+    push_off_from(list, choice, histories, 1, last_off(histories))
+}
+
+/// The last case that may have some.
+fn last_off(histories: &HearingHistories) -> u32
+    ensures value { result ≡ min most_cases (last_heard histories.now.changes) }
+    ensures few { result ≤ 1_000_000 }
+{
+    fewer(LAST_CASE, histories.last_case())
+}
+
+fn fewer(one: u32, other: u32) -> u32
+    ensures value { result ≡ min one other }
+    ensures few { result ≤ one }
+{
+    if one <= other { one } else { other }
 }
 
 /// Adds those of some cases, from the first number on.

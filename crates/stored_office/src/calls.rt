@@ -24,21 +24,21 @@ type RowTypes = Option<
 #[derive(Clone, Copy)]
 pub enum Call {
     /// `prepare ROW`: the row's clerk prepares its command.
-    Prepare(u8, Command),
+    Prepare(u16, Command),
     /// `commit SEAT`
-    Commit(u8),
+    Commit(u16),
     /// `perform TRIES ROW`: the row's clerk performs its command, with up to `TRIES` tries.
-    Perform(u8, Command, u32),
+    Perform(u16, Command, u32),
     /// `show ROW`: the row's clerk is shown what its query asks for.
-    Show(u8, Query),
+    Show(u16, Query),
     /// `discard SEAT`
-    Discard(u8),
+    Discard(u16),
     /// `draft SEAT`: whether the seat has one.
-    Draft(u8),
+    Draft(u16),
     /// `seen SEAT`: how many entries of the history the seat has seen.
-    Seen(u8),
+    Seen(u16),
     /// `leave SEAT`
-    Leave(u8),
+    Leave(u16),
     /// `close`: with all tallies that were left.
     Close,
 }
@@ -82,7 +82,7 @@ fn call_of(alloc: Global, court: &Court, line: &str) -> Result<Call> {
         "show" => {
             let Row { clerk, work } = row_in(alloc, court, rest)?;
             match work {
-                Work::Query(query) => Ok(Call::Show(clerk as u8, query)),
+                Work::Query(query) => Ok(Call::Show(clerk, query)),
                 Work::Command(_) => bail!("no query: {rest}"),
             }
         }
@@ -96,11 +96,11 @@ fn call_of(alloc: Global, court: &Court, line: &str) -> Result<Call> {
 }
 
 /// Whose command the row is, and which.
-fn command_in(alloc: Global, court: &Court, text: &str) -> Result<(u8, Command)> {
+fn command_in(alloc: Global, court: &Court, text: &str) -> Result<(u16, Command)> {
     let _types: RowTypes = None;
     let Row { clerk, work } = row_in(alloc, court, text)?;
     match work {
-        Work::Command(command) => Ok((clerk as u8, command)),
+        Work::Command(command) => Ok((clerk, command)),
         Work::Query(_) => bail!("no command: {text}"),
     }
 }

@@ -31,13 +31,13 @@ impl<L: NamesOffice> OfficeInTurn<L> {
     }
 
     /// The seat of that number.
-    fn seat(&mut self, number: u8) -> Result<&mut Seat<L>> {
+    fn seat(&mut self, number: u16) -> Result<&mut Seat<L>> {
         let place = place_of(self.seats.as_slice(), number).context("no such seat")?;
         Ok(&mut self.seats[place])
     }
 
     /// Leaves the seat of that number.
-    fn leave(&mut self, number: u8) -> Result<()> {
+    fn leave(&mut self, number: u16) -> Result<()> {
         let place = place_of(self.seats.as_slice(), number).context("no such seat")?;
         self.tallies.reserve(1)?;
         let seat = self.seats.remove(place);
@@ -47,11 +47,11 @@ impl<L: NamesOffice> OfficeInTurn<L> {
 }
 
 /// The place of the seat of that number.
-fn place_of<L: NamesOffice>(seats: &[Seat<L>], number: u8) -> Option<usize>
+fn place_of<L: NamesOffice>(seats: &[Seat<L>], number: u16) -> Option<usize>
     ensures { IfSome result (λ place. place < length seats.now) }
 {
     for place in 0..seats.len() {
-        if seats[place].number() == number {
+        if u16::from(seats[place].number()) == number {
             return Some(place);
         }
     }

@@ -1,5 +1,5 @@
 -- The motions of a case whose hearings some changes set or took off.
-use Rattle.std.specs.Prelude.{◌≡◌, ℕ, ◌==◌, nat_eq, List, [], ◌∷◌, ◌++◌, fold, if◌then◌else◌}
+use Rattle.std.specs.Prelude.{◌≡◌, ℕ, ◌==◌, max, nat_eq, List, [], ◌∷◌, ◌++◌, fold, if◌then◌else◌}
 use Rattle.std.specs.HashMap.{HashMap, get}
 use Rattle.std.specs.List.{list_any}
 use Rattle.std.specs.Option.{option_map_or}
@@ -26,6 +26,17 @@ with_named case motions change.Days = motions
 -- those of the case, each once, in the order in which the changes name them first
 abbrev pub motions_named : (case : ℕ) → List RowChange → List ℕ
 motions_named case changes = fold (λ motions (c : RowChange). with_named case motions c.change) [] changes
+
+-- the case of the hearing that a change sets or takes off; 0 where it is no hearing
+abbrev pub case_heard : Change → ℕ
+case_heard (change.Hearing h) = h.case
+case_heard (change.Deadline of) = 0
+case_heard (change.Judges of to referred) = 0
+case_heard change.Days = 0
+
+-- the greatest of these cases; 0 where there is none
+abbrev pub last_heard : List RowChange → ℕ
+last_heard changes = fold (λ before (c : RowChange). max before (case_heard c.change)) 0 changes
 
 -- the motions that are noted for the case; none where it isn't there
 abbrev pub motions_noted : {S Z : Type 0} (case : ℕ) → HashMap ℕ (Vec ℕ Z) S → List ℕ

@@ -3,14 +3,14 @@
 ghost use Rattle.std.specs.Prelude.{◌≡◌, ℕ, IfOk, OnOk};
 ghost use Rattle.docket_selection.specs.Changes.Assigned.{was_assigned};
 ghost use Rattle.docket_selection.specs.Changes.History.{follow, followed, history_of};
-ghost use Rattle.docket_selection.specs.Changes.Named.{motions_named};
+ghost use Rattle.docket_selection.specs.Changes.Named.{last_heard, motions_named};
 ghost use Rattle.docket_selection.specs.Changes.Noted.{NotesHistories, noted};
 ghost use Rattle.docket_selection.specs.Changes.Revision.{revision_of};
 
 use crate::changes::assigned::{CasesAssigned, cases_assigned, is_noted};
 use crate::changes::change::{Change, HearingChange, RowChange};
 use crate::changes::history::{HearingHistory, changed_to};
-use crate::changes::named::{CaseMotions, motions_by, motions_of};
+use crate::changes::named::{CaseMotions, last_heard, motions_by, motions_of};
 use crate::changes::revision::{CaseRows, days_row, later, rows_by};
 use std::alloc::{AllocError, Global};
 use std::collections::HashMap;
@@ -90,6 +90,13 @@ impl HearingHistories {
         ensures { result.now ≡ motions_named case self.now.changes }
     {
         motions_of(&self.motions, case)
+    }
+
+    /// The greatest case of which the changes set or took off a hearing; 0 where there is none.
+    pub fn last_case(&self) -> u32
+        ensures { result ≡ last_heard self.now.changes }
+    {
+        last_heard(&self.changes)
     }
 
     /// Whether a row assigned or referred the case to the judge.

@@ -1,7 +1,7 @@
 //! The motions whose hearings some changes set or took off.
 
-ghost use Rattle.std.specs.Prelude.{◌≡◌, ℕ, IfOk, OnOk};
-ghost use Rattle.docket_selection.specs.Changes.Named.{NotesMotions, and_motion_of, motions_noted, with_named};
+ghost use Rattle.std.specs.Prelude.{◌≡◌, ℕ, max, IfOk, OnOk};
+ghost use Rattle.docket_selection.specs.Changes.Named.{NotesMotions, and_motion_of, case_heard, last_heard, motions_noted, with_named};
 
 use crate::changes::change::{Change, RowChange};
 use std::alloc::{AllocError, Global};
@@ -19,6 +19,33 @@ pub(crate) fn motions_by(alloc: Global, changes: &[RowChange]) -> Result<CaseMot
         note_motion(alloc, &mut motions, &change.change)?;
     }
     Ok(motions)
+}
+
+/// The greatest case of which the changes set or took off a hearing; 0 where there is none.
+pub(crate) fn last_heard(changes: &[RowChange]) -> u32
+    ensures { result ≡ last_heard changes.now }
+{
+    let mut last = 0;
+    for change in changes {
+        last = greater(last, case_heard(&change.change));
+    }
+    last
+}
+
+/// The case of the hearing that a change sets or takes off; 0 where it is no hearing.
+fn case_heard(change: &Change) -> u32
+    ensures { result ≡ case_heard change.now }
+{
+    match change {
+        Change::Hearing(hearing) => hearing.case,
+        _ => 0,
+    }
+}
+
+fn greater(one: u32, other: u32) -> u32
+    ensures { result ≡ max one other }
+{
+    if one < other { other } else { one }
 }
 
 /// Notes the motion of one change more.

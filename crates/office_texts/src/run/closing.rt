@@ -21,7 +21,7 @@ pub trait Closing {
 
     ghost parts: { Self → Parts };
 
-    /// The number of a case of this court after which no case has a sheet.
+    /// No case of this court with a greater number has a sheet.
     fn last_sheet(&self, court: &Court) -> u32
         requires { setup self.now ≡ setup_of court.now }
         ensures most { result ≤ 1_000_000 }
@@ -80,7 +80,7 @@ pub fn most_cases(court: &Court) -> u32
     court.limits().cases
 }
 
-/// The number after which no case of a docket is open.
+/// No open case of the docket has a greater number.
 fn last_open(docket: &Docket, court: &Court) -> u32
     requires { docket.now.setup ≡ setup_of court.now }
     ensures most { result ≤ 1_000_000 }

@@ -91,7 +91,8 @@ fn takes_two_deadlines(rt: &impl Abort, alloc: Global, docket: &mut Docket) -> R
 
 /// Enters two motions of case 1, and a third in vain.
 fn takes_two_motions(rt: &impl Abort, alloc: Global, docket: &mut Docket) -> Result<(), Fail> {
-    let (first, second) = (Answer::MotionEntered(1), Answer::MotionEntered(2));
+    let first = Answer::MotionEntered(1);
+    let second = Answer::MotionEntered(2);
     takes_two(rt, alloc, docket, &motion(rt), &first, &second)
 }
 
@@ -117,8 +118,9 @@ fn a_case_that_is_full_takes_no_more(rt: HostRuntime) -> Result<(), Fail> {
 
 /// Says why a third case, deadline, motion and fact would be refused.
 fn says(rt: &impl Abort, alloc: Global, court: &Court, docket: &Docket) -> Result<(), Fail> {
+    let no_case = Refusal::NoSuchCase;
+    let full = Refusal::Full;
     let mut text = String::new(alloc);
-    let (no_case, full) = (Refusal::NoSuchCase, Refusal::Full);
     push_why_refused(alloc, &mut text, court, docket, &open(rt, 3), "", &no_case)?;
     push_why_refused(alloc, &mut text, court, docket, &start(rt), "", &full)?;
     push_why_refused(alloc, &mut text, court, docket, &motion(rt), "", &full)?;
