@@ -13,6 +13,7 @@ what `docket` took and what SQLite took for the same, in seconds, and the greate
 - One row more: a program is started, the folder is opened, and one row is entered.
 - One sheet, what is due in a week, a judge's week, a case's page, what is pending: a program each, and the same by a query.
 - An outage: it lists what it moves. The page, iCalendar, JSON and SQL of all. Of these SQLite has none.
+- Last, how much memory a session has for a case with four deadlines and a motion, in a folder with MANY of them and one with none.
 
 Nothing is asserted and no time is limited. It needs Linux and Python 3.8 or later.
 """
@@ -25,6 +26,7 @@ import tempfile
 import time
 
 from district import FIRST_YEAR, district, shape_of, with_options
+from rows import court_of
 
 TOP = pathlib.Path(__file__).resolve().parent.parent
 TABLES = """
@@ -40,6 +42,8 @@ CREATE INDEX weeks ON hearings (judge, day);
 """
 DUE = "SELECT case_name, number, period, ends FROM deadlines WHERE ends BETWEEN ? AND ? AND filed IS NULL AND case_name NOT IN (SELECT name FROM cases WHERE closed IS NOT NULL)"
 WEEK = "SELECT day, first, case_name, motion, room FROM hearings WHERE judge = ? AND day BETWEEN ? AND ? ORDER BY day, first"
+# How many cases are entered to see how much memory one takes.
+MANY = 4000
 PENDING = "SELECT judge, case_name, motions.number, served FROM motions JOIN cases ON name = case_name WHERE ruled IS NULL AND served < ? AND closed IS NULL ORDER BY judge"
 SHEET = "SELECT * FROM deadlines WHERE case_name = ?", "SELECT * FROM motions WHERE case_name = ?", "SELECT * FROM hearings WHERE case_name = ?"
 
@@ -173,6 +177,29 @@ def measure(docket, parent, shape):
     print("{:<42}{:>12.1f}{:>10}{:>12.1f}".format("megabytes on the disk", sizes[0], "", sizes[1]))
 
 
+def memory_of(docket, parent, count):
+    """How much memory a session has that goes on with a folder of so many cases, in kilobytes."""
+    folder = Folder(docket, parent, court_of(2))
+    rows = [["1,open,{},2025-01-02", *["1,start,{},12a1Ai,2025-01-03,,,"] * 4, "1,motion,{},2025-02-03,14"] for _ in range(count)]
+    folder.call("enter", lines="".join(row.format(case) + "\n" for case, of_case in enumerate(rows, 1) for row in of_case))
+    with subprocess.Popen([docket, "enter", folder.folder], stdin=subprocess.PIPE, stdout=subprocess.PIPE) as session:
+        session.stdin.write(b"1,compute,59e,2025-08-04,,,\n")
+        session.stdin.flush()
+        session.stdout.readline()
+        status = pathlib.Path("/proc/{}/status".format(session.pid)).read_text()
+        session.stdin.close()
+    return int(status.split("VmRSS:")[1].split()[0])
+
+
+def memory_of_a_case(docket, folder):
+    """How many bytes of memory a case takes that has four deadlines and a motion."""
+    sizes = []
+    for count in (0, MANY):
+        with tempfile.TemporaryDirectory(dir=folder) as parent:
+            sizes.append(memory_of(docket, pathlib.Path(parent), count))
+    return (sizes[1] - sizes[0]) * 1024 / MANY
+
+
 def main():
     parser = with_options(argparse.ArgumentParser(description="Measures how a district's docket grows."))
     parser.add_argument("docket", type=pathlib.Path)
@@ -183,6 +210,7 @@ def main():
     for part in map(int, words.parts.split(",")):
         with tempfile.TemporaryDirectory(dir=words.folder) as folder:
             measure(words.docket.resolve(), pathlib.Path(folder), shape._replace(cases=shape.cases // part))
+    print("\na case with four deadlines and a motion: {:,.0f} bytes of memory".format(memory_of_a_case(words.docket.resolve(), words.folder)))
 
 
 if __name__ == "__main__":

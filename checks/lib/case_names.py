@@ -52,7 +52,7 @@ def asked(chance, names, case):
 
 # Where a text says the number of a case: the first line of a sheet, a line of a calendar, and a refusal that names a motion, which
 # may have the numbers of its row and its clerk before it.
-CASE_LINES = re.compile(r"^(case |\S+ \S+ \S+ case |(?:[0-9]+ [0-9]+ )?refused (?:20 JudgeBusy|21 RoomBusy|23 HearingThatDay|24 NoticeLost) )"
+CASE_LINES = re.compile(r"^(case |\S+ \S+ \S+ case |(?:[0-9]+ [0-9]+ )?refused (?:20 JudgeBusy|21 RoomBusy|23 HearingThatDay|24 NoticeLost|32 HearingAhead) )"
                         r"([0-9]+)(?= )", re.MULTILINE)
 
 
