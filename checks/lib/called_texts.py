@@ -94,7 +94,7 @@ def compare(desk, title, of_deadline, of_motion, plain):
         sheet = said(desk, *words)
         assert all("\n" + line in sheet for line in lines), (words, sheet, lines)
     head, of_all = HEAD.match(said(desk, "memo", "--case", "1:25-cv-5")), HEAD.match(said(desk, "memo"))
-    assert (head["case"], head["title"], head["judge"], of_all["title"]) == ("1:25-cv-5", title, None, None), (head, of_all)
+    assert (head["case"], head["title"], head["judge"], of_all["title"]) == ("1:25-cv-00005", title, None, None), (head, of_all)
     assert [line for line in said(desk, "memo").splitlines(True) if line in lines] == [], "the answers of a memo have what things are called"
     page = Elements(said(desk, "page"))
     assert page.tags == Elements(plain["page"]).tags, (title, page.tags)
