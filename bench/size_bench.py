@@ -178,7 +178,7 @@ def measure(docket, parent, shape):
 
 
 def memory_of(docket, parent, count):
-    """How much memory a session has that goes on with a folder of so many cases, in kilobytes."""
+    """The memory of a session in a folder with this number of cases, in kilobytes."""
     folder = Folder(docket, parent, court_of(2))
     rows = [["1,open,{},2025-01-02", *["1,start,{},12a1Ai,2025-01-03,,,"] * 4, "1,motion,{},2025-02-03,14"] for _ in range(count)]
     folder.call("enter", lines="".join(row.format(case) + "\n" for case, of_case in enumerate(rows, 1) for row in of_case))

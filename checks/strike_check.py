@@ -303,7 +303,7 @@ def assigned_in(replay, case):
 
 
 def told_line(told_in, case, now, after):
-    """What the desk has to list of a case that is open before and after, of which that is told otherwise."""
+    """What the desk has to list of a case that is open before and after, and is shown otherwise after."""
     was, then = told_in(now, case), told_in(after, case)
     is_open = filed_in(now, case) and filed_in(after, case)
     return "  case {}: {}, now {}\n".format(case, was, then) if is_open and was != then else ""

@@ -17,7 +17,7 @@ def asked_days(chance, days, first, last, often):
 
 
 def counted_days(chance, days):
-    """A first and a last day at random, so many days from a day that counts as today, and the words that ask for them."""
+    """A first and a last day at random, that number of days from a day that counts as today, and the words that ask for them."""
     today, count = chance.choice(days) - datetime.timedelta(chance.randrange(8)), chance.randint(1, 40)
     return today, today + datetime.timedelta(count - 1), ["--days", str(count), "--today", str(today)]
 
